@@ -1,0 +1,156 @@
+-- Demand 3, over what judge writes. S is a sheet, U a use sheet, ℓ a local number, u and w are use numbers.
+-- Assumes nothing: these are definitions.
+use mathlib.Core.Path.{_≡_}
+use mathlib.Core.Logic.{_⊎_, _↔_}
+use mathlib.Core.Bool.{true}
+use mathlib.Core.List.{List, [], _∷_}
+use Prim.Native.Nat.{ℕ, _+_, _-_, _*_, _/_, _%_, _^_, _<_, min}
+use lib.ListN.{length, getD}
+use Rattle.flow.specs.declared.Place.the-variants.{Node}
+use Rattle.flow.specs.Sheet.{useWords, useSpans, localOf, useKindOf, startOf}
+use Rattle.flow.specs.Graph.{graph}
+use Rattle.flow.specs.Reachable.{nodeAt}
+use Rattle.flow.specs.Findings.{Declaration, declaration, locals, localAt, tracked, noValue, writesJudged, isInClosure, nodeOf}
+use Rattle.flow.specs.Paths.{Edge, After, Meets}
+
+abbrev pub useWord : List ℕ → ℕ → ℕ
+useWord U u = getD (useWords U) u 0
+
+abbrev pub useSpan : List ℕ → ℕ → ℕ
+useSpan U u = getD (useSpans U) u 0
+
+-- "Uses, reads and writes, here and in demand 3, are the local's own."
+pub record Own (U : List ℕ) (ℓ u : ℕ) : Type 0 where
+  pub below : u < length (useWords U)
+  pub names : localOf (useWord U u) ≡ ℓ
+
+abbrev pub PureWrite : List ℕ → ℕ → Type 0
+PureWrite U u = useKindOf (useWord U u) ≡ 1
+
+-- "ReadWrite is a read and a write"
+abbrev pub IsRead : List ℕ → ℕ → Type 0
+IsRead U u = (useKindOf (useWord U u) ≡ 0) ⊎ (useKindOf (useWord U u) ≡ 2)
+
+abbrev pub IsWrite : List ℕ → ℕ → Type 0
+IsWrite U u = (useKindOf (useWord U u) ≡ 1) ⊎ (useKindOf (useWord U u) ≡ 2)
+
+abbrev pub InClosure : List ℕ → List ℕ → ℕ → ℕ → Type 0
+InClosure S U ℓ u = isInClosure (localAt S ℓ) (useWord U u) ≡ true
+
+-- "A use's node is that of its span's start."
+abbrev pub AtNode : List ℕ → List ℕ → ℕ → ℕ → Type 0
+AtNode S U u v = nodeAt (graph S) (startOf (useSpan U u)) ≡ Node v
+
+-- "whose uses all find a node"
+abbrev pub AllFound : List ℕ → List ℕ → ℕ → Type 0
+AllFound S U ℓ = (u : ℕ) → Own U ℓ u → (v : ℕ) × AtNode S U u v
+
+-- an own use at the node v
+pub record OwnAt (S U : List ℕ) (ℓ v u : ℕ) : Type 0 where
+  pub own : Own U ℓ u
+  pub atNode : AtNode S U u v
+
+abbrev pub Holds : List ℕ → List ℕ → ℕ → ℕ → Type 0
+Holds S U ℓ v = (u : ℕ) × OwnAt S U ℓ v u
+
+-- "First, next and earlier, said of uses, mean use order": the first own use at v
+pub record FirstAt (S U : List ℕ) (ℓ v u : ℕ) : Type 0 where
+  pub here : OwnAt S U ℓ v u
+  pub first : (x : ℕ) → x < u → OwnAt S U ℓ v x → ⊥
+
+-- some live path from after x meets a use that is P: "the local's first use there decides whether it meets a read or a pure write"
+pub record MeetsFrom (S U : List ℕ) (ℓ x : ℕ) (P : List ℕ → ℕ → Type 0) : Type 0 where
+  pub begin : ℕ
+  pub end : ℕ
+  pub which : ℕ
+  pub edge : Edge (graph S) x begin
+  pub path : Meets (graph S) (declaration (graph S) ℓ) (Holds S U ℓ) begin end
+  pub first : FirstAt S U ℓ end which
+  pub kind : P U which
+
+-- "some live path from after it meets a pure write and none meets a read"
+pub record OverwrittenUnread (S U : List ℕ) (ℓ x : ℕ) : Type 0 where
+  pub written : MeetsFrom S U ℓ x PureWrite
+  pub unread : MeetsFrom S U ℓ x IsRead → ⊥
+
+-- "the reads outside closures that no live path from after a write reaches and no earlier write shares a node with"
+pub record EmptyRead (S U : List ℕ) (ℓ u : ℕ) : Type 0 where
+  pub own : Own U ℓ u
+  pub read : IsRead U u
+  pub outside : InClosure S U ℓ u → ⊥
+  pub unreached : (w x v : ℕ) → OwnAt S U ℓ x w → IsWrite U w → AtNode S U u v → After (graph S) (declaration (graph S) ℓ) x v → ⊥
+  pub unshared : (w v : ℕ) → w < u → OwnAt S U ℓ v w → IsWrite U w → AtNode S U u v → ⊥
+
+-- "for every tracked local whose uses all find a node"
+pub record Judgeable (S U : List ℕ) (ℓ : ℕ) : Type 0 where
+  pub isTracked : tracked (localAt S ℓ) ≡ true
+  pub allFound : AllFound S U ℓ
+
+-- "The local is listed unassigned, with a use, exactly when it has no value and that use is the first of the reads .."
+pub record Unassigned (S U : List ℕ) (ℓ u : ℕ) : Type 0 where
+  pub judgeable : Judgeable S U ℓ
+  pub valueless : noValue (localAt S ℓ) ≡ true
+  pub empty : EmptyRead S U ℓ u
+  pub first : (x : ℕ) → x < u → EmptyRead S U ℓ x → ⊥
+
+-- the next own use in w's node v
+pub record NextAt (S U : List ℕ) (ℓ v w u : ℕ) : Type 0 where
+  pub later : w < u
+  pub here : OwnAt S U ℓ v u
+  pub next : (x : ℕ) → w < x → x < u → OwnAt S U ℓ v x → ⊥
+
+-- "If it is modified and not captured, a write is listed overwritten exactly when the next use in its node is a pure write or, where none follows there, some live path .."
+pub record Overwritten (S U : List ℕ) (ℓ w : ℕ) : Type 0 where
+  pub judgeable : Judgeable S U ℓ
+  pub judged : writesJudged (localAt S ℓ) ≡ true
+  pub node : ℕ
+  pub here : OwnAt S U ℓ node w
+  pub write : IsWrite U w
+  pub lost : ((u : ℕ) × NextAt S U ℓ node w u × PureWrite U u) ⊎ (((u : ℕ) → NextAt S U ℓ node w u → ⊥) × OverwrittenUnread S U ℓ node)
+
+-- "Its initial value, if any, is listed so exactly when some live path from after its declaration meets a pure write and none meets a read."
+pub record OverwrittenInitial (S U : List ℕ) (ℓ : ℕ) : Type 0 where
+  pub judgeable : Judgeable S U ℓ
+  pub valued : noValue (localAt S ℓ) ≡ true → ⊥
+  pub lost : OverwrittenUnread S U ℓ (declaration (graph S) ℓ .node)
+
+-- a finding stands at the place i of the written words and spans
+pub record Listed (words spans : List ℕ) (word span : ℕ) : Type 0 where
+  pub place : ℕ
+  pub inside : place < length words
+  pub isWord : getD words place 0 ≡ word
+  pub isSpan : getD spans place 0 ≡ span
+
+abbrev pub unassignedWord : ℕ → ℕ → ℕ
+unassignedWord ℓ u = 2 * ℓ + 2 ^ 32 * (u + 1)
+
+abbrev pub overwrittenWord : ℕ → ℕ → ℕ
+overwrittenWord ℓ w = 1 + 2 * ℓ + 2 ^ 32 * (w + 1)
+
+abbrev pub initialWord : ℕ → ℕ
+initialWord ℓ = 1 + 2 * ℓ
+
+-- "Unassigned come first, in local order; overwritten follow per local: initial value, then writes by node, use order within a node": what a word is ordered by
+abbrev pub order : List ℕ → List ℕ → ℕ → List ℕ
+order S U w =
+    w % 2 ∷ w / 2 % 2 ^ 31 ∷ min 1 (w / 2 ^ 32) ∷ nodeOf (nodeAt (graph S) (startOf (useSpan U (w / 2 ^ 32 - 1)))) ∷ w / 2 ^ 32 ∷ []
+
+abbrev pub Before : List ℕ → List ℕ → Type 0
+Before [] ys = ⊥
+Before (x ∷ xs) [] = ⊥
+Before (x ∷ xs) (y ∷ ys) = (x < y) ⊎ ((x ≡ y) × Before xs ys)
+
+-- "Nothing else is listed for any local"
+abbrev pub Named : List ℕ → List ℕ → ℕ → ℕ → Type 0
+Named S U word span =
+    ((ℓ : ℕ) × (u : ℕ) × (ℓ < length (locals S)) × (word ≡ unassignedWord ℓ u) × (span ≡ useSpan U u))
+    ⊎ (((ℓ : ℕ) × (w : ℕ) × (ℓ < length (locals S)) × (word ≡ overwrittenWord ℓ w) × (span ≡ useSpan U w))
+    ⊎ ((ℓ : ℕ) × (ℓ < length (locals S)) × (word ≡ initialWord ℓ) × (span ≡ getD (graph S .names .span) ℓ 0)))
+
+-- Demand 3: what stands among the written findings, nothing else, and each once in 01's order
+pub record Demand3 (S U words spans : List ℕ) : Type 0 where
+  pub unassigned : (ℓ u : ℕ) → ℓ < length (locals S) → Listed words spans (unassignedWord ℓ u) (useSpan U u) ↔ Unassigned S U ℓ u
+  pub overwritten : (ℓ w : ℕ) → ℓ < length (locals S) → Listed words spans (overwrittenWord ℓ w) (useSpan U w) ↔ Overwritten S U ℓ w
+  pub initial : (ℓ : ℕ) → ℓ < length (locals S) → Listed words spans (initialWord ℓ) (getD (graph S .names .span) ℓ 0) ↔ OverwrittenInitial S U ℓ
+  pub nothingElse : (i : ℕ) → i < length words → Named S U (getD words i 0) (getD spans i 0)
+  pub rising : (i j : ℕ) → i < j → j < length words → Before (order S U (getD words i 0)) (order S U (getD words j 0))

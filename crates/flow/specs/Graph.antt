@@ -1,0 +1,273 @@
+-- 01, "From items to edges (cfg.rs)": the graph by the statement rules, in their order. Operations bear the names of the Rust's methods.
+-- Assumes nothing: these are definitions.
+use mathlib.Core.Bool.{Bool, true, false, cond, _&&_, not}
+use mathlib.Core.List.{List, [], _∷_, _++_}
+use Prim.Native.Nat.{ℕ, _+_}
+use lib.ListN.{length, getD, set}
+use lib.Dec.{eqb}
+use Rattle.flow.specs.declared.Truth.{Truth}
+use Rattle.flow.specs.declared.Truth.the-variants.{False, True, Unknown}
+use Rattle.flow.specs.declared.Found.{Found}
+use Rattle.flow.specs.declared.Found.the-variants.{At, Nothing}
+use Rattle.flow.specs.Sheet.{items, outerEnd, kindOf, argumentOf, conditionOf, scopeEndOf, startOf}
+use Rattle.flow.specs.Kinds.{NAME, LABEL, GOTO, BREAK, CONTINUE, RETURN, CALL, EMPTY, literalTruth, raises}
+use Rattle.flow.specs.Tree.{Stmt, Block, Arms, simple, do-block, while-loop, repeat-loop, for-loop, if-stmt, done, then, no-more, elseif, otherwise, tree, labelsOf}
+
+-- "Absent successors are stored as 4,294,967,295"; the same number stands for no current node
+abbrev pub absent : ℕ
+absent = 4294967295
+
+-- "Nodes 0 to 4 are the exits End, Break, ReturnValue, ReturnEmpty, Error; 5 is the entry."
+abbrev pub End : ℕ
+End = 0
+
+abbrev pub Break : ℕ
+Break = 1
+
+abbrev pub ReturnValue : ℕ
+ReturnValue = 2
+
+abbrev pub ReturnEmpty : ℕ
+ReturnEmpty = 3
+
+abbrev pub Error : ℕ
+Error = 4
+
+abbrev pub entry : ℕ
+entry = 5
+
+-- "per node, both successors, code start"
+pub record Nodes : Type 0 where
+  pub first : List ℕ
+  pub second : List ℕ
+  pub start : List ℕ
+
+-- "per code its span and node"
+pub record Codes : Type 0 where
+  pub span : List ℕ
+  pub node : List ℕ
+
+-- "per name its span, node and scope end"
+pub record Names : Type 0 where
+  pub span : List ℕ
+  pub node : List ℕ
+  pub scopeEnd : List ℕ
+
+pub record Graph : Type 0 where
+  pub nodes : Nodes
+  pub codes : Codes
+  pub names : Names
+  pub current : ℕ
+
+abbrev pub nodeCount : Graph → ℕ
+nodeCount g = length (g .nodes .first)
+
+-- what holds inside a block: "Break target, continue target and scope end return to their outer settings when a body closes"
+pub record Label : Type 0 where
+  pub name : ℕ
+  pub node : ℕ
+
+pub record Settings : Type 0 where
+  pub breakTo : ℕ
+  pub continueTo : ℕ
+  pub scopeEnd : ℕ
+  pub labels : List Label
+
+unfoldable pub newNode : Graph → Graph
+newNode g = record {
+  nodes = record { first = g .nodes .first ++ (absent ∷ []); second = g .nodes .second ++ (absent ∷ []); start = g .nodes .start ++ (0 ∷ []) };
+  codes = g .codes;
+  names = g .names;
+  current = g .current;
+}
+
+-- "A node has a first and a second successor; a third edge is dropped."; from no node there is no edge
+unfoldable pub connect : ℕ → ℕ → Graph → Graph
+connect a b g = record {
+  nodes = cond (eqb a absent) (g .nodes)
+      (cond (eqb (getD (g .nodes .first) a 0) absent)
+      (record { first = set (g .nodes .first) a b; second = g .nodes .second; start = g .nodes .start })
+      (cond (eqb (getD (g .nodes .second) a 0) absent)
+      (record { first = g .nodes .first; second = set (g .nodes .second) a b; start = g .nodes .start })
+      (g .nodes)));
+  codes = g .codes;
+  names = g .names;
+  current = g .current;
+}
+
+unfoldable pub moveTo : ℕ → Graph → Graph
+moveTo v g = record { nodes = g .nodes; codes = g .codes; names = g .names; current = v }
+
+-- "takes an edge from the current node if there is one, and becomes current"
+unfoldable pub advanceTo : ℕ → Graph → Graph
+advanceTo v g = moveTo v (connect (g .current) v g)
+
+-- a span recorded at a node
+unfoldable pub recordCode : ℕ → ℕ → Graph → Graph
+recordCode s v g = record {
+  nodes = g .nodes;
+  codes = record { span = g .codes .span ++ (s ∷ []); node = g .codes .node ++ (v ∷ []) };
+  names = g .names;
+  current = g .current;
+}
+
+unfoldable pub setStart : ℕ → ℕ → Graph → Graph
+setStart v p g = record {
+  nodes = record { first = g .nodes .first; second = g .nodes .second; start = set (g .nodes .start) v p };
+  codes = g .codes;
+  names = g .names;
+  current = g .current;
+}
+
+-- "Each code item but LABEL and UNTIL makes a new node, records span and start, takes an edge .. and becomes current."
+unfoldable pub code : ℕ → Graph → Graph
+code s g = advanceTo (nodeCount g) (recordCode s (nodeCount g) (setStart (nodeCount g) (startOf s) (newNode g)))
+
+-- an edge from the current node, after which nothing is current
+unfoldable pub closeInto : ℕ → Graph → Graph
+closeInto b g = moveTo absent (connect (g .current) b g)
+
+-- "After a jump nothing is current."
+unfoldable pub jump : ℕ → ℕ → Graph → Graph
+jump s b g = closeInto b (code s g)
+
+-- a NAME: "its span, node and scope end"; its LOCAL's node is current
+unfoldable pub declare : ℕ → Settings → Graph → Graph
+declare s st g = record {
+  nodes = g .nodes;
+  codes = g .codes;
+  names = record { span = g .names .span ++ (s ∷ []); node = g .names .node ++ (g .current ∷ []); scopeEnd = g .names .scopeEnd ++ (st .scopeEnd ∷ []) };
+  current = g .current;
+}
+
+-- "A name means the innermost, then latest, such label": the labels in force, the latest first. Name 0 has no label.
+unfoldable pub labelNode : ℕ → List Label → Found
+labelNode a [] = Nothing
+labelNode a (l ∷ ls) = cond (eqb a (l .name)) (At (l .node)) (labelNode a ls)
+
+-- "LABEL records its span at its label's node (code start remains 0) and moves there."
+abbrev pub standAt : Found → ℕ → Graph → Graph
+standAt (At v) s g = advanceTo v (recordCode s v g)
+standAt Nothing s g = g
+
+-- "when no visible label is found it jumps to exit Break"
+abbrev pub orBreak : Found → ℕ
+orBreak (At v) = v
+orBreak Nothing = Break
+
+-- a statement of one item, by its kind, argument and span
+unfoldable pub simpleStmt : ℕ → ℕ → ℕ → Settings → Graph → Graph
+simpleStmt k a s st g =
+    cond (eqb k NAME) (declare s st g)
+    (cond (eqb k LABEL) (cond (eqb a 0) g (standAt (labelNode a (st .labels)) s g))
+    (cond (eqb k GOTO) (jump s (orBreak (labelNode a (st .labels))) g)
+    (cond (eqb k BREAK) (jump s (st .breakTo) g)
+    (cond (eqb k CONTINUE) (jump s (st .continueTo) g)
+    (cond (eqb k RETURN) (jump s (cond (eqb a 1) ReturnValue ReturnEmpty) g)
+    (cond (eqb k CALL && raises a) (jump s Error g)
+    (cond (eqb k EMPTY) g (code s g))))))))
+
+-- "On entering a block, each named LABEL standing directly in it gets a node, in order."
+unfoldable pub newNodes : List ℕ → Graph → Graph
+newNodes [] g = g
+newNodes (a ∷ as') g = newNodes as' (newNode g)
+
+unfoldable pub withLabels : List ℕ → ℕ → List Label → List Label
+withLabels [] v ls = ls
+withLabels (a ∷ as') v ls = withLabels as' (v + 1) (record { name = a; node = v } ∷ ls)
+
+unfoldable pub entered : Block → Graph → Graph
+entered b g = newNodes (labelsOf b) g
+
+-- the settings inside a block that is entered at g, with its scope end e
+unfoldable pub inside : ℕ → Block → Settings → Graph → Settings
+inside e b st g = record { breakTo = st .breakTo; continueTo = st .continueTo; scopeEnd = e; labels = withLabels (labelsOf b) (nodeCount g) (st .labels) }
+
+-- "BREAK to the loop's after. CONTINUE goes to head, or REPEAT's condition."
+unfoldable pub inLoop : ℕ → ℕ → Settings → Settings
+inLoop after next st = record { breakTo = after; continueTo = next; scopeEnd = st .scopeEnd; labels = st .labels }
+
+abbrev pub unlessTrue : Truth → (Graph → Graph) → Graph → Graph
+unlessTrue False f g = f g
+unlessTrue True f g = g
+unlessTrue Unknown f g = f g
+
+abbrev pub unlessFalse : Truth → (Graph → Graph) → Graph → Graph
+unlessFalse False f g = g
+unlessFalse True f g = f g
+unlessFalse Unknown f g = f g
+
+-- "A false condition enters the body with nothing current."
+abbrev pub enterWhen : Truth → Graph → Graph
+enterWhen False g = moveTo absent g
+enterWhen True g = g
+enterWhen Unknown g = g
+
+unfoldable mutual
+  pub buildStmt : Stmt → Settings → Graph → Graph
+  buildStmt (simple w s) st g = simpleStmt (kindOf w) (argumentOf w) s st g
+  buildStmt (do-block w b) st g = buildBlock b (inside (scopeEndOf w) b st g) (entered b g)
+  -- "WHILE: code node head, node after, body, edge body end to head, then head to after unless the condition is true."
+  buildStmt (while-loop w s b) st g =
+      let head : ℕ = nodeCount g in
+      let after : ℕ = nodeCount g + 1 in
+      let t : Truth = literalTruth (conditionOf w) in
+      let h : Graph = enterWhen t (newNode (code s g)) in
+      moveTo after (unlessTrue t (connect head after) (closeInto head (buildBlock b (inside (scopeEndOf w) b (inLoop after head st) h) (entered b h))))
+  -- "REPEAT: nodes body, condition, after; move to body; body end to condition; then condition to body unless true, to after unless false. UNTIL records its span at condition, whose code start remains 0."
+  buildStmt (repeat-loop w b u) st g =
+      let body : ℕ = nodeCount g in
+      let condition : ℕ = nodeCount g + 1 in
+      let after : ℕ = nodeCount g + 2 in
+      let t : Truth = literalTruth (conditionOf w) in
+      let h : Graph = newNode (newNode (advanceTo body (newNode g))) in
+      moveTo after (unlessFalse t (connect condition after) (unlessTrue t (connect condition body)
+      (recordCode u condition (closeInto condition (buildBlock b (inside (scopeEndOf w) b (inLoop after condition st) h) (entered b h))))))
+  -- "FOR: code node; node head, moved to; node after; body end to head; then head to after."
+  buildStmt (for-loop w s b) st g =
+      let head : ℕ = nodeCount g + 1 in
+      let after : ℕ = nodeCount g + 2 in
+      let h : Graph = newNode (advanceTo head (newNode (code s g))) in
+      moveTo after (connect head after (closeInto head (buildBlock b (inside (scopeEndOf w) b (inLoop after head st) h) (entered b h))))
+  -- "IF: code node test, node join; each arm ends in join"; "past an IF its join" is current
+  buildStmt (if-stmt w s b as') st g =
+      let test : ℕ = nodeCount g in
+      let join : ℕ = nodeCount g + 1 in
+      let h : Graph = newNode (code s g) in
+      moveTo join (buildArms as' test join true st (closeInto join (buildBlock b (inside (scopeEndOf w) b st h) (entered b h))))
+
+  pub buildBlock : Block → Settings → Graph → Graph
+  buildBlock done st g = g
+  buildBlock (then s b) st g = buildBlock b st (buildStmt s st g)
+
+  -- the arms after a test: "ELSEIF is a code node reached from the test before; without ELSE the last test goes to join", which `falls` says
+  pub buildArms : Arms → ℕ → ℕ → Bool → Settings → Graph → Graph
+  buildArms no-more test join falls st g = cond falls (connect test join g) g
+  buildArms (elseif w s b as') test join falls st g =
+      let h : Graph = code s (moveTo test g) in
+      buildArms as' (nodeCount g) join falls st (closeInto join (buildBlock b (inside (scopeEndOf w) b st h) (entered b h)))
+  buildArms (otherwise w b as') test join falls st g =
+      let h : Graph = moveTo test g in
+      buildArms as' test join false st (closeInto join (buildBlock b (inside (scopeEndOf w) b st h) (entered b h)))
+
+-- five exits and the entry, which is current; "Outside a loop BREAK goes to Break, CONTINUE to End."
+unfoldable pub start : Graph
+start = record {
+  nodes = record {
+    first = absent ∷ absent ∷ absent ∷ absent ∷ absent ∷ absent ∷ [];
+    second = absent ∷ absent ∷ absent ∷ absent ∷ absent ∷ absent ∷ [];
+    start = 0 ∷ 0 ∷ 0 ∷ 0 ∷ 0 ∷ 0 ∷ [];
+  };
+  codes = record { span = []; node = [] };
+  names = record { span = []; node = []; scopeEnd = [] };
+  current = entry;
+}
+
+unfoldable pub outside : Settings
+outside = record { breakTo = Break; continueTo = End; scopeEnd = 0; labels = [] }
+
+-- "The outermost end goes to End."
+unfoldable pub graph : List ℕ → Graph
+graph ws =
+    let b : Block = tree (items ws) in
+    closeInto End (buildBlock b (inside (outerEnd ws) b outside start) (entered b start))

@@ -1,0 +1,112 @@
+-- 01, "The sheet", the table of kinds: what each kind's argument and span may be, which kinds are code, what a condition is known to be, and which call raises.
+-- Assumes nothing: these are definitions.
+use mathlib.Core.Bool.{Bool, true, false, cond, _&&_, _||_, not}
+use mathlib.Core.List.{List, [], _∷_}
+use Prim.Native.Nat.{ℕ, _/_, _%_, _^_}
+use lib.Dec.{eqb, leb, ltb}
+use Rattle.flow.specs.declared.Truth.{Truth}
+use Rattle.flow.specs.declared.Truth.the-variants.{False, True, Unknown}
+use Rattle.flow.specs.Sheet.{Item, kind, oneOf, argumentOf, startOf, endOf}
+
+abbrev pub DO : ℕ
+DO = 1
+
+abbrev pub WHILE : ℕ
+WHILE = 2
+
+abbrev pub REPEAT : ℕ
+REPEAT = 3
+
+abbrev pub FOR : ℕ
+FOR = 4
+
+abbrev pub IF : ℕ
+IF = 5
+
+abbrev pub ELSEIF : ℕ
+ELSEIF = 6
+
+abbrev pub ELSE : ℕ
+ELSE = 7
+
+abbrev pub END : ℕ
+END = 8
+
+abbrev pub UNTIL : ℕ
+UNTIL = 9
+
+abbrev pub LOCAL : ℕ
+LOCAL = 10
+
+abbrev pub NAME : ℕ
+NAME = 11
+
+abbrev pub LABEL : ℕ
+LABEL = 12
+
+abbrev pub GOTO : ℕ
+GOTO = 13
+
+abbrev pub BREAK : ℕ
+BREAK = 14
+
+abbrev pub CONTINUE : ℕ
+CONTINUE = 15
+
+abbrev pub RETURN : ℕ
+RETURN = 16
+
+abbrev pub CALL : ℕ
+CALL = 17
+
+abbrev pub PLAIN : ℕ
+PLAIN = 18
+
+abbrev pub EMPTY : ℕ
+EMPTY = 19
+
+-- "S: argument = condition + 32 × scope end, condition 0 unless stated, scope end below 2^32": c says whether a condition is stated
+abbrev pub scoped : Bool → ℕ → Bool
+scoped c a = ltb (a % 32) (cond c 19 1) && ltb (a / 32) (2 ^ 32)
+
+-- The table's column of arguments. "Kinds 8, 9, 14, 15 have argument 0", and so have 18 and 19.
+unfoldable pub argumentFits : ℕ → ℕ → Bool
+argumentFits k a =
+    cond (oneOf k (WHILE ∷ REPEAT ∷ [])) (scoped true a)
+    (cond (oneOf k (DO ∷ FOR ∷ IF ∷ ELSEIF ∷ ELSE ∷ [])) (scoped false a)
+    (cond (oneOf k (LOCAL ∷ LABEL ∷ GOTO ∷ [])) (leb a 65535)
+    (cond (eqb k NAME) (leb a 7)
+    (cond (eqb k RETURN) (leb a 1)
+    (cond (eqb k CALL) (leb a 127)
+    (eqb a 0))))))
+
+-- "kinds without a stated span (1, 3, 7, 8, 19) have span word 0"
+abbrev pub spanless : ℕ → Bool
+spanless k = oneOf k (DO ∷ REPEAT ∷ ELSE ∷ END ∷ EMPTY ∷ [])
+
+-- "kind, argument or span not as above, or start past end"
+unfoldable pub itemFits : Item → Bool
+itemFits i =
+    leb 1 (kind i) && leb (kind i) 19 && argumentFits (kind i) (argumentOf (i .word))
+    && leb (startOf (i .span)) (endOf (i .span)) && (not (spanless (kind i)) || eqb (i .span) 0)
+
+-- "kinds 1 to 5", which open, and "8 and 9", which close
+abbrev pub opens : ℕ → Bool
+opens k = leb 1 k && leb k 5
+
+abbrev pub closes : ℕ → Bool
+closes k = eqb k END || eqb k UNTIL
+
+-- "Code spans are those of kinds 2, 4, 5, 6, 9, 10, 12 (named), 13 to 18."
+unfoldable pub isCode : Item → Bool
+isCode i =
+    oneOf (kind i) (WHILE ∷ FOR ∷ IF ∷ ELSEIF ∷ UNTIL ∷ LOCAL ∷ []) || (leb GOTO (kind i) && leb (kind i) PLAIN)
+    || (eqb (kind i) LABEL && not (eqb (argumentOf (i .word)) 0))
+
+-- "Nil 0, False 1 are false; True 2 .. FunctionDef 8 are true; 9 to 18 are unknown."
+unfoldable pub literalTruth : ℕ → Truth
+literalTruth c = cond (leb c 1) False (cond (leb c 8) True Unknown)
+
+-- "It raises exactly when the argument is 6": `error` is called as a bare name that the script holds a reference to, and neither resolved, nor `_ENV`, nor assigned
+abbrev pub raises : ℕ → Bool
+raises a = eqb a 6

@@ -1,0 +1,52 @@
+-- 01, "Label check": "Yes exactly when no two labels with the same name number, not 0, stand directly in the same block and every GOTO finds a label."
+-- The clauses rest on the Lua manuals: 5.2 §3.3.4 and 5.3 §3.3.4 ("A label is visible in the entire block where it is defined, including nested blocks"; a label may not be repeated where it is visible in that block), 5.4 and 5.5 §3.3.4 the same. 5.1 and Luau have no goto, so that no clause comes from them.
+-- Assumes nothing: these are definitions.
+use mathlib.Core.Bool.{Bool, true, false, _&&_, _||_, not}
+use mathlib.Core.List.{List, [], _∷_, _++_}
+use Prim.Native.Nat.{ℕ}
+use lib.Dec.{eqb}
+use Rattle.flow.specs.declared.Verdict.{Verdict}
+use Rattle.flow.specs.declared.Verdict.the-variants.{Admitted, Refused}
+use Rattle.flow.specs.declared.LabelAnswer.{LabelAnswer}
+use Rattle.flow.specs.declared.LabelAnswer.the-variants.{Yes, No, Refused as LabelRefused}
+use Rattle.flow.specs.Sheet.{items, oneOf, kindOf, argumentOf}
+use Rattle.flow.specs.Kinds.{GOTO}
+use Rattle.flow.specs.Refusals.{sheetVerdict}
+use Rattle.flow.specs.Tree.{Stmt, Block, Arms, simple, do-block, while-loop, repeat-loop, for-loop, if-stmt, done, then, no-more, elseif, otherwise, tree, labelsOf}
+
+-- "no two labels with the same name number" in a block
+unfoldable pub distinct : List ℕ → Bool
+distinct [] = true
+distinct (a ∷ as') = not (oneOf a as') && distinct as'
+
+-- the statements of a block, with the labels that are visible there
+unfoldable mutual
+  pub labelsFineIn : Stmt → List ℕ → Bool
+  labelsFineIn (simple w s) visible = not (eqb (kindOf w) GOTO) || oneOf (argumentOf w) visible
+  labelsFineIn (do-block w b) visible = distinct (labelsOf b) && blockFine b (labelsOf b ++ visible)
+  labelsFineIn (while-loop w s b) visible = distinct (labelsOf b) && blockFine b (labelsOf b ++ visible)
+  labelsFineIn (repeat-loop w b u) visible = distinct (labelsOf b) && blockFine b (labelsOf b ++ visible)
+  labelsFineIn (for-loop w s b) visible = distinct (labelsOf b) && blockFine b (labelsOf b ++ visible)
+  labelsFineIn (if-stmt w s b as') visible = distinct (labelsOf b) && blockFine b (labelsOf b ++ visible) && armsFine as' visible
+
+  pub blockFine : Block → List ℕ → Bool
+  blockFine done visible = true
+  blockFine (then st b) visible = labelsFineIn st visible && blockFine b visible
+
+  pub armsFine : Arms → List ℕ → Bool
+  armsFine no-more visible = true
+  armsFine (elseif w s b as') visible = distinct (labelsOf b) && blockFine b (labelsOf b ++ visible) && armsFine as' visible
+  armsFine (otherwise w b as') visible = distinct (labelsOf b) && blockFine b (labelsOf b ++ visible) && armsFine as' visible
+
+unfoldable pub labelsFine : List ℕ → Bool
+labelsFine ws =
+    let b : Block = tree (items ws) in
+    distinct (labelsOf b) && blockFine b (labelsOf b)
+
+abbrev pub labelAnswer : Verdict → Bool → LabelAnswer
+labelAnswer (Refused r) fine = LabelRefused r
+labelAnswer Admitted true = Yes
+labelAnswer Admitted false = No
+
+unfoldable pub labelCheck : List ℕ → LabelAnswer
+labelCheck ws = labelAnswer (sheetVerdict ws) (labelsFine ws)

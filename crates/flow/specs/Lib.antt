@@ -1,0 +1,12 @@
+pub mod Sheet
+pub mod Kinds
+pub mod Refusals
+pub mod Tree
+pub mod Graph
+pub mod Reachable
+pub mod Findings
+pub mod Paths
+pub mod Demand
+pub mod Labels
+pub mod Listing
+pub mod Pieces

@@ -1,0 +1,94 @@
+-- 01, "The printed sheet": what flowlist prints, as bytes.
+-- Assumes nothing: these are definitions.
+use mathlib.Core.Bool.{Bool, true, false, cond}
+use mathlib.Core.List.{List, [], _∷_, _++_}
+use Prim.Native.Nat.{ℕ, zero, suc, _+_, _*_, _-_, _/_, _%_, _^_}
+use Prim.Native.String.{String, len, charAt}
+use Prim.Native.Char.{code}
+use lib.ListN.{length, take, drop, getD}
+use lib.Dec.{eqb, ltb}
+use Rattle.flow.specs.declared.Refusal.{Refusal}
+use Rattle.flow.specs.declared.Refusal.the-variants.{Miscount}
+use Rattle.flow.specs.declared.Bench.{Bench}
+use Rattle.flow.specs.declared.Verdict.{Verdict}
+use Rattle.flow.specs.declared.Verdict.the-variants.{Admitted, Refused}
+use Rattle.flow.specs.Sheet.{count, startOf, endOf}
+use Rattle.flow.specs.Refusals.{number, judgeVerdict}
+use Rattle.flow.specs.Graph.{Graph, nodeCount, graph}
+use Rattle.flow.specs.Reachable.{reachable}
+use Rattle.flow.specs.Findings.{Finding, findings}
+
+-- the bytes of a text, of which the first k
+abbrev pub firstBytes : ℕ → String → List ℕ
+firstBytes zero s = []
+firstBytes (suc k) s = firstBytes k s ++ (code (charAt s k) ∷ [])
+
+abbrev pub bytes : String → List ℕ
+bytes s = firstBytes (len s) s
+
+-- a number in decimal, of at most k digits
+unfoldable pub digits : ℕ → ℕ → List ℕ
+digits zero n = []
+digits (suc k) n = cond (ltb n 10) [] (digits k (n / 10)) ++ ((48 + n % 10) ∷ [])
+
+-- 20 digits hold every 64-bit number
+abbrev pub decimal : ℕ → List ℕ
+decimal n = digits 20 n
+
+-- a line: its word and its numbers
+unfoldable pub numbers : List ℕ → List ℕ
+numbers [] = 10 ∷ []
+numbers (n ∷ ns) = 32 ∷ decimal n ++ numbers ns
+
+abbrev pub line : String → List ℕ → List ℕ
+line word ns = bytes word ++ numbers ns
+
+-- "`unassigned LOCAL USE START END` and `overwritten LOCAL START END`", by the finding's list
+unfoldable pub findingLine : Finding → List ℕ
+findingLine f =
+    cond (eqb (f .word % 2) 0)
+    (line "unassigned" (f .word / 2 % 2 ^ 31 ∷ (f .word / 2 ^ 32 - 1) ∷ startOf (f .span) ∷ endOf (f .span) ∷ []))
+    (line "overwritten" (f .word / 2 % 2 ^ 31 ∷ startOf (f .span) ∷ endOf (f .span) ∷ []))
+
+unfoldable pub findingLines : List Finding → List ℕ
+findingLines [] = []
+findingLines (f ∷ fs) = findingLine f ++ findingLines fs
+
+-- "`graph NODES CODES LOCALS`, `exits` with five 0/1 flags", then the findings
+unfoldable pub report : Graph → List Finding → List ℕ
+report g fs =
+    line "graph" (nodeCount g ∷ length (g .codes .span) ∷ length (g .names .span) ∷ [])
+    ++ line "exits" (take 5 (reachable g)) ++ findingLines fs
+
+-- "It prints `refused K` alone"
+abbrev pub refused : Refusal → List ℕ
+refused r = line "refused" (number r ∷ [])
+
+abbrev pub printedFor : Verdict → List ℕ → List ℕ
+printedFor (Refused r) lines = refused r
+printedFor Admitted lines = lines
+
+-- "In a file words are little-endian."
+unfoldable pub littleEndian : ℕ → List ℕ → ℕ
+littleEndian zero bs = 0
+littleEndian (suc k) bs = getD bs 0 0 + 256 * littleEndian k (drop 1 bs)
+
+-- the first k words of a file
+unfoldable pub fileWords : ℕ → List ℕ → List ℕ
+fileWords zero bs = []
+fileWords (suc k) bs = littleEndian 8 bs ∷ fileWords k (drop 8 bs)
+
+-- room enough, so that 1 is never printed
+abbrev pub ownBench : Bench
+ownBench = record { nodes = 1600; codes = 1024; locals = 1024; findings = 3072 }
+
+-- a sheet of 2n + 2 words, and a use sheet of all others
+unfoldable pub printedWords : List ℕ → List ℕ
+printedWords ws =
+    let S : List ℕ = take (2 * count ws + 2) ws in
+    let U : List ℕ = drop (2 * count ws + 2) ws in
+    printedFor (judgeVerdict ownBench S U) (report (graph S) (findings S U))
+
+-- "K is 2 for lost or spare bytes"
+unfoldable pub printed : List ℕ → List ℕ
+printed bs = cond (eqb (length bs % 8) 0) (printedWords (fileWords (length bs / 8) bs)) (refused Miscount)

@@ -1,0 +1,175 @@
+-- 01, "Turned back": each refusal as one test of the input, and the lowest that applies, for each call.
+-- Assumes nothing: these are definitions.
+use mathlib.Core.Bool.{Bool, true, false, cond, _&&_, _||_, not}
+use mathlib.Core.List.{List, [], _∷_, tail}
+use Prim.Native.Nat.{ℕ, _+_, _*_, _/_, _^_}
+use lib.ListN.{length, getD}
+use lib.Dec.{eqb, leb, ltb}
+use Rattle.flow.specs.declared.Bench.{Bench}
+use Rattle.flow.specs.declared.Refusal.{Refusal}
+use Rattle.flow.specs.declared.Refusal.the-variants.{BenchTooSmall, Miscount, BadItem, TooDeep, BadNesting, OffTheLine, BadName, BadUse}
+use Rattle.flow.specs.declared.Verdict.{Verdict}
+use Rattle.flow.specs.declared.Verdict.the-variants.{Admitted, Refused}
+use Rattle.flow.specs.Sheet.{Item, kind, oneOf, count, outerEnd, items, startOf, endOf, scopeEndOf, useWords, useSpans, localOf}
+use Rattle.flow.specs.Kinds.{REPEAT, IF, ELSEIF, ELSE, END, UNTIL, LOCAL, NAME, CONTINUE, RETURN, itemFits, opens, closes, isCode}
+
+-- the table's numbers
+abbrev pub number : Refusal → ℕ
+number BenchTooSmall = 1
+number Miscount = 2
+number BadItem = 3
+number TooDeep = 4
+number BadNesting = 5
+number OffTheLine = 6
+number BadName = 7
+number BadUse = 8
+
+-- 1: "columns lent below 1,600 nodes, 1,024 codes, 1,024 locals, or (judge) 3,072 findings"
+unfoldable pub chartBenchTooSmall : Bench → Bool
+chartBenchTooSmall b = ltb (b .nodes) 1600 || ltb (b .codes) 1024 || ltb (b .locals) 1024
+
+unfoldable pub judgeBenchTooSmall : Bench → Bool
+judgeBenchTooSmall b = chartBenchTooSmall b || ltb (b .findings) 3072
+
+-- 2: "fewer than 2 words (use sheet: 1), n or m above 1,024, or length not 2n + 2 (2m + 1)"
+unfoldable pub miscount : List ℕ → Bool
+miscount ws = ltb (length ws) 2 || ltb 1024 (count ws) || not (eqb (length ws) (2 * count ws + 2))
+
+unfoldable pub useMiscount : List ℕ → Bool
+useMiscount us = ltb (length us) 1 || ltb 1024 (count us) || not (eqb (length us) (2 * count us + 1))
+
+-- 3: "kind, argument, word 1 or span not as above, or start past end"
+unfoldable pub allFit : List Item → Bool
+allFit [] = true
+allFit (i ∷ is) = itemFits i && allFit is
+
+unfoldable pub badItem : List ℕ → Bool
+badItem ws = not (ltb (outerEnd ws) (2 ^ 32) && allFit (items ws))
+
+-- 4: "among some first items, kinds 1 to 5 outnumber 8 and 9 by more than 64": after o openers and c closers, with the rest to come
+abbrev pub one : Bool → ℕ
+one b = cond b 1 0
+
+unfoldable pub outnumbered : ℕ → ℕ → List Item → Bool
+outnumbered o c [] = ltb (c + 64) o
+outnumbered o c (i ∷ is) = ltb (c + 64) o || outnumbered (o + one (opens (kind i))) (c + one (closes (kind i))) is
+
+unfoldable pub tooDeep : List ℕ → Bool
+tooDeep ws = outnumbered 0 0 (items ws)
+
+-- 5: "openers and closers do not pair; ELSEIF or ELSE where the innermost open item is not an IF, or after that IF's ELSE".
+-- What is open is a list of kinds, the innermost first, in which an IF becomes an ELSE once its ELSE has come.
+abbrev pub innermost : List ℕ → ℕ
+innermost os = getD os 0 0
+
+unfoldable pub mayStand : ℕ → List ℕ → Bool
+mayStand k os =
+    cond (eqb k END) (not (oneOf (innermost os) (0 ∷ REPEAT ∷ [])))
+    (cond (eqb k UNTIL) (eqb (innermost os) REPEAT)
+    (cond (oneOf k (ELSEIF ∷ ELSE ∷ [])) (eqb (innermost os) IF) true))
+
+unfoldable pub openAfter : ℕ → List ℕ → List ℕ
+openAfter k os = cond (opens k) (k ∷ os) (cond (closes k) (tail os) (cond (eqb k ELSE) (ELSE ∷ tail os) os))
+
+unfoldable pub pairsUp : List ℕ → List Item → Bool
+pairsUp os [] = eqb (innermost os) 0
+pairsUp os (i ∷ is) = mayStand (kind i) os && pairsUp (openAfter (kind i) os) is
+
+-- "a LOCAL without a NAME next; a NAME not after LOCAL or NAME; RETURN or CONTINUE not last in its block": of two kinds side by side, 0 at the sheet's ends
+unfoldable pub besideEachOther : ℕ → ℕ → Bool
+besideEachOther k l =
+    (not (eqb k LOCAL) || eqb l NAME) && (not (eqb l NAME) || oneOf k (LOCAL ∷ NAME ∷ []))
+    && (not (oneOf k (RETURN ∷ CONTINUE ∷ [])) || oneOf l (0 ∷ END ∷ UNTIL ∷ ELSEIF ∷ ELSE ∷ []))
+
+unfoldable pub sideBySide : ℕ → List Item → Bool
+sideBySide k [] = besideEachOther k 0
+sideBySide k (i ∷ is) = besideEachOther k (kind i) && sideBySide (kind i) is
+
+unfoldable pub badNesting : List ℕ → Bool
+badNesting ws = not (pairsUp [] (items ws) && sideBySide 0 (items ws))
+
+-- 6: "a code span starts before the previous one ends"
+unfoldable pub inLine : ℕ → List Item → Bool
+inLine p [] = true
+inLine p (i ∷ is) = (not (isCode i) || leb p (startOf (i .span))) && inLine (cond (isCode i) (endOf (i .span)) p) is
+
+-- "or ends past the scope end of a block that holds it (for an ELSEIF, the blocks around its IF)": the scope ends of the blocks around, the innermost first
+unfoldable pub within : ℕ → List ℕ → Bool
+within e [] = true
+within e (s ∷ ss) = leb e s && within e ss
+
+unfoldable pub scopesAfter : ℕ → ℕ → List ℕ → List ℕ
+scopesAfter k s ss =
+    cond (opens k) (s ∷ ss) (cond (closes k) (tail ss) (cond (oneOf k (ELSEIF ∷ ELSE ∷ [])) (s ∷ tail ss) ss))
+
+-- "REPEAT's scope end is not its UNTIL's end"
+unfoldable pub held : List ℕ → List Item → Bool
+held ss [] = true
+held ss (i ∷ is) =
+    (not (isCode i) || within (endOf (i .span)) (cond (eqb (kind i) ELSEIF) (tail ss) ss))
+    && (not (eqb (kind i) UNTIL) || eqb (endOf (i .span)) (getD ss 0 0)) && held (scopesAfter (kind i) (scopeEndOf (i .word)) ss) is
+
+unfoldable pub offTheLine : List ℕ → Bool
+offTheLine ws = not (inLine 0 (items ws) && held (outerEnd ws ∷ []) (items ws))
+
+-- 7: "a NAME span empty, outside its LOCAL, or starting before the previous NAME of that LOCAL ends": in the LOCAL's span l, after a NAME that ends at p
+unfoldable pub nameFits : ℕ → ℕ → ℕ → Bool
+nameFits l p s = ltb (startOf s) (endOf s) && leb (startOf l) (startOf s) && leb (endOf s) (endOf l) && leb p (startOf s)
+
+unfoldable pub namesFit : ℕ → ℕ → List Item → Bool
+namesFit l p [] = true
+namesFit l p (i ∷ is) =
+    (not (eqb (kind i) NAME) || nameFits l p (i .span))
+    && namesFit (cond (eqb (kind i) LOCAL) (i .span) l) (cond (eqb (kind i) LOCAL) 0 (cond (eqb (kind i) NAME) (endOf (i .span)) p)) is
+
+unfoldable pub badName : List ℕ → Bool
+badName ws = not (namesFit 0 0 (items ws))
+
+-- 8: "local number not below the names, high part not 0 to 2 or 4 to 6, or start past end"
+unfoldable pub nameCount : List Item → ℕ
+nameCount [] = 0
+nameCount (i ∷ is) = one (eqb (kind i) NAME) + nameCount is
+
+unfoldable pub useFits : ℕ → ℕ → ℕ → Bool
+useFits names w s = ltb (localOf w) names && oneOf (w / 65536) (0 ∷ 1 ∷ 2 ∷ 4 ∷ 5 ∷ 6 ∷ []) && leb (startOf s) (endOf s)
+
+unfoldable pub usesFit : ℕ → List ℕ → List ℕ → Bool
+usesFit names [] ss = true
+usesFit names (w ∷ ws) ss = useFits names w (getD ss 0 0) && usesFit names ws (tail ss)
+
+unfoldable pub badUse : List ℕ → List ℕ → Bool
+badUse ws us = not (usesFit (nameCount (items ws)) (useWords us) (useSpans us))
+
+-- "The lowest number that applies is returned, and no other case refuses": the tests in the order of precedence
+pub record Test : Type 0 where
+  pub refusal : Refusal
+  pub applies : Bool
+
+unfoldable pub lowest : List Test → Verdict
+lowest [] = Admitted
+lowest (t ∷ ts) = cond (t .applies) (Refused (t .refusal)) (lowest ts)
+
+-- 3 to 7, which ask of the sheet alone
+unfoldable pub sheetTests : List ℕ → List Test → List Test
+sheetTests ws rest =
+    record { refusal = BadItem; applies = badItem ws }
+    ∷ record { refusal = TooDeep; applies = tooDeep ws }
+    ∷ record { refusal = BadNesting; applies = badNesting ws }
+    ∷ record { refusal = OffTheLine; applies = offTheLine ws }
+    ∷ record { refusal = BadName; applies = badName ws }
+    ∷ rest
+
+-- "Run and the label check lend nothing and never give 1; only judge gives 8."
+unfoldable pub sheetVerdict : List ℕ → Verdict
+sheetVerdict ws = lowest (record { refusal = Miscount; applies = miscount ws } ∷ sheetTests ws [])
+
+unfoldable pub chartVerdict : Bench → List ℕ → Verdict
+chartVerdict b ws =
+    lowest (record { refusal = BenchTooSmall; applies = chartBenchTooSmall b } ∷ record { refusal = Miscount; applies = miscount ws } ∷ sheetTests ws [])
+
+unfoldable pub judgeVerdict : Bench → List ℕ → List ℕ → Verdict
+judgeVerdict b ws us =
+    lowest
+    (record { refusal = BenchTooSmall; applies = judgeBenchTooSmall b }
+    ∷ record { refusal = Miscount; applies = miscount ws || useMiscount us }
+    ∷ sheetTests ws (record { refusal = BadUse; applies = badUse ws us } ∷ []))

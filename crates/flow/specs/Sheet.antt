@@ -1,0 +1,80 @@
+-- 01, "The sheet": its words, items, kinds, arguments and spans, and the use sheet.
+-- Assumes nothing: these are definitions.
+use mathlib.Core.Bool.{Bool, true, false, _||_}
+use mathlib.Core.List.{List, [], _∷_}
+use Prim.Native.Nat.{ℕ, _+_, _/_, _%_, _^_}
+use lib.ListN.{take, drop, getD}
+use lib.Dec.{eqb}
+
+-- k is one of a list
+abbrev pub oneOf : ℕ → List ℕ → Bool
+oneOf k [] = false
+oneOf k (x ∷ xs) = eqb k x || oneOf k xs
+
+-- "Word 0 is n, the item count. Word 1 is the outer block's scope end."
+abbrev pub count : List ℕ → ℕ
+count ws = getD ws 0 0
+
+abbrev pub outerEnd : List ℕ → ℕ
+outerEnd ws = getD ws 1 0
+
+-- "Then two parallel arrays of n words; the two arrays are parts of one lent sheet."
+abbrev pub kindWords : List ℕ → List ℕ
+kindWords ws = take (count ws) (drop 2 ws)
+
+abbrev pub spanWords : List ℕ → List ℕ
+spanWords ws = take (count ws) (drop (2 + count ws) ws)
+
+-- "A first-array word is kind + 256 × argument."
+abbrev pub kindOf : ℕ → ℕ
+kindOf w = w % 256
+
+abbrev pub argumentOf : ℕ → ℕ
+argumentOf w = w / 256
+
+-- "A second-array word is start + 2^32 × end."
+abbrev pub startOf : ℕ → ℕ
+startOf s = s % 2 ^ 32
+
+abbrev pub endOf : ℕ → ℕ
+endOf s = s / 2 ^ 32
+
+-- "S: argument = condition + 32 × scope end"
+abbrev pub conditionOf : ℕ → ℕ
+conditionOf w = argumentOf w % 32
+
+abbrev pub scopeEndOf : ℕ → ℕ
+scopeEndOf w = argumentOf w / 32
+
+-- an item: its words of the two arrays
+pub record Item : Type 0 where
+  pub word : ℕ
+  pub span : ℕ
+
+abbrev pub kind : Item → ℕ
+kind i = kindOf (i .word)
+
+abbrev pub together : List ℕ → List ℕ → List Item
+together [] ss = []
+together (w ∷ ws) [] = []
+together (w ∷ ws) (s ∷ ss) = record { word = w; span = s } ∷ together ws ss
+
+abbrev pub items : List ℕ → List Item
+items ws = together (kindWords ws) (spanWords ws)
+
+-- The use sheet: "word 0 = m, then two parallel arrays".
+abbrev pub useWords : List ℕ → List ℕ
+useWords us = take (count us) (drop 1 us)
+
+abbrev pub useSpans : List ℕ → List ℕ
+useSpans us = take (count us) (drop (1 + count us) us)
+
+-- "local number + 65,536 × (kind + 4 × crossing)"
+abbrev pub localOf : ℕ → ℕ
+localOf w = w % 65536
+
+abbrev pub useKindOf : ℕ → ℕ
+useKindOf w = w / 65536 % 4
+
+abbrev pub crossingOf : ℕ → ℕ
+crossingOf w = w / 65536 / 4

@@ -1,0 +1,86 @@
+-- 01, "From items to edges": "A block holds statements and a statement holds blocks". The tree of a sheet's items.
+-- Assumes nothing: these are definitions.
+use mathlib.Core.Bool.{cond, _&&_, not}
+use mathlib.Core.List.{List, [], _∷_, _++_}
+use Prim.Native.Nat.{ℕ}
+use lib.Dec.{eqb}
+use Rattle.flow.specs.Sheet.{Item, kind, kindOf, argumentOf}
+use Rattle.flow.specs.Kinds.{DO, WHILE, REPEAT, FOR, IF, ELSEIF, ELSE, LABEL, closes}
+
+-- a word w and a span s are those of the statement's first item
+mutual
+  pub data Stmt : Type 0 where
+    simple : (w s : ℕ) → Stmt
+    do-block : (w : ℕ) → Block → Stmt
+    while-loop : (w s : ℕ) → Block → Stmt
+    repeat-loop : (w : ℕ) → Block → (until : ℕ) → Stmt
+    for-loop : (w s : ℕ) → Block → Stmt
+    if-stmt : (w s : ℕ) → Block → Arms → Stmt
+
+  pub data Block : Type 0 where
+    done : Block
+    then : Stmt → Block → Block
+
+  pub data Arms : Type 0 where
+    no-more : Arms
+    elseif : (w s : ℕ) → Block → Arms → Arms
+    otherwise : (w : ℕ) → Block → Arms → Arms
+
+-- an open block as far as it has been read, from its end on; the arms that follow it; the span of the item that closes it
+pub record Frame : Type 0 where
+  pub body : Block
+  pub arms : Arms
+  pub close : ℕ
+
+-- the open blocks, of which there is always one
+pub record Open : Type 0 where
+  pub top : Frame
+  pub below : List Frame
+
+abbrev pub nothingRead : Frame
+nothingRead = record { body = done; arms = no-more; close = 0 }
+
+abbrev pub outer : Open → Open
+outer o = elim (o .below) [ [] ↦ record { top = nothingRead; below = [] } | f ∷ fs ↦ record { top = f; below = fs } ]
+
+-- a statement put in front of the innermost block
+unfoldable pub inFront : Stmt → Open → Open
+inFront st o = record { top = record { body = then st (o .top .body); arms = o .top .arms; close = o .top .close }; below = o .below }
+
+-- a new innermost block, with the arms that follow it
+unfoldable pub opened : Arms → ℕ → Open → Open
+opened as' c o = record { top = record { body = done; arms = as'; close = c }; below = o .top ∷ o .below }
+
+-- the item i, with all that stands after it read already: a closer starts a block, an opener ends one, ELSEIF and ELSE make it an arm
+unfoldable pub read : Item → Open → Open
+read i o =
+    cond (closes (kind i)) (opened no-more (i .span) o)
+    (cond (eqb (kind i) DO) (inFront (do-block (i .word) (o .top .body)) (outer o))
+    (cond (eqb (kind i) WHILE) (inFront (while-loop (i .word) (i .span) (o .top .body)) (outer o))
+    (cond (eqb (kind i) REPEAT) (inFront (repeat-loop (i .word) (o .top .body) (o .top .close)) (outer o))
+    (cond (eqb (kind i) FOR) (inFront (for-loop (i .word) (i .span) (o .top .body)) (outer o))
+    (cond (eqb (kind i) IF) (inFront (if-stmt (i .word) (i .span) (o .top .body) (o .top .arms)) (outer o))
+    (cond (eqb (kind i) ELSEIF) (opened (elseif (i .word) (i .span) (o .top .body) (o .top .arms)) 0 (outer o))
+    (cond (eqb (kind i) ELSE) (opened (otherwise (i .word) (o .top .body) (o .top .arms)) 0 (outer o))
+    (inFront (simple (i .word) (i .span)) o))))))))
+
+-- the items from the right
+unfoldable pub parse : List Item → Open
+parse [] = record { top = nothingRead; below = [] }
+parse (i ∷ is) = read i (parse is)
+
+unfoldable pub tree : List Item → Block
+tree is = parse is .top .body
+
+-- the named LABELs standing directly in a block, in order: "name number 0 has no identifier"
+abbrev pub labelName : Stmt → List ℕ
+labelName (simple w s) = cond (eqb (kindOf w) LABEL && not (eqb (argumentOf w) 0)) (argumentOf w ∷ []) []
+labelName (do-block w b) = []
+labelName (while-loop w s b) = []
+labelName (repeat-loop w b u) = []
+labelName (for-loop w s b) = []
+labelName (if-stmt w s b as') = []
+
+unfoldable pub labelsOf : Block → List ℕ
+labelsOf done = []
+labelsOf (then st b) = labelName st ++ labelsOf b
