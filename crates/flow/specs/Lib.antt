@@ -3,6 +3,7 @@ pub mod Kinds
 pub mod Refusals
 pub mod Tree
 pub mod Graph
+pub mod Size
 pub mod Reachable
 pub mod Findings
 pub mod Paths

@@ -1,0 +1,107 @@
+-- Who is a member of the lists of `specs/`: of a joined list, a kept one, the numbers below n. And what the test of a live node says.
+-- Assumes nothing.
+use Prim.Native.Nat.{ℕ, zero, suc, _<_}
+use mathlib.Core.Path.{_≡_, refl}
+use mathlib.Core.Logic.{_⊎_, inl, inr, ⊎-elim}
+use mathlib.Core.Bool.{Bool, true, false, _&&_, _||_, false≢true}
+use mathlib.Core.List.{List, [], _∷_, _++_}
+use native.Mathlib.Omega.{arith}
+use native.Mathlib.Decide.{ℕ-discrete}
+use borrow.Author.Tests.{ltb-true, lt-ltb, eqb-true, eqb-false, eq-eqb, ne-eqb, not-true}
+use lib.Dec.{eqb}
+use Rattle.search.specs.Search.{In, cons-if, keep}
+use Rattle.flow.specs.Sheet.{oneOf}
+use Rattle.flow.specs.Graph.{Graph}
+use Rattle.flow.specs.Findings.{Declaration, isAliveAt, below}
+use Rattle.flow.specs.Paths.{Alive}
+
+-- ---- tests joined
+
+pub and-both : (a b : Bool) → (a && b) ≡ true → (a ≡ true) × (b ≡ true)
+and-both true b e = (refl, e)
+and-both false b e = absurd (false≢true e)
+
+pub both-and : {a b : Bool} → a ≡ true → b ≡ true → (a && b) ≡ true
+both-and p q = rw (p, q)
+
+-- ---- lists joined
+
+pub append-in : (xs ys : List ℕ) (v : ℕ) → In v (xs ++ ys) → In v xs ⊎ In v ys
+append-in [] ys v i = inr i
+append-in (x ∷ xs) ys v (inl e) = inl (inl e)
+append-in (x ∷ xs) ys v (inr i) = ⊎-elim (λ j. inl (inr j)) (λ j. inr j) (append-in xs ys v i)
+
+pub in-append : (xs ys : List ℕ) (v : ℕ) → In v xs ⊎ In v ys → In v (xs ++ ys)
+in-append [] ys v (inl i) = absurd i
+in-append [] ys v (inr i) = i
+in-append (x ∷ xs) ys v (inl (inl e)) = inl e
+in-append (x ∷ xs) ys v (inl (inr i)) = inr (in-append xs ys v (inl i))
+in-append (x ∷ xs) ys v (inr i) = inr (in-append xs ys v (inr i))
+
+-- ---- what is kept
+
+cons-if-in : (b : Bool) (x : ℕ) (vs : List ℕ) (v : ℕ) → In v (cons-if b x vs) → ((v ≡ x) × (b ≡ true)) ⊎ In v vs
+cons-if-in true x vs v (inl e) = inl (e, refl)
+cons-if-in true x vs v (inr i) = inr i
+cons-if-in false x vs v i = inr i
+
+in-cons-if : (b : Bool) (x : ℕ) (vs : List ℕ) (v : ℕ) → ((v ≡ x) × (b ≡ true)) ⊎ In v vs → In v (cons-if b x vs)
+in-cons-if true x vs v (inl q) = inl (q .0)
+in-cons-if true x vs v (inr i) = inr i
+in-cons-if false x vs v (inl q) = absurd (false≢true (q .1))
+in-cons-if false x vs v (inr i) = i
+
+pub keep-in : (p : ℕ → Bool) (vs : List ℕ) (v : ℕ) → In v (keep p vs) → In v vs × (p v ≡ true)
+keep-in p [] v i = absurd i
+keep-in p (x ∷ vs) v i =
+    ⊎-elim (λ q. (inl (q .0), rw (q .0) (q .1))) (λ j. let k = keep-in p vs v j in (inr (k .0), k .1)) (cons-if-in (p x) x (keep p vs) v i)
+
+pub in-keep : (p : ℕ → Bool) (vs : List ℕ) (v : ℕ) → In v vs → p v ≡ true → In v (keep p vs)
+in-keep p [] v i e = absurd i
+in-keep p (x ∷ vs) v (inl q) e = in-cons-if (p x) x (keep p vs) v (inl (q, rw (← q) e))
+in-keep p (x ∷ vs) v (inr i) e = in-cons-if (p x) x (keep p vs) v (inr (in-keep p vs v i e))
+
+-- ---- the numbers below n
+
+pub below-in : (n v : ℕ) → v < n → In v (below n)
+below-in zero v h = absurd (omega arith)
+below-in (suc n) v h =
+    in-append (below n) (n ∷ []) v (elim (ℕ-discrete v n) [ yes e ↦ inr (inl e) | no q ↦ inl (below-in n v (omega arith)) ])
+
+pub in-below : (n v : ℕ) → In v (below n) → v < n
+in-below zero v i = absurd i
+in-below (suc n) v i =
+    ⊎-elim (λ j. let h : v < n = in-below n v j in omega arith) (⊎-elim (λ e. omega arith) (λ b. absurd b)) (append-in (below n) (n ∷ []) v i)
+
+-- ---- the test of membership
+
+or-in : (b c : Bool) → (b || c) ≡ true → (b ≡ true) ⊎ (c ≡ true)
+or-in true c e = inl refl
+or-in false c e = inr e
+
+in-or : (b c : Bool) → (b ≡ true) ⊎ (c ≡ true) → (b || c) ≡ true
+in-or true c e = refl
+in-or false c (inl e) = absurd (false≢true e)
+in-or false c (inr e) = e
+
+pub oneOf-in : (v : ℕ) (vs : List ℕ) → oneOf v vs ≡ true → In v vs
+oneOf-in v [] e = absurd (false≢true e)
+oneOf-in v (x ∷ vs) e = ⊎-elim (λ p. inl (eqb-true v x p)) (λ q. inr (oneOf-in v vs q)) (or-in (eqb v x) (oneOf v vs) e)
+
+pub in-oneOf : (v : ℕ) (vs : List ℕ) → In v vs → oneOf v vs ≡ true
+in-oneOf v [] i = absurd i
+in-oneOf v (x ∷ vs) (inl e) = in-or (eqb v x) (oneOf v vs) (inl (eq-eqb v x e))
+in-oneOf v (x ∷ vs) (inr i) = in-or (eqb v x) (oneOf v vs) (inr (in-oneOf v vs i))
+
+-- ---- a live node
+
+module _ (g : Graph) (d : Declaration) (v : ℕ) where
+  pub true-alive : isAliveAt g d v ≡ true → Alive g d v
+  unfolding isAliveAt
+  true-alive e =
+      let p = and-both _ _ e in
+      record { other = eqb-false v (d .node) (not-true _ (p .0)); inScope = ltb-true _ _ (p .1) }
+
+  pub alive-true : Alive g d v → isAliveAt g d v ≡ true
+  unfolding isAliveAt
+  alive-true a = rw (ne-eqb v (d .node) (a .other)) (lt-ltb _ _ (a .inScope))

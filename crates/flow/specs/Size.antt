@@ -1,0 +1,31 @@
+-- How many nodes a block makes, by its statements. A named LABEL is counted where it stands; its node is made as its block is entered.
+-- Assumes nothing: these are definitions.
+use mathlib.Core.Bool.{cond, _&&_}
+use mathlib.Core.List.{[], _∷_}
+use Prim.Native.Nat.{ℕ, _+_}
+use lib.Dec.{eqb}
+use Rattle.flow.specs.Sheet.{oneOf, kindOf, argumentOf}
+use Rattle.flow.specs.Kinds.{NAME, LABEL, EMPTY}
+use Rattle.flow.specs.Tree.{Stmt, Block, Arms, simple, do-block, while-loop, repeat-loop, for-loop, if-stmt, done, then, no-more, elseif, otherwise}
+
+-- a statement of one item, by its kind and argument
+abbrev pub simpleNodes : ℕ → ℕ → ℕ
+simpleNodes k a = cond (oneOf k (NAME ∷ EMPTY ∷ [])) 0 (cond (eqb k LABEL && eqb a 0) 0 1)
+
+abbrev mutual
+  pub stmtNodes : Stmt → ℕ
+  stmtNodes (simple w s) = simpleNodes (kindOf w) (argumentOf w)
+  stmtNodes (do-block w b) = blockNodes b
+  stmtNodes (while-loop w s b) = 2 + blockNodes b
+  stmtNodes (repeat-loop w b u) = 3 + blockNodes b
+  stmtNodes (for-loop w s b) = 3 + blockNodes b
+  stmtNodes (if-stmt w s b as') = 2 + blockNodes b + armNodes as'
+
+  pub blockNodes : Block → ℕ
+  blockNodes done = 0
+  blockNodes (then s b) = stmtNodes s + blockNodes b
+
+  pub armNodes : Arms → ℕ
+  armNodes no-more = 0
+  armNodes (elseif w s b as') = 1 + blockNodes b + armNodes as'
+  armNodes (otherwise w b as') = blockNodes b + armNodes as'
