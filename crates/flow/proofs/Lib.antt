@@ -1,3 +1,11 @@
 pub mod Members
 pub mod NodeCount
 pub mod Flags
+pub mod Laws
+pub mod CodeNodes
+pub mod Uses
+pub mod EmptyReads
+pub mod Losses
+pub mod Order
+pub mod Entries
+pub mod Demand3
