@@ -16,7 +16,8 @@ use Rattle.flow.specs.Graph.{Graph, nodeCount, entry, graph}
 use Rattle.flow.specs.Reachable.{successors, Reachable, reachable}
 use Rattle.flow.specs.Findings.{Declaration, Use, node, isWrite, onlyIf, isAliveAt, liveSuccessors, afterWrites, liveAfterWrites, Meeting, noUse, aRead, aPureWrite, isNoUse, firstAt, below, meetsHere, comesFrom, meets}
 use Rattle.flow.specs.Paths.{Edge, Alive, Live, last, more, After, Meets, met, past}
-use Rattle.flow.proofs.Members.{and-both, both-and, append-in, in-append, keep-in, in-keep, below-in, in-below, oneOf-in, in-oneOf, true-alive, alive-true}
+use Rattle.search.proofs.Worklist.{keep-in}
+use Rattle.flow.proofs.Members.{and-both, both-and, append-in, in-append, in-keep, below-in, in-below, oneOf-in, in-oneOf, true-alive, alive-true}
 use Rattle.flow.proofs.NodeCount.{graph-count}
 
 -- a flag 0 or 1 for each of n nodes, 1 exactly where P holds

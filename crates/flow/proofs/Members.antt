@@ -40,21 +40,11 @@ in-append (x ∷ xs) ys v (inr i) = inr (in-append xs ys v (inr i))
 
 -- ---- what is kept
 
-cons-if-in : (b : Bool) (x : ℕ) (vs : List ℕ) (v : ℕ) → In v (cons-if b x vs) → ((v ≡ x) × (b ≡ true)) ⊎ In v vs
-cons-if-in true x vs v (inl e) = inl (e, refl)
-cons-if-in true x vs v (inr i) = inr i
-cons-if-in false x vs v i = inr i
-
 in-cons-if : (b : Bool) (x : ℕ) (vs : List ℕ) (v : ℕ) → ((v ≡ x) × (b ≡ true)) ⊎ In v vs → In v (cons-if b x vs)
 in-cons-if true x vs v (inl q) = inl (q .0)
 in-cons-if true x vs v (inr i) = inr i
 in-cons-if false x vs v (inl q) = absurd (false≢true (q .1))
 in-cons-if false x vs v (inr i) = i
-
-pub keep-in : (p : ℕ → Bool) (vs : List ℕ) (v : ℕ) → In v (keep p vs) → In v vs × (p v ≡ true)
-keep-in p [] v i = absurd i
-keep-in p (x ∷ vs) v i =
-    ⊎-elim (λ q. (inl (q .0), rw (q .0) (q .1))) (λ j. let k = keep-in p vs v j in (inr (k .0), k .1)) (cons-if-in (p x) x (keep p vs) v i)
 
 pub in-keep : (p : ℕ → Bool) (vs : List ℕ) (v : ℕ) → In v vs → p v ≡ true → In v (keep p vs)
 in-keep p [] v i e = absurd i

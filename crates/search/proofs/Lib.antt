@@ -1,2 +1,3 @@
 pub mod Count
 pub mod Closure
+pub mod Worklist

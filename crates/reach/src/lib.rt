@@ -1,0 +1,110 @@
+// What can run: the nodes that a path from the entry reaches, and the node of an offset (cfg.rs).
+ghost use mathlib.Core.Path.{_≡_};
+ghost use mathlib.Core.List.{_++_};
+ghost use Prim.Native.Nat.{_<_, _≤_};
+ghost use lib.ListN.{length, take, drop};
+ghost use lib.Dec.{ltb};
+ghost use Rattle.search.specs.Worklist.{st, pushAll, pushIf, Room};
+ghost use Rattle.flow.specs.Graph.{Graph, nodeCount, entry};
+ghost use Rattle.flow.specs.Reachable.{reachable as reachableFlags, nodeAmong, canRun};
+ghost use Rattle.reach.specs.Columns.{edges, Rising, FirstPast, Within};
+use flow::Place;
+use search::at;
+use search::clear;
+use search::push_if_new;
+
+const ENTRY: usize = 5;
+
+// A span's word is start + 2^32 × end.
+const END: u64 = 4294967296;
+
+// v pushed; what is no node is passed over.
+fn push_node(marks: &mut [u64], stack: &mut [u64], n: usize, top: usize, v: usize) -> usize
+    requires { ⌜ Room n (st (now marks) (now stack) top) ⌝ }
+    ensures { λ r. ⌜ st (now (marks .exit)) (now (stack .exit)) r ≡ pushIf (λ x. ltb x n) v (st (now (marks .entry)) (now (stack .entry)) top) ⌝ }
+{
+    if v < n {
+        push_if_new(marks, stack, n, top, v)
+    } else {
+        top
+    }
+}
+
+// The successors of u pushed.
+fn expand(
+    first: &[u64],
+    second: &[u64],
+    marks: &mut [u64],
+    stack: &mut [u64],
+    n: usize,
+    top: usize,
+    u: usize,
+) -> usize
+    requires { ⌜ Room n (st (now marks) (now stack) top) ⌝ }
+    requires { ⌜ (n ≤ length (now first)) × (n ≤ length (now second)) × (u < n) ⌝ }
+    ensures { λ r. ⌜ st (now (marks .exit)) (now (stack .exit)) r ≡ pushAll (edges (now (first .entry)) (now (second .entry)) n u) (st (now (marks .entry)) (now (stack .entry)) top) ⌝ }
+{
+    let a = at(first, u);
+    let t = push_node(marks, stack, n, top, a);
+    let b = at(second, u);
+    push_node(marks, stack, n, t, b)
+}
+
+// The reachable flags of n nodes. The stack is scratch memory: its first n cells may hold anything, before and after.
+pub fn reach(first: &[u64], second: &[u64], reachable: &mut [u64], stack: &mut [u64], n: usize)
+    requires { ⌜ (n ≤ length (now first)) × (n ≤ length (now second)) × (entry < n) ⌝ }
+    requires { ⌜ (n ≤ length (now reachable)) × (n ≤ length (now stack)) ⌝ }
+    ensures { λ _. ⌜ ((g : Graph) → g .nodes .first ≡ take n (now (first .entry)) → g .nodes .second ≡ take n (now (second .entry)) → now (reachable .exit) ≡ reachableFlags g ++ drop n (now (reachable .entry))) ⌝ }
+    ensures { λ _. ⌜ (drop n (now (stack .exit)) ≡ drop n (now (stack .entry))) × (length (now (stack .exit)) ≡ length (now (stack .entry))) ⌝ }
+{
+    clear(reachable, n);
+    let mut top = push_if_new(reachable, stack, n, 0, ENTRY);
+    while 0 < top {
+        top -= 1;
+        let u = at(stack, top);
+        top = expand(first, second, reachable, stack, n, top, u);
+    }
+}
+
+// How many codes end at or before an offset. Since the ends rise, those stand first.
+fn partition_point(code_span: &[u64], codes: usize, offset: u64) -> usize
+    requires { ⌜ (codes ≤ length (now «code_span»)) × Rising codes (now «code_span») ⌝ }
+    ensures { λ r. ⌜ FirstPast codes (now («code_span» .entry)) offset r ⌝ }
+{
+    let mut low = 0;
+    let mut high = codes;
+    while low < high {
+        let middle = low + (high - low) / 2;
+        if code_span[middle] / END <= offset {
+            low = middle + 1;
+        } else {
+            high = middle;
+        }
+    }
+    low
+}
+
+// The node of the first code that ends past an offset.
+pub fn node_at(code_span: &[u64], code_node: &[u64], codes: usize, offset: u64) -> Place
+    requires { ⌜ (codes ≤ length (now «code_span»)) × (codes ≤ length (now «code_node»)) ⌝ }
+    requires { ⌜ Rising codes (now «code_span») ⌝ }
+    ensures { λ r. ⌜ r ≡ nodeAmong (take codes (now («code_span» .entry))) (take codes (now («code_node» .entry))) offset ⌝ }
+{
+    let index = partition_point(code_span, codes, offset);
+    if index < codes {
+        Place::Node(at(code_node, index))
+    } else {
+        Place::Past
+    }
+}
+
+// Whether the code at a place can run; past all code the answer is yes.
+pub fn can_run(reachable: &[u64], place: Place) -> bool
+    requires { ⌜ Within (length (now reachable)) place ⌝ }
+    ensures { λ r. ⌜ ((g : Graph) → take (nodeCount g) (now (reachable .entry)) ≡ reachableFlags g → Within (nodeCount g) place → r ≡ canRun g place) ⌝ }
+{
+    match place {
+        Place::Node(v) => reachable[v] == 1,
+        Place::Past => true,
+    }
+}
