@@ -9,3 +9,10 @@ pub mod Losses
 pub mod Order
 pub mod Entries
 pub mod Demand3
+pub mod Tests
+pub mod Nesting
+pub mod Room
+pub mod Written
+pub mod Sources
+pub mod Spans
+pub mod Admission

@@ -8,6 +8,7 @@ pub mod Reachable
 pub mod Findings
 pub mod Paths
 pub mod Demand
+pub mod Admitted
 pub mod Labels
 pub mod Listing
 pub mod Pieces

@@ -1,0 +1,110 @@
+-- From a verdict to what its tests say: a call is admitted exactly when none of them applies.
+-- Assumes nothing.
+use Prim.Native.Nat.{ℕ, zero, suc, _+_, _*_, _^_, _≤_, _<_}
+use mathlib.Core.Path.{_≡_, refl}
+use mathlib.Core.Bool.{Bool, true, false, cond, _&&_, _||_, not, true≢false}
+use mathlib.Core.List.{List, [], _∷_}
+use native.Mathlib.Omega.{arith}
+use borrow.Author.Tests.{ltb-true, ltb-false, leb-true, eqb-true, not-false}
+use lib.Dec.{eqb, leb, ltb}
+use lib.ListN.{length, getD}
+use Rattle.search.specs.Search.{In, keep}
+use Rattle.flow.specs.declared.Refusal.{Refusal}
+use Rattle.flow.specs.declared.Verdict.{Verdict}
+use Rattle.flow.specs.declared.Verdict.the-variants.{Admitted, Refused}
+use Rattle.flow.specs.Sheet.{Item, kind, count, outerEnd, items, startOf, endOf, argumentOf}
+use Rattle.flow.specs.Kinds.{argumentFits, itemFits}
+use Rattle.flow.specs.Refusals.{Test, lowest, miscount, allFit, badItem, pairsUp, badNesting, inLine, offTheLine, sheetTests, sheetVerdict}
+use Rattle.flow.specs.Admitted.{anItem}
+use Rattle.flow.proofs.Members.{and-both, keep-in}
+
+pub neither : (a b : Bool) → (a || b) ≡ false → (a ≡ false) × (b ≡ false)
+neither true b e = absurd (true≢false e)
+neither false b e = (refl, e)
+
+-- a test's two cases
+pub split : {A B : Type 0} (f : A → B) (b : Bool) (x y : A) → f (cond b x y) ≡ cond b (f x) (f y)
+split f true x y = refl
+split f false x y = refl
+
+pub same : {A : Type 0} (b : Bool) (x : A) → cond b x x ≡ x
+same true x = refl
+same false x = refl
+
+-- what holds of each of a list by one evaluation
+pub every : (t : ℕ → Bool) (xs : List ℕ) (x : ℕ) → keep t xs ≡ xs → In x xs → t x ≡ true
+every t xs x e i = keep-in t xs x (rw e i) .1
+
+-- ---- the verdict
+
+abbrev pub NoneApplies : List Test → Type 0
+NoneApplies [] = Unit {0}
+NoneApplies (t ∷ ts) = (t .applies ≡ false) × NoneApplies ts
+
+passed-one : (b : Bool) (r : Refusal) (v : Verdict) → cond b (Refused r) v ≡ Admitted → (b ≡ false) × (v ≡ Admitted)
+passed-one true r v e = let z : _≡_ {A = ℕ} 0 1 = cc in absurd (omega arith)
+passed-one false r v e = (refl, e)
+
+pub passed : (ts : List Test) → lowest ts ≡ Admitted → NoneApplies ts
+unfolding lowest
+passed [] e = tt
+passed (t ∷ ts) e = let p = passed-one (t .applies) (t .refusal) (lowest ts) e in (p .0, passed ts (p .1))
+
+pub pass : (ts : List Test) → NoneApplies ts → lowest ts ≡ Admitted
+unfolding lowest
+pass [] n = refl
+pass (t ∷ ts) n = rw (n .0) (pass ts (n .1))
+
+-- ---- a sheet
+
+-- the count of either sheet, with k words before its two arrays
+pub counted : (k : ℕ) (ws : List ℕ) → (ltb (length ws) k || ltb 1024 (count ws) || not (eqb (length ws) (2 * count ws + k))) ≡ false → (length ws ≡ 2 * count ws + k) × (count ws ≤ 1024)
+counted k ws e =
+    let m = neither (ltb (length ws) k || ltb 1024 (count ws)) _ e in
+    (eqb-true _ _ (not-false _ (m .1)), ltb-false _ _ (neither (ltb (length ws) k) _ (m .0) .1))
+
+pub record Passed (ws : List ℕ) : Type 0 where
+  pub words : length ws ≡ 2 * count ws + 2
+  pub few : count ws ≤ 1024
+  pub outerEnd : outerEnd ws < 2 ^ 32
+  pub fits : allFit (items ws) ≡ true
+  pub pairs : pairsUp [] (items ws) ≡ true
+  pub line : inLine 0 (items ws) ≡ true
+
+pub sheet-passed : (ws : List ℕ) → sheetVerdict ws ≡ Admitted → Passed ws
+unfolding sheetVerdict sheetTests miscount badItem badNesting offTheLine
+sheet-passed ws e =
+    let p = passed _ e in
+    let c = counted 2 ws (p .0) in
+    let i = and-both (ltb (outerEnd ws) (2 ^ 32)) _ (not-false _ (p .1 .0)) in
+    record {
+      words = c .0;
+      few = c .1;
+      outerEnd = ltb-true _ _ (i .0);
+      fits = i .1;
+      pairs = and-both (pairsUp [] (items ws)) _ (not-false _ (p .1 .1 .1 .0)) .0;
+      line = and-both (inLine 0 (items ws)) _ (not-false _ (p .1 .1 .1 .1 .0)) .0;
+    }
+
+-- ---- an item
+
+pub fits-at : (is : List Item) → allFit is ≡ true → (k : ℕ) → k < length is → itemFits (getD is k anItem) ≡ true
+unfolding allFit
+fits-at [] e k h = absurd (omega arith)
+fits-at (i ∷ is) e zero h = and-both (itemFits i) (allFit is) e .0
+fits-at (i ∷ is) e (suc k) h = fits-at is (and-both (itemFits i) (allFit is) e .1) k (omega arith)
+
+pub record Fitting (i : Item) : Type 0 where
+  pub low : 1 ≤ kind i
+  pub high : kind i ≤ 19
+  pub order : startOf (i .span) ≤ endOf (i .span)
+
+pub fitting : (i : Item) → itemFits i ≡ true → Fitting i
+unfolding itemFits
+fitting i e =
+    let kinds : Bool = leb 1 (kind i) && leb (kind i) 19 in
+    let upto : Bool = kinds && argumentFits (kind i) (argumentOf (i .word)) in
+    let s = and-both (upto && leb (startOf (i .span)) (endOf (i .span))) _ e in
+    let o = and-both upto _ (s .0) in
+    let k = and-both (leb 1 (kind i)) _ (and-both kinds _ (o .0) .0) in
+    record { low = leb-true _ _ (k .0); high = leb-true _ _ (k .1); order = leb-true _ _ (o .1) }

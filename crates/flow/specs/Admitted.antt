@@ -1,0 +1,76 @@
+-- What 01's table shows of a sheet that it admits: the facts that later layers lean on. `proofs/Admission.antt` draws them from `sheetVerdict`.
+-- Assumes nothing: these are definitions.
+use mathlib.Core.Path.{_≡_}
+use mathlib.Core.Bool.{Bool, true}
+use mathlib.Core.List.{List, [], _∷_, _++_}
+use Prim.Native.Nat.{ℕ, _+_, _*_, _^_, _≤_, _<_}
+use lib.ListN.{length, getD, drop}
+use lib.Dec.{eqb}
+use Rattle.flow.specs.declared.Bench.{Bench}
+use Rattle.flow.specs.declared.Verdict.the-variants.{Admitted}
+use Rattle.flow.specs.Sheet.{Item, kind, count, outerEnd, items, kindWords, spanWords, together, kindOf, endOf, useWords, useSpans, localOf, useKindOf}
+use Rattle.flow.specs.Kinds.{NAME, itemFits, isCode}
+use Rattle.flow.specs.Refusals.{nameCount, sheetVerdict}
+use Rattle.flow.specs.Tree.{parse, tree, no-more}
+use Rattle.flow.specs.Size.{blockNodes}
+use Rattle.flow.specs.Graph.{graph}
+use Rattle.flow.specs.Findings.{onlyIf, locals}
+
+-- the spans of those items that pass a test, in order
+unfoldable pub spansWhere : (Item → Bool) → List Item → List ℕ
+spansWhere p [] = []
+spansWhere p (i ∷ is) = onlyIf (p i) (i .span ∷ []) ++ spansWhere p is
+
+abbrev pub isName : Item → Bool
+isName i = eqb (kind i) NAME
+
+abbrev pub anItem : Item
+anItem = record { word = 0; span = 0 }
+
+-- a block that DO, WHILE, REPEAT or FOR opens is followed by no arm; this is a fact of the kinds alone, whatever the spans
+abbrev pub Tidy : List ℕ → Type 0
+Tidy ks = (ss : List ℕ) → length ss ≡ length ks → (i : ℕ) → i < length ks → 1 ≤ kindOf (getD ks i 0) → kindOf (getD ks i 0) ≤ 4 → parse (drop (i + 1) (together ks ss)) .top .arms ≡ no-more
+
+-- a tree of these kinds has room for 1,600 nodes, whatever the spans
+abbrev pub Roomy : List ℕ → Type 0
+Roomy ks = (ss : List ℕ) → length ss ≡ length ks → 6 + blockNodes (tree (together ks ss)) ≤ 1542
+
+pub record AdmittedSheet (S : List ℕ) : Type 0 where
+  pub words : length S ≡ 2 * count S + 2
+  pub few : count S ≤ 1024
+  pub kinds : length (kindWords S) ≡ count S
+  pub spans : length (spanWords S) ≡ count S
+  pub outerEnd : outerEnd S < 2 ^ 32
+  pub fits : (i : ℕ) → i < count S → itemFits (getD (items S) i anItem) ≡ true
+  pub tidy : Tidy (kindWords S)
+  pub room : Roomy (kindWords S)
+  pub codes : graph S .codes .span ≡ spansWhere isCode (items S)
+  pub codeNodes : length (graph S .codes .node) ≡ length (graph S .codes .span)
+  pub fewCodes : length (graph S .codes .span) ≤ 1024
+  pub ends : (i j : ℕ) → i < j → j < length (graph S .codes .span) → endOf (getD (graph S .codes .span) i 0) ≤ endOf (getD (graph S .codes .span) j 0)
+  pub names : graph S .names .span ≡ spansWhere isName (items S)
+  pub nameNodes : length (graph S .names .node) ≡ length (graph S .names .span)
+  pub nameEnds : length (graph S .names .scopeEnd) ≡ length (graph S .names .span)
+  pub fewNames : length (graph S .names .span) ≤ 1024
+  pub allNames : length (graph S .names .span) ≡ length (locals S)
+
+-- the same of a bench and of a use sheet, for the calls that take them
+pub record AdmittedChart (b : Bench) (S : List ℕ) : Type 0 where
+  pub sheet : sheetVerdict S ≡ Admitted
+  pub nodes : 1600 ≤ b .nodes
+  pub codes : 1024 ≤ b .codes
+  pub locals : 1024 ≤ b .locals
+
+pub record AdmittedUses (S U : List ℕ) : Type 0 where
+  pub words : length U ≡ 2 * count U + 1
+  pub few : count U ≤ 1024
+  pub uses : length (useWords U) ≡ count U
+  pub spans : length (useSpans U) ≡ count U
+  pub names : nameCount (items S) ≡ length (locals S)
+  pub known : (u : ℕ) → u < count U → localOf (getD (useWords U) u 0) < nameCount (items S)
+  pub kinds : (u : ℕ) → u < count U → useKindOf (getD (useWords U) u 0) ≤ 2
+
+pub record AdmittedJudge (b : Bench) (S U : List ℕ) : Type 0 where
+  pub chart : AdmittedChart b S
+  pub findings : 3072 ≤ b .findings
+  pub uses : AdmittedUses S U
