@@ -16,7 +16,8 @@ use Rattle.flow.specs.Sheet.{Item, kind, count, outerEnd, items, startOf
 use Rattle.flow.specs.Kinds.{argumentFits, itemFits}
 use Rattle.flow.specs.Refusals.{Test, lowest, miscount, allFit, badItem, pairsUp, badNesting, inLine, offTheLine, sheetTests, sheetVerdict}
 use Rattle.flow.specs.Admitted.{anItem}
-use Rattle.flow.proofs.Members.{and-both, keep-in}
+use Rattle.search.proofs.Worklist.{keep-in}
+use Rattle.flow.proofs.Members.{and-both}
 
 pub neither : (a b : Bool) → (a || b) ≡ false → (a ≡ false) × (b ≡ false)
 neither true b e = absurd (true≢false e)
