@@ -1,0 +1,48 @@
+//! Points the library at luck's own files, which stay where they are.
+//!
+//! `LUCK_SRC` names the folder that holds `crates/`; without it the folder
+//! beside the repository is taken.
+
+use std::path::{Path, PathBuf};
+use std::{env, fs};
+
+const FILES: [(&str, &str); 8] = [
+    ("luck_semantic", "scope"),
+    ("luck_semantic", "analysis"),
+    ("luck_linter", "call"),
+    ("luck_linter", "cfg"),
+    ("luck_linter", "local_flow"),
+    ("luck_linter", "node_type"),
+    ("luck_linter", "rule"),
+    ("luck_linter", "uninitialized"),
+];
+
+fn main() {
+    println!("cargo::rerun-if-env-changed=LUCK_SRC");
+    let here = PathBuf::from(env::var("CARGO_MANIFEST_DIR").unwrap());
+    let out = PathBuf::from(env::var("OUT_DIR").unwrap());
+    let root = env::var("LUCK_SRC")
+        .map_or_else(|_| here.join("../../shared/docs/src"), PathBuf::from)
+        .canonicalize()
+        .expect("LUCK_SRC names no folder");
+
+    let mut modules = String::new();
+    for (krate, name) in FILES {
+        let file = root.join("crates").join(krate).join("src").join(format!("{name}.rs"));
+        println!("cargo::rerun-if-changed={}", file.display());
+        let taken = if name == "cfg" { with_child(&file, &here, &out) } else { file };
+        modules += &format!("#[path = {taken:?}]\npub(crate) mod {name};\n");
+    }
+    fs::write(out.join("luck.rs"), modules).unwrap();
+}
+
+/// The graph's fields are private to its module, so a child module reads
+/// them: luck's text whole, then the line that declares the child.
+fn with_child(file: &Path, here: &Path, out: &Path) -> PathBuf {
+    let text = fs::read_to_string(file).expect("luck's cfg.rs cannot be read");
+    let child = here.join("luck/cells.rs");
+    let taken = out.join("cfg.rs");
+    let text = format!("{text}\n#[path = {child:?}]\npub(crate) mod cells;\n");
+    fs::write(&taken, text).unwrap();
+    taken
+}

@@ -1,0 +1,160 @@
+//! Compares luck's own Rust, a plain reading of document 01 and, where it is
+//! at hand, the Rattle side. `README.md` describes the commands.
+
+mod admitted;
+mod answers;
+mod cases;
+mod damage;
+mod draft;
+mod flowlist;
+mod lent;
+mod limits;
+mod luac;
+mod luck_side;
+mod pieces;
+mod plain_text;
+mod random;
+mod reading;
+mod reading_lends;
+mod run;
+mod shapes;
+mod short;
+mod shrink;
+mod stored;
+mod wrong;
+
+use std::io::{Read, Write};
+use std::process::ExitCode;
+
+use answers::Side;
+use random::Random;
+use run::Tally;
+
+struct Options(Vec<String>);
+
+impl Options {
+    fn text(&self, name: &str) -> Option<&str> {
+        let at = self.0.iter().position(|option| option == name)?;
+        self.0.get(at + 1).map(String::as_str)
+    }
+
+    fn number(&self, name: &str, otherwise: u64) -> u64 {
+        self.text(name).map_or(otherwise, |text| text.parse().expect("a number"))
+    }
+
+    fn plain(&self) -> &str {
+        self.0.first().map_or("", String::as_str)
+    }
+}
+
+fn sides(options: &Options) -> Vec<Box<dyn Side>> {
+    let mut sides: Vec<Box<dyn Side>> = vec![Box::new(luck_side::Luck)];
+    if let Some(program) = options.text("--flowlist") {
+        sides.push(Box::new(flowlist::Flowlist { program: program.into() }));
+    }
+    sides
+}
+
+fn tell(what: &str, tally: &Tally, options: &Options) {
+    println!("{what}: {} pairs, no difference", tally.pairs);
+    println!("  admitted {}, refused with 2 to 8: {:?}", tally.refused[0], &tally.refused[2..]);
+    println!(
+        "  findings: {} unassigned, {} overwritten; label check yes: {}; most nodes, uses, findings: {:?}",
+        tally.findings[0], tally.findings[1], tally.labels_fit, tally.most
+    );
+    if options.0.iter().any(|option| option == "--shapes") {
+        tally.shapes.iter().for_each(|(what, count)| println!("  {what}: {count}"));
+    }
+}
+
+fn pairs(options: &Options) -> Result<(), String> {
+    let mut sides = sides(options);
+    let (count, seed) = (options.number("--pairs", 10_000), options.number("--seed", 1));
+    let mut tally = Tally::default();
+    for made in limits::all() {
+        run::check(&made, &mut sides, &mut tally)?;
+    }
+    let mut random = Random::new(seed);
+    for number in 0..count {
+        let made = cases::any(&mut random);
+        run::check(&made, &mut sides, &mut tally)
+            .map_err(|what| format!("seed {seed}, pair {number}: {what}"))?;
+    }
+    tell(&format!("limits, and pairs of seed {seed}"), &tally, options);
+    Ok(())
+}
+
+fn every_short(options: &Options) -> Result<(), String> {
+    let mut sides = sides(options);
+    let (longest, uses) = (options.number("--length", 3), options.number("--uses", 0));
+    let mut tally = Tally::default();
+    for length in 0..=longest as usize {
+        let mut outcome = Ok(());
+        let take = |made| {
+            if outcome.is_ok() {
+                outcome = run::check(&made, &mut sides, &mut tally);
+            }
+        };
+        match uses {
+            0 => short::each(length, take),
+            _ => short::each_with_uses(length, uses as u32, take),
+        }
+        outcome?;
+    }
+    tell(&format!("every sequence of up to {longest} kinds, uses {uses}"), &tally, options);
+    Ok(())
+}
+
+fn print() -> Result<(), String> {
+    let mut bytes = Vec::new();
+    std::io::stdin().read_to_end(&mut bytes).map_err(|fault| fault.to_string())?;
+    std::io::stdout().write_all(&luck_side::printed(&bytes)).map_err(|fault| fault.to_string())
+}
+
+/// luck's columns for a sheet and a use sheet on standard input.
+fn columns() -> Result<(), String> {
+    let mut bytes = Vec::new();
+    std::io::stdin().read_to_end(&mut bytes).map_err(|fault| fault.to_string())?;
+    let (sheet, uses) = reading::text::pair_of(&bytes).ok_or("bytes that make no word")?;
+    reading::table::of_pair(&sheet, &uses).map_err(|number| format!("refused {number}"))?;
+    for (name, cells) in luck_side::judgement_of(luck::flow_of(&sheet, &uses)).columns() {
+        println!("{name}: {cells:?}");
+    }
+    Ok(())
+}
+
+fn words(file: &str) -> Result<(), String> {
+    let text = std::fs::read_to_string(file).map_err(|fault| format!("{file}: {fault}"))?;
+    let bytes = plain_text::parse(&text).0.case().bytes();
+    std::io::stdout().write_all(&bytes).map_err(|fault| fault.to_string())
+}
+
+fn main() -> ExitCode {
+    let mut arguments = std::env::args().skip(1);
+    let command = arguments.next().unwrap_or_default();
+    let options = Options(arguments.collect());
+    let (count, seed) = (options.number("--pairs", 2000), options.number("--seed", 1));
+    let outcome = match command.as_str() {
+        "pieces" => {
+            println!("{} pieces hold", pieces::check(&mut luck_side::Luck));
+            Ok(())
+        }
+        "pairs" => pairs(&options),
+        "short" => every_short(&options),
+        "wrong" => wrong::check(count, seed),
+        "luac" => luac::check(options.plain(), count, seed),
+        "store" => stored::write(options.plain().as_ref()),
+        "stored" => stored::check(options.plain().as_ref()),
+        "print" => print(),
+        "columns" => columns(),
+        "words" => words(options.plain()),
+        _ => Err("no such command; README.md describes them".to_owned()),
+    };
+    match outcome {
+        Ok(()) => ExitCode::SUCCESS,
+        Err(what) => {
+            eprintln!("{what}");
+            ExitCode::FAILURE
+        }
+    }
+}
