@@ -25,3 +25,8 @@ pub zeros-le : (n : ℕ) (l : List ℕ) → zeros n l ≤ n
 zeros-le zero l = omega arith
 zeros-le (suc n) [] = omega arith
 zeros-le (suc n) (x ∷ l) = omega (arith, zeros-le n l, isZero-le x)
+
+pub zeros-all : (n : ℕ) (l : List ℕ) → n ≤ length l → ((v : ℕ) → v < n → getD l v 0 ≡ 0) → zeros n l ≡ n
+zeros-all zero l k z = refl
+zeros-all (suc n) [] k z = absurd (not-suc-le-zero k)
+zeros-all (suc n) (x ∷ l) k z = omega (arith, isZero-at x (z 0 (omega arith)), zeros-all n l (le-of-suc-le-suc k) (λ v h. z (suc v) (omega arith)))

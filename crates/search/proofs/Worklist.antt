@@ -4,7 +4,7 @@
 use Prim.Native.Nat.{ℕ, zero, suc, _+_, _-_, _≤_, _<_}
 use mathlib.Core.Path.{_≡_, refl, sym, ap, _∙_, subst}
 use mathlib.Core.Logic.{_⊎_, inl, inr, ⊎-elim}
-use mathlib.Core.Bool.{Bool, true, false}
+use mathlib.Core.Bool.{Bool, true, false, _&&_}
 use mathlib.Core.List.{List, [], _∷_, _++_}
 use native.Mathlib.Omega.{arith}
 use native.Mathlib.Decide.{ℕ-discrete}
@@ -352,3 +352,36 @@ module _ (n : ℕ) (old new : List ℕ) (e : new ≡ replicate n 0 ++ drop n old
 
   pub cleared-past : drop n new ≡ drop n old
   cleared-past = rw e (drop-at (replicate n 0) (drop n old) n (length-replicate n 0))
+
+-- ---- two lists, and two tests
+
+pub all-append : (us vs : List ℕ) (s : State) → pushAll (us ++ vs) s ≡ pushAll vs (pushAll us s)
+all-append [] vs s = refl
+all-append (u ∷ us) vs s = all-append us vs (push u s)
+
+keep-cons : (b : Bool) (q : ℕ → Bool) (v : ℕ) (vs : List ℕ) → keep q (cons-if b v vs) ≡ cons-if (b && q v) v (keep q vs)
+keep-cons true q v vs = refl
+keep-cons false q v vs = refl
+
+pub keep-keep : (p q : ℕ → Bool) (vs : List ℕ) → keep q (keep p vs) ≡ keep (λ v. p v && q v) vs
+keep-keep p q [] = refl
+keep-keep p q (v ∷ vs) = keep-cons (p v) q v (keep p vs) ∙ ap (cons-if (p v && q v) v) (keep-keep p q vs)
+
+-- ---- a push takes a node from those without a mark to the stack
+
+abbrev pub waiting : ℕ → State → ℕ
+waiting n s = s .top + zeros n (s .marks)
+
+pushed-waiting : (n v : ℕ) (s : State) (f : ℕ) → getD (s .marks) v 0 ≡ f → v < n → Room n s → waiting n (pushed f v s) ≡ waiting n s
+pushed-waiting n v s zero z h r = omega (arith, zeros-set n (s .marks) v h (omega (arith, r)) z)
+pushed-waiting n v s (suc f) z h r = refl
+
+push-waiting : (n v : ℕ) (s : State) → v < n → Room n s → waiting n (push v s) ≡ waiting n s
+unfolding push
+push-waiting n v s h r = pushed-waiting n v s (getD (s .marks) v 0) refl h r
+
+pub all-waiting : (n : ℕ) (vs : List ℕ) (s : State) → Nodes n vs → Room n s → waiting n (pushAll vs s) ≡ waiting n s
+all-waiting n [] s h r = refl
+all-waiting n (v ∷ vs) s h r =
+    let i : v < n = h v (inl refl) in
+    all-waiting n vs (push v s) (λ x j. h x (inr j)) (push-moved n v s i r .fits) ∙ push-waiting n v s i r

@@ -1,0 +1,5 @@
+pub mod Blocks
+pub mod Scopes
+pub mod Statements
+pub mod Choices
+pub mod Rooms

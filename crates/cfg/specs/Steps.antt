@@ -1,0 +1,96 @@
+-- What the builders take and give.
+-- Assumes nothing: these are definitions.
+use mathlib.Core.Path.{_≡_}
+use mathlib.Core.Bool.{Bool}
+use mathlib.Core.List.{List, []}
+use Prim.Native.Nat.{ℕ, _+_, _≤_, _<_, _^_}
+use lib.ListN.{length, getD}
+use Rattle.flow.specs.Sheet.{kindOf, scopeEndOf}
+use Rattle.flow.specs.Tree.{Stmt, Block, Open, done, no-more, inFront, outer, labelName, labelsOf}
+use Rattle.flow.specs.Size.{stmtNodes, blockNodes, armNodes}
+use Rattle.flow.specs.Graph.{Graph, Settings, buildStmt, buildBlock, buildArms, inside, inLoop, entered, closeInto}
+use Rattle.cfg_steps.specs.declared.GraphBuilder.{GraphBuilder}
+use Rattle.cfg_steps.specs.Columns.{Cols, openAt, graphOf, settingsOf, Good, Grown, LabelsFit}
+
+-- what admission shows of the kinds alone
+pub record Sane (ks : List ℕ) : Type 0 where
+  pub few : length ks ≤ 1024
+  pub labels : LabelsFit ks
+  pub scopes : (i : ℕ) → i < length ks → 1 ≤ kindOf (getD ks i 0) → kindOf (getD ks i 0) ≤ 7 → scopeEndOf (getD ks i 0) < 2 ^ 32
+  pub tidy : (ss : List ℕ) → length ss ≡ length ks → (i : ℕ) → i < length ks → 1 ≤ kindOf (getD ks i 0) → kindOf (getD ks i 0) ≤ 4 → openAt ks ss (i + 1) .top .arms ≡ no-more
+  pub closed : (ss : List ℕ) → length ss ≡ length ks → (i : ℕ) → i < length ks → kindOf (getD ks i 0) ≡ 3 → openAt ks ss (i + 1) .below ≡ [] → ⊥
+
+-- an item that ends a block: ELSEIF, ELSE, END, UNTIL
+pub record Ender (k : ℕ) : Type 0 where
+  pub least : 6 ≤ k
+  pub most : k ≤ 9
+
+-- the open blocks with the innermost one read
+abbrev pub bare : Open → Open
+bare o = record { top = record { body = done; arms = o .top .arms; close = o .top .close }; below = o .below }
+
+-- items are read; the settings are again what they were
+pub record Moved (ks : List ℕ) (b : GraphBuilder) (x : Cols) (r : GraphBuilder) (y : Cols) : Type 0 where
+  pub good : Good r y
+  pub grown : Grown b x r y
+  pub forward : b .item ≤ r .item
+  pub within : r .item ≤ length ks
+  pub labels : r .labels ≡ b .labels
+  pub settings : settingsOf r y ≡ settingsOf b x
+
+-- one statement is built
+pub record Stepped (ks ss : List ℕ) (b : GraphBuilder) (x : Cols) (r : GraphBuilder) (y : Cols) : Type 0 where
+  pub moved : Moved ks b x r y
+  pub on : b .item < r .item
+  pub stmt : Stmt
+  pub reads : openAt ks ss (b .item) ≡ inFront stmt (openAt ks ss (r .item))
+  pub built : graphOf ks ss r y ≡ buildStmt stmt (settingsOf b x) (graphOf ks ss b x)
+
+-- a statement whose first item i stands right before the builder's is built
+pub record Opened (ks ss : List ℕ) (i : ℕ) (b : GraphBuilder) (x : Cols) (r : GraphBuilder) (y : Cols) : Type 0 where
+  pub moved : Moved ks b x r y
+  pub stmt : Stmt
+  pub reads : openAt ks ss i ≡ inFront stmt (openAt ks ss (r .item))
+  pub built : graphOf ks ss r y ≡ buildStmt stmt (settingsOf b x) (graphOf ks ss b x)
+
+-- the innermost block is built, up to the item that ends it or the sheet's end
+pub record Finished (ks ss : List ℕ) (b : GraphBuilder) (x : Cols) (r : GraphBuilder) (y : Cols) : Type 0 where
+  pub moved : Moved ks b x r y
+  pub ended : r .item < length ks → Ender (kindOf (getD ks (r .item) 0))
+  pub shut : openAt ks ss (r .item) ≡ bare (openAt ks ss (b .item))
+  pub built : graphOf ks ss r y ≡ buildBlock (openAt ks ss (b .item) .top .body) (settingsOf b x) (graphOf ks ss b x)
+
+-- the same inside a scope that ends at e
+pub record Scoped (ks ss : List ℕ) (e : ℕ) (b : GraphBuilder) (x : Cols) (r : GraphBuilder) (y : Cols) : Type 0 where
+  pub moved : Moved ks b x r y
+  pub ended : r .item < length ks → Ender (kindOf (getD ks (r .item) 0))
+  pub shut : openAt ks ss (r .item) ≡ bare (openAt ks ss (b .item))
+  pub built : graphOf ks ss r y
+      ≡ buildBlock (openAt ks ss (b .item) .top .body) (inside e (openAt ks ss (b .item) .top .body) (settingsOf b x) (graphOf ks ss b x)) (entered (openAt ks ss (b .item) .top .body) (graphOf ks ss b x))
+
+-- the same as a loop's body, with the loop's targets
+pub record Looped (ks ss : List ℕ) (e after next : ℕ) (b : GraphBuilder) (x : Cols) (r : GraphBuilder) (y : Cols) : Type 0 where
+  pub moved : Moved ks b x r y
+  pub ended : r .item < length ks → Ender (kindOf (getD ks (r .item) 0))
+  pub shut : openAt ks ss (r .item) ≡ bare (openAt ks ss (b .item))
+  pub built : graphOf ks ss r y
+      ≡ closeInto next (buildBlock (openAt ks ss (b .item) .top .body) (inside e (openAt ks ss (b .item) .top .body) (inLoop after next (settingsOf b x)) (graphOf ks ss b x)) (entered (openAt ks ss (b .item) .top .body) (graphOf ks ss b x)))
+
+-- the arms that follow the item that ends a block, and the last end
+pub record Chosen (ks ss : List ℕ) (test join : ℕ) (falls : Bool) (b : GraphBuilder) (x : Cols) (r : GraphBuilder) (y : Cols) : Type 0 where
+  pub moved : Moved ks b x r y
+  pub reads : openAt ks ss (r .item) ≡ outer (openAt ks ss (b .item))
+  pub built : graphOf ks ss r y ≡ buildArms (openAt ks ss (b .item) .top .arms) test join falls (settingsOf b x) (graphOf ks ss b x)
+
+-- room for the nodes still to be made: of a block that is entered, of a block and of a statement whose labels have their nodes, of arms
+abbrev pub BlockRoom : List ℕ → GraphBuilder → Type 0
+BlockRoom ks b = (ss : List ℕ) → length ss ≡ length ks → b .nodes + blockNodes (openAt ks ss (b .item) .top .body) ≤ 1600
+
+abbrev pub EnteredRoom : List ℕ → GraphBuilder → Type 0
+EnteredRoom ks b = (ss : List ℕ) → length ss ≡ length ks → b .nodes + blockNodes (openAt ks ss (b .item) .top .body) ≤ 1600 + length (labelsOf (openAt ks ss (b .item) .top .body))
+
+abbrev pub StmtRoom : List ℕ → ℕ → GraphBuilder → Type 0
+StmtRoom ks i b = (ss : List ℕ) → length ss ≡ length ks → (st : Stmt) (o : Open) → openAt ks ss i ≡ inFront st o → b .nodes + stmtNodes st ≤ 1600 + length (labelName st)
+
+abbrev pub ArmRoom : List ℕ → GraphBuilder → Type 0
+ArmRoom ks b = (ss : List ℕ) → length ss ≡ length ks → b .nodes + armNodes (openAt ks ss (b .item) .top .arms) ≤ 1600

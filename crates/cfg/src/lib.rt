@@ -1,0 +1,299 @@
+// The builders of a sheet's graph: a block holds statements, and a statement holds blocks.
+ghost use mathlib.Core.Path.{_≡_};
+ghost use mathlib.Core.List.{List};
+ghost use Prim.Native.Nat.{ℕ, _+_, _≤_, _<_};
+ghost use lib.ListN.{length, getD};
+ghost use Rattle.flow.specs.Sheet.{kindOf, scopeEndOf};
+ghost use Rattle.cfg_steps.specs.Columns.{cols, Good};
+ghost use Rattle.cfg.specs.Steps.{Sane, Ender, Stepped, Opened, Finished, Scoped, Looped, Chosen, BlockRoom, EnteredRoom, StmtRoom, ArmRoom};
+use cfg_steps::GraphBuilder;
+use cfg_steps::ends_at;
+use cfg_steps::literal_truth;
+use flow::Truth;
+
+// The place past the item that ends a block, if there is one.
+fn past(at: usize, len: usize) -> usize
+    requires { ⌜ at ≤ len ⌝ }
+    ensures { λ r. ⌜ (at ≤ r) × (r ≤ len) × (at < len → r ≡ at + 1) × (len ≤ at → r ≡ at) ⌝ }
+{
+    if at < len {
+        return at + 1;
+    }
+    at
+}
+
+// The statements from the builder's item on, up to the item that ends their block.
+fn block(
+    kinds: &[u64],
+    edges: &mut [u64],
+    codes: &mut [u64],
+    names: &mut [u64],
+    labels: &mut [u64],
+    b: GraphBuilder,
+) -> GraphBuilder
+    requires { ⌜ Sane (now kinds) × Good b (cols (now edges) (now codes) (now names) (now labels)) × (b .item ≤ length (now kinds)) × EnteredRoom (now kinds) b ⌝ }
+    ensures { λ r. ⌜ ((ss : List ℕ) → length ss ≡ length (now (kinds .entry)) → Finished (now (kinds .entry)) ss b (cols (now (edges .entry)) (now (codes .entry)) (now (names .entry)) (now (labels .entry))) r (cols (now (edges .exit)) (now (codes .exit)) (now (names .exit)) (now (labels .exit)))) ⌝ }
+{
+    let mut t = b;
+    let mut at = t.item;
+    while at < kinds.len() {
+        let kind = kinds[at] % 256;
+        if ends_at(kind, 0) {
+            return t;
+        }
+        t = stmt(kinds, edges, codes, names, labels, t);
+        at = t.item;
+    }
+    t
+}
+
+// A block whose scope ends at scope_end, with its own labels in force.
+fn scoped_block(
+    kinds: &[u64],
+    edges: &mut [u64],
+    codes: &mut [u64],
+    names: &mut [u64],
+    labels: &mut [u64],
+    b: GraphBuilder,
+    scope_end: u64,
+) -> GraphBuilder
+    requires { ⌜ Sane (now kinds) × Good b (cols (now edges) (now codes) (now names) (now labels)) × (b .item ≤ length (now kinds)) × BlockRoom (now kinds) b × («scope_end» < 4294967296) ⌝ }
+    ensures { λ r. ⌜ ((ss : List ℕ) → length ss ≡ length (now (kinds .entry)) → Scoped (now (kinds .entry)) ss «scope_end» b (cols (now (edges .entry)) (now (codes .entry)) (now (names .entry)) (now (labels .entry))) r (cols (now (edges .exit)) (now (codes .exit)) (now (names .exit)) (now (labels .exit)))) ⌝ }
+{
+    let outer_scope_end = b.scope_end;
+    let outer_labels = b.labels;
+    let mut t = b;
+    t.scope_end = scope_end;
+    let e = t.enter_block(kinds, edges, labels);
+    let mut r = block(kinds, edges, codes, names, labels, e);
+    r.labels = outer_labels;
+    r.scope_end = outer_scope_end;
+    r
+}
+
+// A loop's body: BREAK goes to break_target, CONTINUE and the body's end to continue_target.
+fn loop_body(
+    kinds: &[u64],
+    edges: &mut [u64],
+    codes: &mut [u64],
+    names: &mut [u64],
+    labels: &mut [u64],
+    b: GraphBuilder,
+    scope_end: u64,
+    break_target: usize,
+    continue_target: usize,
+) -> GraphBuilder
+    requires { ⌜ Sane (now kinds) × Good b (cols (now edges) (now codes) (now names) (now labels)) × (b .item ≤ length (now kinds)) × BlockRoom (now kinds) b × («scope_end» < 4294967296) ⌝ }
+    requires { ⌜ («break_target» < b .nodes) × («continue_target» < b .nodes) ⌝ }
+    ensures { λ r. ⌜ ((ss : List ℕ) → length ss ≡ length (now (kinds .entry)) → Looped (now (kinds .entry)) ss «scope_end» «break_target» «continue_target» b (cols (now (edges .entry)) (now (codes .entry)) (now (names .entry)) (now (labels .entry))) r (cols (now (edges .exit)) (now (codes .exit)) (now (names .exit)) (now (labels .exit)))) ⌝ }
+{
+    let outer_break = b.break_target;
+    let outer_continue = b.continue_target;
+    let mut t = b;
+    t.break_target = break_target;
+    t.continue_target = continue_target;
+    let s = scoped_block(kinds, edges, codes, names, labels, t, scope_end);
+    let mut r = s.close_into(edges, continue_target);
+    r.break_target = outer_break;
+    r.continue_target = outer_continue;
+    r
+}
+
+// The WHILE of item i.
+fn while_loop(
+    kinds: &[u64],
+    edges: &mut [u64],
+    codes: &mut [u64],
+    names: &mut [u64],
+    labels: &mut [u64],
+    b: GraphBuilder,
+    i: usize,
+) -> GraphBuilder
+    requires { ⌜ Sane (now kinds) × Good b (cols (now edges) (now codes) (now names) (now labels)) × (b .item ≡ i + 1) × (b .codes < b .item) × (i < length (now kinds)) × (kindOf (getD (now kinds) i 0) ≡ 2) × StmtRoom (now kinds) i b ⌝ }
+    ensures { λ r. ⌜ ((ss : List ℕ) → length ss ≡ length (now (kinds .entry)) → Opened (now (kinds .entry)) ss i b (cols (now (edges .entry)) (now (codes .entry)) (now (names .entry)) (now (labels .entry))) r (cols (now (edges .exit)) (now (codes .exit)) (now (names .exit)) (now (labels .exit)))) ⌝ }
+{
+    let argument = kinds[i] / 256;
+    let truth = literal_truth(argument % 32);
+    let head = b.nodes;
+    let h = b.while_head(edges, codes, i, truth);
+    let mut s = loop_body(
+        kinds,
+        edges,
+        codes,
+        names,
+        labels,
+        h,
+        argument / 32,
+        head + 1,
+        head,
+    );
+    let end = s.item;
+    s.item = past(end, kinds.len());
+    s.loop_end(edges, head, truth)
+}
+
+// The REPEAT of item i.
+fn repeat_loop(
+    kinds: &[u64],
+    edges: &mut [u64],
+    codes: &mut [u64],
+    names: &mut [u64],
+    labels: &mut [u64],
+    b: GraphBuilder,
+    i: usize,
+) -> GraphBuilder
+    requires { ⌜ Sane (now kinds) × Good b (cols (now edges) (now codes) (now names) (now labels)) × (b .item ≡ i + 1) × (b .codes < b .item) × (i < length (now kinds)) × (kindOf (getD (now kinds) i 0) ≡ 3) × StmtRoom (now kinds) i b ⌝ }
+    ensures { λ r. ⌜ ((ss : List ℕ) → length ss ≡ length (now (kinds .entry)) → Opened (now (kinds .entry)) ss i b (cols (now (edges .entry)) (now (codes .entry)) (now (names .entry)) (now (labels .entry))) r (cols (now (edges .exit)) (now (codes .exit)) (now (names .exit)) (now (labels .exit)))) ⌝ }
+{
+    let argument = kinds[i] / 256;
+    let truth = literal_truth(argument % 32);
+    let body = b.nodes;
+    let h = b.repeat_head(edges);
+    let mut s = loop_body(
+        kinds,
+        edges,
+        codes,
+        names,
+        labels,
+        h,
+        argument / 32,
+        body + 2,
+        body + 1,
+    );
+    let end = s.item;
+    s.item = past(end, kinds.len());
+    s.repeat_end(edges, codes, end, body, truth)
+}
+
+// The FOR of item i.
+fn for_loop(
+    kinds: &[u64],
+    edges: &mut [u64],
+    codes: &mut [u64],
+    names: &mut [u64],
+    labels: &mut [u64],
+    b: GraphBuilder,
+    i: usize,
+) -> GraphBuilder
+    requires { ⌜ Sane (now kinds) × Good b (cols (now edges) (now codes) (now names) (now labels)) × (b .item ≡ i + 1) × (b .codes < b .item) × (i < length (now kinds)) × (kindOf (getD (now kinds) i 0) ≡ 4) × StmtRoom (now kinds) i b ⌝ }
+    ensures { λ r. ⌜ ((ss : List ℕ) → length ss ≡ length (now (kinds .entry)) → Opened (now (kinds .entry)) ss i b (cols (now (edges .entry)) (now (codes .entry)) (now (names .entry)) (now (labels .entry))) r (cols (now (edges .exit)) (now (codes .exit)) (now (names .exit)) (now (labels .exit)))) ⌝ }
+{
+    let argument = kinds[i] / 256;
+    let head = b.nodes + 1;
+    let h = b.for_head(edges, codes, i);
+    let mut s = loop_body(
+        kinds,
+        edges,
+        codes,
+        names,
+        labels,
+        h,
+        argument / 32,
+        head + 1,
+        head,
+    );
+    let end = s.item;
+    s.item = past(end, kinds.len());
+    s.loop_end(edges, head, Truth::Unknown)
+}
+
+// The IF of item i.
+fn if_stmt(
+    kinds: &[u64],
+    edges: &mut [u64],
+    codes: &mut [u64],
+    names: &mut [u64],
+    labels: &mut [u64],
+    b: GraphBuilder,
+    i: usize,
+) -> GraphBuilder
+    requires { ⌜ Sane (now kinds) × Good b (cols (now edges) (now codes) (now names) (now labels)) × (b .item ≡ i + 1) × (b .codes < b .item) × (i < length (now kinds)) × (kindOf (getD (now kinds) i 0) ≡ 5) × StmtRoom (now kinds) i b ⌝ }
+    ensures { λ r. ⌜ ((ss : List ℕ) → length ss ≡ length (now (kinds .entry)) → Opened (now (kinds .entry)) ss i b (cols (now (edges .entry)) (now (codes .entry)) (now (names .entry)) (now (labels .entry))) r (cols (now (edges .exit)) (now (codes .exit)) (now (names .exit)) (now (labels .exit)))) ⌝ }
+{
+    let scope_end = kinds[i] / 256 / 32;
+    let test = b.nodes;
+    let h = b.code_and_after(edges, codes, i);
+    let s = scoped_block(kinds, edges, codes, names, labels, h, scope_end);
+    let c = s.close_into(edges, test + 1);
+    let mut r = arms(kinds, edges, codes, names, labels, c, test, test + 1, true);
+    r.cursor = test + 1;
+    r
+}
+
+// The arms from the item that ends the block above on, and the last end. Without ELSE the last test goes on to the join.
+fn arms(
+    kinds: &[u64],
+    edges: &mut [u64],
+    codes: &mut [u64],
+    names: &mut [u64],
+    labels: &mut [u64],
+    b: GraphBuilder,
+    test: usize,
+    join: usize,
+    falls: bool,
+) -> GraphBuilder
+    requires { ⌜ Sane (now kinds) × Good b (cols (now edges) (now codes) (now names) (now labels)) × (b .item ≤ length (now kinds)) × ((b .item < length (now kinds)) → Ender (kindOf (getD (now kinds) (b .item) 0))) × ArmRoom (now kinds) b ⌝ }
+    requires { ⌜ (test < b .nodes) × (join < b .nodes) ⌝ }
+    ensures { λ r. ⌜ ((ss : List ℕ) → length ss ≡ length (now (kinds .entry)) → Chosen (now (kinds .entry)) ss test join falls b (cols (now (edges .entry)) (now (codes .entry)) (now (names .entry)) (now (labels .entry))) r (cols (now (edges .exit)) (now (codes .exit)) (now (names .exit)) (now (labels .exit)))) ⌝ }
+{
+    let at = b.item;
+    let mut t = b;
+    t.item = past(at, kinds.len());
+    if kinds.len() <= at {
+        return t.arms_end(edges, test, join, falls);
+    }
+    let w = kinds[at];
+    let scope_end = w / 256 / 32;
+    if w % 256 == 6 {
+        let n = t.nodes;
+        let h = t.arm_test(edges, codes, at, test);
+        let s = scoped_block(kinds, edges, codes, names, labels, h, scope_end);
+        let c = s.close_into(edges, join);
+        return arms(kinds, edges, codes, names, labels, c, n, join, falls);
+    }
+    if w % 256 == 7 {
+        t.cursor = test;
+        let s = scoped_block(kinds, edges, codes, names, labels, t, scope_end);
+        let c = s.close_into(edges, join);
+        return arms(kinds, edges, codes, names, labels, c, test, join, false);
+    }
+    t.arms_end(edges, test, join, falls)
+}
+
+// The statement at the builder's item.
+fn stmt(
+    kinds: &[u64],
+    edges: &mut [u64],
+    codes: &mut [u64],
+    names: &mut [u64],
+    labels: &mut [u64],
+    b: GraphBuilder,
+) -> GraphBuilder
+    requires { ⌜ Sane (now kinds) × Good b (cols (now edges) (now codes) (now names) (now labels)) × (b .item < length (now kinds)) × (Ender (kindOf (getD (now kinds) (b .item) 0)) → ⊥) × StmtRoom (now kinds) (b .item) b ⌝ }
+    ensures { λ r. ⌜ ((ss : List ℕ) → length ss ≡ length (now (kinds .entry)) → Stepped (now (kinds .entry)) ss b (cols (now (edges .entry)) (now (codes .entry)) (now (names .entry)) (now (labels .entry))) r (cols (now (edges .exit)) (now (codes .exit)) (now (names .exit)) (now (labels .exit)))) ⌝ }
+{
+    let i = b.item;
+    let w = kinds[i];
+    let kind = w % 256;
+    let mut t = b;
+    t.item = i + 1;
+    if kind == 1 {
+        let mut s = scoped_block(kinds, edges, codes, names, labels, t, w / 256 / 32);
+        let end = s.item;
+        s.item = past(end, kinds.len());
+        return s;
+    }
+    if kind == 2 {
+        return while_loop(kinds, edges, codes, names, labels, t, i);
+    }
+    if kind == 3 {
+        return repeat_loop(kinds, edges, codes, names, labels, t, i);
+    }
+    if kind == 4 {
+        return for_loop(kinds, edges, codes, names, labels, t, i);
+    }
+    if kind == 5 {
+        return if_stmt(kinds, edges, codes, names, labels, t, i);
+    }
+    t.simple_stmt(edges, codes, names, labels, w, i)
+}

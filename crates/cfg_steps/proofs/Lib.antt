@@ -1,0 +1,5 @@
+pub mod Ops
+pub mod Parse
+pub mod Scan
+pub mod Simple
+pub mod Loops

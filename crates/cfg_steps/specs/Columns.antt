@@ -1,0 +1,214 @@
+-- The columns of a graph that is being built, and the graph that they stand for. A word holds both successors of a node; a code's word its node and its item; a name's word its node, item and scope end; a label's word its name and node.
+-- Assumes nothing: these are definitions.
+use mathlib.Core.Path.{_≡_}
+use mathlib.Core.Logic.{_⊎_}
+use mathlib.Core.Bool.{Bool, true, false, cond, not, _&&_}
+use mathlib.Core.List.{List, [], _∷_, _++_, map}
+use Prim.Native.Nat.{ℕ, zero, suc, _+_, _-_, _*_, _/_, _%_, _^_, _≤_, _<_}
+use lib.ListN.{length, take, drop, getD, set, replicate}
+use lib.Dec.{eqb, leb}
+use Rattle.flow.specs.declared.Truth.{Truth}
+use Rattle.flow.specs.declared.Truth.the-variants.{False, True, Unknown}
+use Rattle.flow.specs.Sheet.{Item, together, kindOf, argumentOf, scopeEndOf, startOf, oneOf}
+use Rattle.flow.specs.Kinds.{END, UNTIL, NAME, LABEL, BREAK, CONTINUE, RETURN, CALL, EMPTY, opens, closes, raises}
+use Rattle.flow.specs.Tree.{Open, Frame, parse, nothingRead, labelsOf}
+use Rattle.flow.specs.Findings.{onlyIf}
+use Rattle.flow.specs.Graph.{newNodes, withLabels, standAt, labelNode, jump, code, ReturnValue, ReturnEmpty, Error, Graph, Nodes, Codes, Names, Settings, Label, absent}
+use Rattle.cfg_steps.specs.declared.GraphBuilder.{GraphBuilder}
+
+pub record Cols : Type 0 where
+  pub edges : List ℕ
+  pub codes : List ℕ
+  pub names : List ℕ
+  pub labels : List ℕ
+
+abbrev pub cols : List ℕ → List ℕ → List ℕ → List ℕ → Cols
+cols e c n l = record { edges = e; codes = c; names = n; labels = l }
+
+-- the item j of a sheet of the kinds ks and the spans ss, and what is open there
+abbrev pub itemAt : List ℕ → List ℕ → ℕ → Item
+itemAt ks ss j = record { word = getD ks j 0; span = getD ss j 0 }
+
+unfoldable pub openAt : List ℕ → List ℕ → ℕ → Open
+openAt ks ss j = parse (drop j (together ks ss))
+
+-- the halves of a word
+abbrev pub lo : ℕ → ℕ
+lo w = w % 2 ^ 32
+
+abbrev pub hi : ℕ → ℕ
+hi w = w / 2 ^ 32
+
+-- an edge from a to b in a's first free place; none from no node
+unfoldable pub joined : ℕ → ℕ → List ℕ → List ℕ
+joined a b es =
+    cond (eqb a absent) es
+    (cond (eqb (lo (getD es a 0)) absent) (set es a (b + hi (getD es a 0) * 2 ^ 32))
+    (cond (eqb (hi (getD es a 0)) absent) (set es a (lo (getD es a 0) + b * 2 ^ 32)) es))
+
+-- the labels in force, the latest first
+unfoldable pub labelList : ℕ → List ℕ → List Label
+labelList zero ls = []
+labelList (suc k) ls = record { name = lo (getD ls k 0); node = hi (getD ls k 0) } ∷ labelList k ls
+
+-- "LABEL .. (code start remains 0)", and UNTIL's "code start remains 0": an item that closes or is a label gives its node none
+abbrev pub hasStart : ℕ → Bool
+hasStart w = not (oneOf (kindOf w) (END ∷ UNTIL ∷ LABEL ∷ []))
+
+-- the code starts that code words give, by the sheet's kinds and spans
+unfoldable pub painted : List ℕ → List ℕ → List ℕ → List ℕ → List ℕ
+painted ks ss [] ps = ps
+painted ks ss (c ∷ cs) ps = painted ks ss cs (cond (hasStart (getD ks (hi c) 0)) (set ps (lo c) (startOf (getD ss (hi c) 0))) ps)
+
+-- a name's word: node + 2^16 × item + 2^32 × scope end, where 65,535 stands for no node
+abbrev pub nameNode : ℕ → ℕ
+nameNode w = cond (eqb (w % 2 ^ 16) 65535) absent (w % 2 ^ 16)
+
+abbrev pub nameItem : ℕ → ℕ
+nameItem w = w / 2 ^ 16 % 2 ^ 16
+
+unfoldable pub graphOf : List ℕ → List ℕ → GraphBuilder → Cols → Graph
+graphOf ks ss b x = record {
+  nodes = record {
+    first = map lo (take (b .nodes) (x .edges));
+    second = map hi (take (b .nodes) (x .edges));
+    start = painted ks ss (take (b .codes) (x .codes)) (replicate (b .nodes) 0);
+  };
+  codes = record {
+    span = map (λ c. getD ss (hi c) 0) (take (b .codes) (x .codes));
+    node = map lo (take (b .codes) (x .codes));
+  };
+  names = record {
+    span = map (λ w. getD ss (nameItem w) 0) (take (b .names) (x .names));
+    node = map nameNode (take (b .names) (x .names));
+    scopeEnd = map hi (take (b .names) (x .names));
+  };
+  current = b .cursor;
+}
+
+unfoldable pub settingsOf : GraphBuilder → Cols → Settings
+settingsOf b x = record { breakTo = b .«break_target»; continueTo = b .«continue_target»; scopeEnd = b .«scope_end»; labels = labelList (b .labels) (x .labels) }
+
+-- the columns are wide enough, and all that they hold are nodes
+pub record Good (b : GraphBuilder) (x : Cols) : Type 0 where
+  pub wideEdges : 1600 ≤ length (x .edges)
+  pub wideCodes : 1024 ≤ length (x .codes)
+  pub wideNames : 1024 ≤ length (x .names)
+  pub wideLabels : 1600 ≤ length (x .labels)
+  pub items : b .item ≤ 1024
+  pub nodes : b .nodes ≤ 1600
+  pub exits : 6 ≤ b .nodes
+  pub codes : b .codes ≤ b .item
+  pub names : b .names ≤ b .item
+  pub labels : b .labels ≤ b .nodes
+  pub cursor : (b .cursor < b .nodes) ⊎ (b .cursor ≡ absent)
+  pub breakTarget : b .«break_target» < b .nodes
+  pub continueTarget : b .«continue_target» < b .nodes
+  pub scopeEnd : b .«scope_end» < 2 ^ 32
+  pub codeNodes : (k : ℕ) → k < b .codes → lo (getD (x .codes) k 0) < b .nodes
+  pub labelNodes : (k : ℕ) → k < b .labels → hi (getD (x .labels) k 0) < b .nodes
+
+-- the current node, if there is one, has its place among the edges
+pub record Standing (b : GraphBuilder) (es : List ℕ) : Type 0 where
+  pub cursor : (b .cursor < b .nodes) ⊎ (b .cursor ≡ absent)
+  pub nodes : b .nodes ≤ length es
+  pub few : b .nodes ≤ 1600
+
+-- counts grow, lengths stay, and so does what lies past the counts and the labels that were in force
+pub record Grown (b : GraphBuilder) (x : Cols) (r : GraphBuilder) (y : Cols) : Type 0 where
+  pub nodes : b .nodes ≤ r .nodes
+  pub codes : b .codes ≤ r .codes
+  pub names : b .names ≤ r .names
+  pub edgesPast : drop (r .nodes) (y .edges) ≡ drop (r .nodes) (x .edges)
+  pub codesPast : drop (r .codes) (y .codes) ≡ drop (r .codes) (x .codes)
+  pub namesPast : drop (r .names) (y .names) ≡ drop (r .names) (x .names)
+  pub labelsPast : drop (r .nodes) (y .labels) ≡ drop (r .nodes) (x .labels)
+  pub labelsKept : take (b .labels) (y .labels) ≡ take (b .labels) (x .labels)
+  pub edgesLength : length (y .edges) ≡ length (x .edges)
+  pub codesLength : length (y .codes) ≡ length (x .codes)
+  pub namesLength : length (y .names) ≡ length (x .names)
+  pub labelsLength : length (y .labels) ≡ length (x .labels)
+
+-- one operation, with no item read: n nodes more, and the graph that f makes of the graph before
+pub record Did (ks : List ℕ) (f : List ℕ → Graph → Graph) (n : ℕ) (b : GraphBuilder) (x : Cols) (r : GraphBuilder) (y : Cols) : Type 0 where
+  pub good : Good r y
+  pub grown : Grown b x r y
+  pub item : r .item ≡ b .item
+  pub nodes : r .nodes ≡ b .nodes + n
+  pub labels : r .labels ≡ b .labels
+  pub settings : settingsOf r y ≡ settingsOf b x
+  pub built : (ss : List ℕ) → graphOf ks ss r y ≡ f ss (graphOf ks ss b x)
+
+-- ---- the labels standing directly in a block, found by a scan that counts how deep it is
+
+-- the block d blocks out from the innermost
+abbrev pub frameAt : ℕ → Open → Frame
+frameAt zero o = o .top
+frameAt (suc d) o = getD (o .below) d nothingRead
+
+-- the label that an item is, where it stands directly in the block
+unfoldable pub labelsHere : ℕ → ℕ → List ℕ
+labelsHere w d = onlyIf (eqb d 0 && (eqb (kindOf w) LABEL && not (eqb (argumentOf w) 0))) (argumentOf w ∷ [])
+
+-- a kind that ends the block
+unfoldable pub endsAt : ℕ → ℕ → Bool
+endsAt k d = eqb d 0 && (leb 6 k && leb k 9)
+
+unfoldable pub depthAfter : ℕ → ℕ → ℕ
+depthAfter k d = cond (opens k) (d + 1) (cond (closes k) (d - 1) d)
+
+-- a label's name fits its word
+abbrev pub LabelsFit : List ℕ → Type 0
+LabelsFit ks = (i : ℕ) → i < length ks → kindOf (getD ks i 0) ≡ 12 → argumentOf (getD ks i 0) < 2 ^ 32
+
+-- the names as' have nodes and are in force
+pub record Entered (ks as' : List ℕ) (b : GraphBuilder) (x : Cols) (r : GraphBuilder) (y : Cols) : Type 0 where
+  pub good : Good r y
+  pub grown : Grown b x r y
+  pub item : r .item ≡ b .item
+  pub codes : r .codes ≡ b .codes
+  pub names : r .names ≡ b .names
+  pub cursor : r .cursor ≡ b .cursor
+  pub scopeEnd : r .«scope_end» ≡ b .«scope_end»
+  pub breakTarget : r .«break_target» ≡ b .«break_target»
+  pub continueTarget : r .«continue_target» ≡ b .«continue_target»
+  pub nodes : r .nodes ≡ b .nodes + length as'
+  pub labels : r .labels ≡ b .labels + length as'
+  pub inForce : labelList (r .labels) (y .labels) ≡ withLabels as' (b .nodes) (labelList (b .labels) (x .labels))
+  pub built : (ss : List ℕ) → graphOf ks ss r y ≡ newNodes as' (graphOf ks ss b x)
+
+-- a scan on its way: as' are found, and the rest of the block's labels are still to come d blocks out
+pub record Scanning (ks ss : List ℕ) (b : GraphBuilder) (x : Cols) (d j : ℕ) (t : GraphBuilder) (y : Cols) : Type 0 where
+  pub found : List ℕ
+  pub entered : Entered ks found b x t y
+  pub rest : found ++ labelsOf (frameAt d (openAt ks ss j) .body) ≡ labelsOf (openAt ks ss (b .item) .top .body)
+
+-- ---- statements of one item
+
+-- "LABEL records its span at its label's node and moves there. Name 0 does nothing."
+unfoldable pub labelled : ℕ → List Label → ℕ → Graph → Graph
+labelled a ls s g = cond (eqb a 0) g (standAt (labelNode a ls) s g)
+
+-- the kinds whose statement asks for no label, by the targets of BREAK and CONTINUE
+unfoldable pub coded : ℕ → ℕ → ℕ → ℕ → ℕ → Graph → Graph
+coded k a breakTo continueTo s g =
+    cond (eqb k BREAK) (jump s breakTo g)
+    (cond (eqb k CONTINUE) (jump s continueTo g)
+    (cond (eqb k RETURN) (jump s (cond (eqb a 1) ReturnValue ReturnEmpty) g)
+    (cond (eqb k CALL && raises a) (jump s Error g) (code s g))))
+
+-- how many nodes a statement of one item makes; a label's node is made as its block is entered
+abbrev pub simpleMade : ℕ → ℕ
+simpleMade k = cond (oneOf k (NAME ∷ LABEL ∷ EMPTY ∷ [])) 0 1
+
+-- ---- loops
+
+abbrev pub mayFail : Truth → Bool
+mayFail False = true
+mayFail True = false
+mayFail Unknown = true
+
+abbrev pub mayHold : Truth → Bool
+mayHold False = false
+mayHold True = true
+mayHold Unknown = true

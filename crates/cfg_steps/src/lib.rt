@@ -1,0 +1,546 @@
+// What the builders do to a graph, one step each. While a graph is built, a word holds both successors of a node, a code's word its node and
+// its item, a name's word its node, item and scope end, and a label's word its name and node.
+ghost use mathlib.Core.Path.{_≡_};
+ghost use mathlib.Core.Bool.{true, false, cond};
+ghost use lib.Dec.{eqb};
+ghost use mathlib.Core.List.{List, [], _∷_};
+ghost use Prim.Native.Nat.{ℕ, _+_, _-_, _≤_, _<_, _^_};
+ghost use lib.ListN.{length, getD, drop};
+ghost use Rattle.flow.specs.Sheet.{kindOf, argumentOf};
+ghost use Rattle.flow.specs.Kinds.{literalTruth};
+ghost use Rattle.flow.specs.Tree.{labelsOf};
+ghost use mathlib.Core.Logic.{_⊎_};
+ghost use Rattle.flow.specs.Graph.{labelNode, newNode, advanceTo, code, closeInto, jump, recordCode, declare, simpleStmt, orBreak, connect, moveTo, enterWhen, unlessTrue, unlessFalse};
+ghost use Rattle.cfg_steps.specs.Columns.{cols, joined, labelList, hasStart, settingsOf, Good, Standing, Did, openAt, labelsHere, endsAt, depthAfter, Entered, LabelsFit, labelled, coded, simpleMade, mayFail, mayHold};
+use flow::Found;
+use flow::Truth;
+
+// The builder's place in the sheet, its counts and its settings.
+pub struct GraphBuilder {
+    // The next item.
+    pub item: usize,
+    pub nodes: usize,
+    pub codes: usize,
+    pub names: usize,
+    pub labels: usize,
+    // The node that the next code runs after, or 4294967295 right after a jump.
+    pub cursor: usize,
+    pub scope_end: u64,
+    pub break_target: usize,
+    pub continue_target: usize,
+}
+
+// What a condition code is known to be.
+pub fn literal_truth(condition: u64) -> Truth
+    ensures { λ r. ⌜ r ≡ literalTruth condition ⌝ }
+{
+    if condition <= 1 {
+        return Truth::False;
+    }
+    if condition <= 8 {
+        return Truth::True;
+    }
+    Truth::Unknown
+}
+
+// An edge, in the first free place of the node that it leaves; none right after a jump.
+pub fn connect(edges: &mut [u64], from: usize, to: usize)
+    requires { ⌜ (from < length (now edges)) ⊎ (from ≡ 4294967295) ⌝ }
+    requires { ⌜ to < 2 ^ 32 ⌝ }
+    ensures { λ _. ⌜ now (edges .exit) ≡ joined from to (now (edges .entry)) ⌝ }
+{
+    if from == 4294967295 {
+        return;
+    }
+    let w = edges[from];
+    let first = w % 0x1_0000_0000;
+    let second = w / 0x1_0000_0000;
+    if first == 4294967295 {
+        edges[from] = to as u64 + second * 0x1_0000_0000;
+    } else if second == 4294967295 {
+        edges[from] = first + to as u64 * 0x1_0000_0000;
+    }
+}
+
+// The node of the innermost, then latest, label of a name, among the first `count` labels.
+pub fn label_node(labels: &[u64], count: usize, name: u64) -> Found
+    requires { ⌜ count ≤ length (now labels) ⌝ }
+    ensures { λ r. ⌜ r ≡ labelNode name (labelList count (now (labels .entry))) ⌝ }
+{
+    let mut k = count;
+    while 0 < k {
+        k -= 1;
+        let w = labels[k];
+        if name == w % 0x1_0000_0000 {
+            return Found::At((w / 0x1_0000_0000) as usize);
+        }
+    }
+    Found::Nothing
+}
+
+impl GraphBuilder {
+    // A node with no successor.
+    pub fn new_node(mut self, edges: &mut [u64]) -> GraphBuilder
+        requires { ⌜ (self .nodes < length (now edges)) × (self .nodes < 1600) ⌝ }
+        ensures { λ r. ⌜ ((ks c n l : List ℕ) → Good self (cols (now (edges .entry)) c n l) → Did ks (λ ss. newNode) 1 self (cols (now (edges .entry)) c n l) r (cols (now (edges .exit)) c n l)) ⌝ }
+    {
+        let n = self.nodes;
+        edges[n] = 18446744073709551615;
+        self.nodes = n + 1;
+        self
+    }
+
+    // An edge to a node, which becomes current.
+    pub fn advance_to(mut self, edges: &mut [u64], node: usize) -> GraphBuilder
+        requires { ⌜ Standing self (now edges) ⌝ }
+        requires { ⌜ node < self .nodes ⌝ }
+        ensures { λ r. ⌜ ((ks c n l : List ℕ) → Good self (cols (now (edges .entry)) c n l) → Did ks (λ ss. advanceTo node) 0 self (cols (now (edges .entry)) c n l) r (cols (now (edges .exit)) c n l)) ⌝ }
+    {
+        let from = self.cursor;
+        connect(edges, from, node);
+        self.cursor = node;
+        self
+    }
+
+    // An edge to a node, after which nothing is current.
+    pub fn close_into(mut self, edges: &mut [u64], target: usize) -> GraphBuilder
+        requires { ⌜ Standing self (now edges) ⌝ }
+        requires { ⌜ target < self .nodes ⌝ }
+        ensures { λ r. ⌜ ((ks c n l : List ℕ) → Good self (cols (now (edges .entry)) c n l) → Did ks (λ ss. closeInto target) 0 self (cols (now (edges .entry)) c n l) r (cols (now (edges .exit)) c n l)) ⌝ }
+    {
+        let from = self.cursor;
+        connect(edges, from, target);
+        self.cursor = 4294967295;
+        self
+    }
+
+    // The span of item i recorded at a node.
+    pub fn record_code(mut self, codes: &mut [u64], i: usize, node: usize) -> GraphBuilder
+        requires { ⌜ (self .codes < length (now codes)) × (self .codes < self .item) ⌝ }
+        requires { ⌜ (i < 1024) × (node < self .nodes) × (self .nodes ≤ 1600) ⌝ }
+        ensures { λ r. ⌜ ((ks e n l : List ℕ) → Good self (cols e (now (codes .entry)) n l) → hasStart (getD ks i 0) ≡ false → Did ks (λ ss. recordCode (getD ss i 0) node) 0 self (cols e (now (codes .entry)) n l) r (cols e (now (codes .exit)) n l)) ⌝ }
+        ensures { λ r. ⌜ (r .nodes ≡ self .nodes) × (r .cursor ≡ self .cursor) ⌝ }
+    {
+        let k = self.codes;
+        codes[k] = node as u64 + i as u64 * 0x1_0000_0000;
+        self.codes = k + 1;
+        self
+    }
+
+    // A new node for the code of item i, which becomes current.
+    pub fn code(mut self, edges: &mut [u64], codes: &mut [u64], i: usize) -> GraphBuilder
+        requires { ⌜ Standing self (now edges) ⌝ }
+        requires { ⌜ (self .nodes < length (now edges)) × (self .nodes < 1600) ⌝ }
+        requires { ⌜ (self .codes < length (now codes)) × (self .codes < self .item) × (i < 1024) ⌝ }
+        ensures { λ r. ⌜ ((ks n l : List ℕ) → Good self (cols (now (edges .entry)) (now (codes .entry)) n l) → hasStart (getD ks i 0) ≡ true → Did ks (λ ss. code (getD ss i 0)) 1 self (cols (now (edges .entry)) (now (codes .entry)) n l) r (cols (now (edges .exit)) (now (codes .exit)) n l)) ⌝ }
+        ensures { λ r. ⌜ Standing r (now (edges .exit)) × (r .nodes ≡ self .nodes + 1) ⌝ }
+    {
+        let n = self.nodes;
+        let k = self.codes;
+        codes[k] = n as u64 + i as u64 * 0x1_0000_0000;
+        edges[n] = 18446744073709551615;
+        self.codes = k + 1;
+        self.nodes = n + 1;
+        let from = self.cursor;
+        connect(edges, from, n);
+        self.cursor = n;
+        self
+    }
+
+    // Code that goes on to a target.
+    pub fn jump(self, edges: &mut [u64], codes: &mut [u64], i: usize, target: usize) -> GraphBuilder
+        requires { ⌜ Standing self (now edges) ⌝ }
+        requires { ⌜ (self .nodes < length (now edges)) × (self .nodes < 1600) × (target < self .nodes) ⌝ }
+        requires { ⌜ (self .codes < length (now codes)) × (self .codes < self .item) × (i < 1024) ⌝ }
+        ensures { λ r. ⌜ ((ks n l : List ℕ) → Good self (cols (now (edges .entry)) (now (codes .entry)) n l) → hasStart (getD ks i 0) ≡ true → Did ks (λ ss. jump (getD ss i 0) target) 1 self (cols (now (edges .entry)) (now (codes .entry)) n l) r (cols (now (edges .exit)) (now (codes .exit)) n l)) ⌝ }
+    {
+        let t = self.code(edges, codes, i);
+        t.close_into(edges, target)
+    }
+
+    // The name of item i, declared by the code that is current.
+    pub fn declare(mut self, names: &mut [u64], i: usize) -> GraphBuilder
+        requires { ⌜ (self .names < length (now names)) × (self .names < self .item) ⌝ }
+        requires { ⌜ (i < 1024) × (self .«scope_end» < 2 ^ 32) ⌝ }
+        ensures { λ r. ⌜ ((ks e c l : List ℕ) → Good self (cols e c (now (names .entry)) l) → Did ks (λ ss. declare (getD ss i 0) (settingsOf self (cols e c (now (names .entry)) l))) 0 self (cols e c (now (names .entry)) l) r (cols e c (now (names .exit)) l)) ⌝ }
+    {
+        let m = self.names;
+        let here = self.cursor % 65536;
+        names[m] = here as u64 + i as u64 * 65536 + self.scope_end * 0x1_0000_0000;
+        self.names = m + 1;
+        self
+    }
+}
+
+// Whether an item of a kind ends the block that a scan started in.
+pub fn ends_at(kind: u64, depth: usize) -> bool
+    ensures { λ r. ⌜ r ≡ endsAt kind depth ⌝ }
+{
+    if depth != 0 {
+        return false;
+    }
+    if kind < 6 {
+        return false;
+    }
+    kind <= 9
+}
+
+// How deep a scan is past an item of a kind.
+fn depth_after(kind: u64, depth: usize) -> usize
+    requires { ⌜ depth < 1024 ⌝ }
+    ensures { λ r. ⌜ r ≡ depthAfter kind depth ⌝ }
+{
+    if kind == 0 {
+        return depth;
+    }
+    if kind <= 5 {
+        return depth + 1;
+    }
+    if kind == 8 {
+        return less(depth);
+    }
+    if kind == 9 {
+        return less(depth);
+    }
+    depth
+}
+
+// One less, and 0 for 0.
+fn less(depth: usize) -> usize
+    ensures { λ r. ⌜ r ≡ depth - 1 ⌝ }
+{
+    if depth == 0 {
+        return 0;
+    }
+    depth - 1
+}
+
+impl GraphBuilder {
+    // A label's node, and the label in force.
+    fn new_label(mut self, edges: &mut [u64], labels: &mut [u64], name: u64) -> GraphBuilder
+        requires { ⌜ ((c n : List ℕ) × Good self (cols (now edges) c n (now labels))) ⌝ }
+        requires { ⌜ (self .nodes < 1600) × (name < 2 ^ 32) ⌝ }
+        ensures { λ r. ⌜ ((ks c n : List ℕ) → Good self (cols (now (edges .entry)) c n (now (labels .entry))) → Entered ks (name ∷ []) self (cols (now (edges .entry)) c n (now (labels .entry))) r (cols (now (edges .exit)) c n (now (labels .exit)))) ⌝ }
+    {
+        let n = self.nodes;
+        let k = self.labels;
+        labels[k] = name + n as u64 * 0x1_0000_0000;
+        edges[n] = 18446744073709551615;
+        self.labels = k + 1;
+        self.nodes = n + 1;
+        self
+    }
+
+    // The same, where an item is a named label that stands directly in the block.
+    fn label_here(self, edges: &mut [u64], labels: &mut [u64], w: u64, depth: usize) -> GraphBuilder
+        requires { ⌜ ((c n : List ℕ) × Good self (cols (now edges) c n (now labels))) ⌝ }
+        requires { ⌜ (self .nodes + length (labelsHere w depth) ≤ 1600) × ((kindOf w ≡ 12) → argumentOf w < 2 ^ 32) ⌝ }
+        ensures { λ r. ⌜ ((ks c n : List ℕ) → Good self (cols (now (edges .entry)) c n (now (labels .entry))) → Entered ks (labelsHere w depth) self (cols (now (edges .entry)) c n (now (labels .entry))) r (cols (now (edges .exit)) c n (now (labels .exit)))) ⌝ }
+    {
+        if depth != 0 {
+            return self;
+        }
+        if w % 256 != 12 {
+            return self;
+        }
+        let name = w / 256;
+        if name == 0 {
+            return self;
+        }
+        self.new_label(edges, labels, name)
+    }
+}
+
+impl GraphBuilder {
+    // Each named label standing directly in the block that starts at the builder's item gets a node, in order.
+    pub fn enter_block(self, kinds: &[u64], edges: &mut [u64], labels: &mut [u64]) -> GraphBuilder
+        requires { ⌜ (self .item ≤ length (now kinds)) × (length (now kinds) ≤ 1024) × LabelsFit (now kinds) ⌝ }
+        requires { ⌜ ((c n : List ℕ) × Good self (cols (now edges) c n (now labels))) ⌝ }
+        requires { ⌜ ((ss : List ℕ) → length ss ≡ length (now kinds) → self .nodes + length (labelsOf (openAt (now kinds) ss (self .item) .top .body)) ≤ 1600) ⌝ }
+        ensures { λ r. ⌜ ((ss c n : List ℕ) → length ss ≡ length (now (kinds .entry)) → Good self (cols (now (edges .entry)) c n (now (labels .entry))) → Entered (now (kinds .entry)) (labelsOf (openAt (now (kinds .entry)) ss (self .item) .top .body)) self (cols (now (edges .entry)) c n (now (labels .entry))) r (cols (now (edges .exit)) c n (now (labels .exit)))) ⌝ }
+    {
+        let mut b = self;
+        let mut depth = 0;
+        let mut j = b.item;
+        while j < kinds.len() {
+            let w = kinds[j];
+            let kind = w % 256;
+            if ends_at(kind, depth) {
+                return b;
+            }
+            b = b.label_here(edges, labels, w, depth);
+            depth = depth_after(kind, depth);
+            j += 1;
+        }
+        b
+    }
+}
+
+impl GraphBuilder {
+    // A label's span, at its node, which becomes current. Name 0 does nothing.
+    fn label_stmt(
+        self,
+        edges: &mut [u64],
+        codes: &mut [u64],
+        labels: &[u64],
+        name: u64,
+        i: usize,
+    ) -> GraphBuilder
+        requires { ⌜ ((n : List ℕ) × Good self (cols (now edges) (now codes) n (now labels))) ⌝ }
+        requires { ⌜ (self .codes < self .item) × (i < 1024) ⌝ }
+        ensures { λ r. ⌜ ((ks n : List ℕ) → Good self (cols (now (edges .entry)) (now (codes .entry)) n (now (labels .entry))) → hasStart (getD ks i 0) ≡ false → Did ks (λ ss. labelled name (labelList (self .labels) (now (labels .entry))) (getD ss i 0)) 0 self (cols (now (edges .entry)) (now (codes .entry)) n (now (labels .entry))) r (cols (now (edges .exit)) (now (codes .exit)) n (now (labels .entry)))) ⌝ }
+    {
+        if name == 0 {
+            return self;
+        }
+        let count = self.labels;
+        let Found::At(node) = label_node(labels, count, name) else {
+            return self;
+        };
+        let t = self.record_code(codes, i, node);
+        t.advance_to(edges, node)
+    }
+
+    // A jump to a label, or to the exit Break where none is visible.
+    fn goto_stmt(
+        self,
+        edges: &mut [u64],
+        codes: &mut [u64],
+        labels: &[u64],
+        name: u64,
+        i: usize,
+    ) -> GraphBuilder
+        requires { ⌜ ((n : List ℕ) × Good self (cols (now edges) (now codes) n (now labels))) ⌝ }
+        requires { ⌜ (self .nodes < 1600) × (self .codes < self .item) × (i < 1024) ⌝ }
+        ensures { λ r. ⌜ ((ks n : List ℕ) → Good self (cols (now (edges .entry)) (now (codes .entry)) n (now (labels .entry))) → hasStart (getD ks i 0) ≡ true → Did ks (λ ss. jump (getD ss i 0) (orBreak (labelNode name (labelList (self .labels) (now (labels .entry)))))) 1 self (cols (now (edges .entry)) (now (codes .entry)) n (now (labels .entry))) r (cols (now (edges .exit)) (now (codes .exit)) n (now (labels .entry)))) ⌝ }
+    {
+        let count = self.labels;
+        let Found::At(node) = label_node(labels, count, name) else {
+            return self.jump(edges, codes, i, 1);
+        };
+        self.jump(edges, codes, i, node)
+    }
+
+    // Code with no label: a jump by its kind, or code that goes on.
+    fn code_stmt(
+        self,
+        edges: &mut [u64],
+        codes: &mut [u64],
+        kind: u64,
+        argument: u64,
+        i: usize,
+    ) -> GraphBuilder
+        requires { ⌜ ((n l : List ℕ) × Good self (cols (now edges) (now codes) n l)) ⌝ }
+        requires { ⌜ (self .nodes < 1600) × (self .codes < self .item) × (i < 1024) ⌝ }
+        ensures { λ r. ⌜ ((ks n l : List ℕ) → Good self (cols (now (edges .entry)) (now (codes .entry)) n l) → hasStart (getD ks i 0) ≡ true → Did ks (λ ss. coded kind argument (self .«break_target») (self .«continue_target») (getD ss i 0)) 1 self (cols (now (edges .entry)) (now (codes .entry)) n l) r (cols (now (edges .exit)) (now (codes .exit)) n l)) ⌝ }
+    {
+        if kind == 14 {
+            let after = self.break_target;
+            return self.jump(edges, codes, i, after);
+        }
+        if kind == 15 {
+            let next = self.continue_target;
+            return self.jump(edges, codes, i, next);
+        }
+        if kind == 16 {
+            let exit = return_exit(argument);
+            return self.jump(edges, codes, i, exit);
+        }
+        if kind == 17 {
+            if argument == 6 {
+                return self.jump(edges, codes, i, 4);
+            }
+            return self.code(edges, codes, i);
+        }
+        self.code(edges, codes, i)
+    }
+
+    // A statement of the one item i, whose word is w.
+    pub fn simple_stmt(
+        self,
+        edges: &mut [u64],
+        codes: &mut [u64],
+        names: &mut [u64],
+        labels: &[u64],
+        w: u64,
+        i: usize,
+    ) -> GraphBuilder
+        requires { ⌜ Good self (cols (now edges) (now codes) (now names) (now labels)) ⌝ }
+        requires { ⌜ (self .nodes + simpleMade (kindOf w) ≤ 1600) × (self .codes < self .item) × (self .names < self .item) × (i < 1024) × (kindOf w ≡ 8 → ⊥) × (kindOf w ≡ 9 → ⊥) ⌝ }
+        ensures { λ r. ⌜ ((ks : List ℕ) → getD ks i 0 ≡ w → Did ks (λ ss. simpleStmt (kindOf w) (argumentOf w) (getD ss i 0) (settingsOf self (cols (now (edges .entry)) (now (codes .entry)) (now (names .entry)) (now (labels .entry))))) (simpleMade (kindOf w)) self (cols (now (edges .entry)) (now (codes .entry)) (now (names .entry)) (now (labels .entry))) r (cols (now (edges .exit)) (now (codes .exit)) (now (names .exit)) (now (labels .entry)))) ⌝ }
+    {
+        let kind = w % 256;
+        let argument = w / 256;
+        if kind == 11 {
+            return self.declare(names, i);
+        }
+        if kind == 12 {
+            return self.label_stmt(edges, codes, labels, argument, i);
+        }
+        if kind == 13 {
+            return self.goto_stmt(edges, codes, labels, argument, i);
+        }
+        if kind == 19 {
+            return self;
+        }
+        self.code_stmt(edges, codes, kind, argument, i)
+    }
+}
+
+// The exit of a RETURN: with values, or without.
+fn return_exit(argument: u64) -> usize
+    ensures { λ r. ⌜ (r ≡ cond (eqb argument 1) 2 3) × (r < 6) ⌝ }
+{
+    if argument == 1 {
+        return 2;
+    }
+    3
+}
+
+// Whether a condition may fail, and whether it may hold.
+fn may_fail(truth: Truth) -> bool
+    ensures { λ r. ⌜ r ≡ mayFail truth ⌝ }
+{
+    match truth {
+        Truth::False => true,
+        Truth::True => false,
+        Truth::Unknown => true,
+    }
+}
+
+fn may_hold(truth: Truth) -> bool
+    ensures { λ r. ⌜ r ≡ mayHold truth ⌝ }
+{
+    match truth {
+        Truth::False => false,
+        Truth::True => true,
+        Truth::Unknown => true,
+    }
+}
+
+// An edge where it is wanted.
+fn connect_if(edges: &mut [u64], from: usize, to: usize, wanted: bool)
+    requires { ⌜ (from < length (now edges)) × (to < 2 ^ 32) ⌝ }
+    ensures { λ _. ⌜ now (edges .exit) ≡ cond wanted (joined from to (now (edges .entry))) (now (edges .entry)) ⌝ }
+{
+    if wanted {
+        connect(edges, from, to);
+    }
+}
+
+impl GraphBuilder {
+    // A code node, and a node past what it opens.
+    pub fn code_and_after(self, edges: &mut [u64], codes: &mut [u64], i: usize) -> GraphBuilder
+        requires { ⌜ ((n l : List ℕ) × Good self (cols (now edges) (now codes) n l)) ⌝ }
+        requires { ⌜ (self .nodes + 2 ≤ 1600) × (self .codes < self .item) × (i < 1024) ⌝ }
+        ensures { λ r. ⌜ ((ks n l : List ℕ) → Good self (cols (now (edges .entry)) (now (codes .entry)) n l) → hasStart (getD ks i 0) ≡ true → Did ks (λ ss g. newNode (code (getD ss i 0) g)) 2 self (cols (now (edges .entry)) (now (codes .entry)) n l) r (cols (now (edges .exit)) (now (codes .exit)) n l)) ⌝ }
+    {
+        let c = self.code(edges, codes, i);
+        c.new_node(edges)
+    }
+
+    // WHILE's head and the node after it; a false condition enters the body with nothing current.
+    pub fn while_head(
+        self,
+        edges: &mut [u64],
+        codes: &mut [u64],
+        i: usize,
+        truth: Truth,
+    ) -> GraphBuilder
+        requires { ⌜ ((n l : List ℕ) × Good self (cols (now edges) (now codes) n l)) ⌝ }
+        requires { ⌜ (self .nodes + 2 ≤ 1600) × (self .codes < self .item) × (i < 1024) ⌝ }
+        ensures { λ r. ⌜ ((ks n l : List ℕ) → Good self (cols (now (edges .entry)) (now (codes .entry)) n l) → hasStart (getD ks i 0) ≡ true → Did ks (λ ss g. enterWhen truth (newNode (code (getD ss i 0) g))) 2 self (cols (now (edges .entry)) (now (codes .entry)) n l) r (cols (now (edges .exit)) (now (codes .exit)) n l)) ⌝ }
+    {
+        let mut h = self.code_and_after(edges, codes, i);
+        if may_hold(truth) {
+            return h;
+        }
+        h.cursor = 4294967295;
+        h
+    }
+
+    // REPEAT's nodes: its body, which is moved to, its condition, and the node after it.
+    pub fn repeat_head(self, edges: &mut [u64]) -> GraphBuilder
+        requires { ⌜ ((c n l : List ℕ) × Good self (cols (now edges) c n l)) ⌝ }
+        requires { ⌜ self .nodes + 3 ≤ 1600 ⌝ }
+        ensures { λ r. ⌜ ((ks c n l : List ℕ) → Good self (cols (now (edges .entry)) c n l) → Did ks (λ ss g. newNode (newNode (advanceTo (self .nodes) (newNode g)))) 3 self (cols (now (edges .entry)) c n l) r (cols (now (edges .exit)) c n l)) ⌝ }
+    {
+        let body = self.nodes;
+        let b = self.new_node(edges);
+        let a = b.advance_to(edges, body);
+        let c = a.new_node(edges);
+        c.new_node(edges)
+    }
+
+    // FOR's code, its head, which is moved to, and the node after it.
+    pub fn for_head(self, edges: &mut [u64], codes: &mut [u64], i: usize) -> GraphBuilder
+        requires { ⌜ ((n l : List ℕ) × Good self (cols (now edges) (now codes) n l)) ⌝ }
+        requires { ⌜ (self .nodes + 3 ≤ 1600) × (self .codes < self .item) × (i < 1024) ⌝ }
+        ensures { λ r. ⌜ ((ks n l : List ℕ) → Good self (cols (now (edges .entry)) (now (codes .entry)) n l) → hasStart (getD ks i 0) ≡ true → Did ks (λ ss g. newNode (advanceTo (self .nodes + 1) (newNode (code (getD ss i 0) g)))) 3 self (cols (now (edges .entry)) (now (codes .entry)) n l) r (cols (now (edges .exit)) (now (codes .exit)) n l)) ⌝ }
+    {
+        let head = self.nodes + 1;
+        let h = self.code_and_after(edges, codes, i);
+        let a = h.advance_to(edges, head);
+        a.new_node(edges)
+    }
+
+    // Past a loop: its head goes on to the node after it where the condition may fail, and that is current.
+    pub fn loop_end(mut self, edges: &mut [u64], head: usize, truth: Truth) -> GraphBuilder
+        requires { ⌜ ((c n l : List ℕ) × Good self (cols (now edges) c n l)) ⌝ }
+        requires { ⌜ head + 1 < self .nodes ⌝ }
+        ensures { λ r. ⌜ ((ks c n l : List ℕ) → Good self (cols (now (edges .entry)) c n l) → Did ks (λ ss g. moveTo (head + 1) (unlessTrue truth (connect head (head + 1)) g)) 0 self (cols (now (edges .entry)) c n l) r (cols (now (edges .exit)) c n l)) ⌝ }
+    {
+        let fails = may_fail(truth);
+        connect_if(edges, head, head + 1, fails);
+        self.cursor = head + 1;
+        self
+    }
+
+    // Past a REPEAT: the span of item j at its condition, which goes back to the body and on to the node after.
+    pub fn repeat_end(
+        self,
+        edges: &mut [u64],
+        codes: &mut [u64],
+        j: usize,
+        body: usize,
+        truth: Truth,
+    ) -> GraphBuilder
+        requires { ⌜ ((n l : List ℕ) × Good self (cols (now edges) (now codes) n l)) ⌝ }
+        requires { ⌜ (body + 2 < self .nodes) × (self .codes < self .item) × (j < 1024) ⌝ }
+        ensures { λ r. ⌜ ((ks n l : List ℕ) → Good self (cols (now (edges .entry)) (now (codes .entry)) n l) → hasStart (getD ks j 0) ≡ false → Did ks (λ ss g. moveTo (body + 2) (unlessFalse truth (connect (body + 1) (body + 2)) (unlessTrue truth (connect (body + 1) body) (recordCode (getD ss j 0) (body + 1) g)))) 0 self (cols (now (edges .entry)) (now (codes .entry)) n l) r (cols (now (edges .exit)) (now (codes .exit)) n l)) ⌝ }
+    {
+        let mut t = self.record_code(codes, j, body + 1);
+        let fails = may_fail(truth);
+        connect_if(edges, body + 1, body, fails);
+        let holds = may_hold(truth);
+        connect_if(edges, body + 1, body + 2, holds);
+        t.cursor = body + 2;
+        t
+    }
+
+    // ELSEIF's test, the code of item i, reached from the test before.
+    pub fn arm_test(
+        mut self,
+        edges: &mut [u64],
+        codes: &mut [u64],
+        i: usize,
+        test: usize,
+    ) -> GraphBuilder
+        requires { ⌜ ((n l : List ℕ) × Good self (cols (now edges) (now codes) n l)) ⌝ }
+        requires { ⌜ (self .nodes < 1600) × (self .codes < self .item) × (i < 1024) × (test < self .nodes) ⌝ }
+        ensures { λ r. ⌜ ((ks n l : List ℕ) → Good self (cols (now (edges .entry)) (now (codes .entry)) n l) → hasStart (getD ks i 0) ≡ true → Did ks (λ ss g. code (getD ss i 0) (moveTo test g)) 1 self (cols (now (edges .entry)) (now (codes .entry)) n l) r (cols (now (edges .exit)) (now (codes .exit)) n l)) ⌝ }
+    {
+        self.cursor = test;
+        self.code(edges, codes, i)
+    }
+
+    // Past all arms: where there is no ELSE, the last test goes on to the join.
+    pub fn arms_end(self, edges: &mut [u64], test: usize, join: usize, falls: bool) -> GraphBuilder
+        requires { ⌜ ((c n l : List ℕ) × Good self (cols (now edges) c n l)) ⌝ }
+        requires { ⌜ (test < self .nodes) × (join < self .nodes) ⌝ }
+        ensures { λ r. ⌜ ((ks c n l : List ℕ) → Good self (cols (now (edges .entry)) c n l) → Did ks (λ ss g. cond falls (connect test join g) g) 0 self (cols (now (edges .entry)) c n l) r (cols (now (edges .exit)) c n l)) ⌝ }
+    {
+        connect_if(edges, test, join, falls);
+        self
+    }
+}
