@@ -17,7 +17,7 @@ use Rattle.flow.specs.Graph.{graph}
 use Rattle.flow.specs.Admitted.{spansWhere, isName, AdmittedSheet, AdmittedChart, AdmittedUses, AdmittedJudge}
 use Rattle.flow.proofs.Members.{and-both, oneOf-in}
 use Rattle.flow.proofs.Tests.{neither, every, passed, pass, counted, Passed, sheet-passed, fits-at}
-use Rattle.flow.proofs.Nesting.{tidy}
+use Rattle.flow.proofs.Nesting.{tidy, closed}
 use Rattle.flow.proofs.Room.{length-together, roomy}
 use Rattle.flow.proofs.Written.{written}
 use Rattle.flow.proofs.Sources.{graph-columns}
@@ -61,6 +61,7 @@ module _ (S : List ℕ) (e : sheetVerdict S ≡ Admitted) where
         outerEnd = passes .outerEnd;
         fits = λ i h. fits-at (items S) (passes .fits) i (omega (arith, all-items));
         tidy = tidy (kindWords S) (spanWords S) as-many (passes .pairs);
+        closed = closed (kindWords S) (spanWords S) as-many (passes .pairs);
         room = roomy (kindWords S) (spanWords S) as-many (omega (arith, kinds, passes .few)) (passes .pairs);
         codes = codes;
         codeNodes = rw (graph-columns S .codes) (graph-columns S .codeNodes);

@@ -14,7 +14,7 @@ use Rattle.flow.specs.Sheet.{Item, kind, kindOf, oneOf, together}
 use Rattle.flow.specs.Kinds.{DO, WHILE, REPEAT, FOR, IF, ELSEIF, ELSE, END, UNTIL, opens, closes}
 use Rattle.flow.specs.Refusals.{innermost, mayStand, openAfter, pairsUp}
 use Rattle.flow.specs.Tree.{Stmt, simple, do-block, while-loop, repeat-loop, for-loop, if-stmt, no-more, elseif, otherwise, Frame, Open, nothingRead, outer, inFront, opened, read, parse}
-use Rattle.flow.specs.Admitted.{Tidy}
+use Rattle.flow.specs.Admitted.{Tidy, Closed}
 use Rattle.flow.proofs.Members.{and-both}
 
 -- the statement that an opener of kind k makes of the block behind it
@@ -111,10 +111,13 @@ parsed os (i ∷ is) n e =
 
 -- ---- the arms
 
--- the open blocks of the kinds os, but for those of an IF, have no arms
+-- the open blocks of the kinds os, but for those of an IF, have no arms, and each stands in another
 Bare : List ℕ → Open → Type 0
 Bare [] o = Unit {0}
-Bare (k ∷ os) o = (k ≢ IF → o .top .arms ≡ no-more) × Bare os (outer o)
+Bare (k ∷ os) o = (k ≢ IF → o .top .arms ≡ no-more) × (o .below ≡ [] → ⊥) × Bare os (outer o)
+
+some : {f : Frame} {fs : List Frame} → f ∷ fs ≡ [] → ⊥
+some e = let z : _≡_ {A = ℕ} 0 1 = cc in omega arith
 
 bare-front : (os : List ℕ) (st : Stmt) (o : Open) → Bare os o → Bare os (inFront st o)
 unfolding Bare inFront
@@ -124,11 +127,11 @@ bare-front (k ∷ os) st o b = b
 bare : {os : List ℕ} {is : List Item} {o : Open} → Parsed os is o → Bare os o
 unfolding Bare opened
 bare nothing = tt
-bare (opening {os = os} {o = o} {st = st} m p) = bare-front os st (outer o) (bare p .1)
-bare (ending e n p) = (λ q. refl, bare p)
-bare (until e p) = (λ q. refl, bare p)
-bare (an-elseif e p) = (λ q. absurd (q refl), bare p .1)
-bare (an-else e p) = (λ q. absurd (q refl), bare p .1)
+bare (opening {os = os} {o = o} {st = st} m p) = bare-front os st (outer o) (bare p .2)
+bare (ending e n p) = (λ q. refl, some, bare p)
+bare (until e p) = (λ q. refl, some, bare p)
+bare (an-elseif e p) = (λ q. absurd (q refl), some, bare p .2)
+bare (an-else e p) = (λ q. absurd (q refl), some, bare p .2)
 bare (plain {os = os} {o = o} {i = i} h p) = bare-front os (simple (i .word) (i .span)) o (bare p)
 
 -- ---- whatever the spans
@@ -145,16 +148,24 @@ open-opener : (k : ℕ) (os : List ℕ) → 1 ≤ k → k ≤ 4 → openAfter k 
 unfolding openAfter
 open-opener k os l h = rw (le-leb 1 k l, le-leb k 5 (omega arith))
 
+-- what holds of the block that the item n opens
 bare-at : (ks ss os : List ℕ) → length ss ≡ length ks → Positive os → pairsUp os (together ks ss) ≡ true
-    → (n : ℕ) → n < length ks → 1 ≤ kindOf (getD ks n 0) → kindOf (getD ks n 0) ≤ 4 → parse (drop (suc n) (together ks ss)) .top .arms ≡ no-more
+    → (n : ℕ) → n < length ks → 1 ≤ kindOf (getD ks n 0) → kindOf (getD ks n 0) ≤ 4 → Bare (kindOf (getD ks n 0) ∷ []) (parse (drop (suc n) (together ks ss)))
 unfolding pairsUp Bare
 bare-at [] ss os e p u n h l m = absurd (omega arith)
 bare-at (k ∷ ks) [] os e p u n h l m = absurd (omega arith)
 bare-at (k ∷ ks) (s ∷ ss) os e p u zero h l m =
     let b = bare (parsed (openAfter (kindOf k) os) (together ks ss) (positive-after (kindOf k) os p) (and-both (mayStand (kindOf k) os) _ u .1)) in
-    (rw (open-opener (kindOf k) os l) at b) .0 (λ q. omega arith)
+    let q = rw (open-opener (kindOf k) os l) at b in
+    (q .0, q .1, tt)
 bare-at (k ∷ ks) (s ∷ ss) os e p u (suc n) h l m =
     bare-at ks ss (openAfter (kindOf k) os) (omega arith) (positive-after (kindOf k) os p) (and-both (mayStand (kindOf k) os) _ u .1) n (omega arith) l m
 
 pub tidy : (ks ss : List ℕ) → length ss ≡ length ks → pairsUp [] (together ks ss) ≡ true → Tidy ks
-tidy ks ss e u ts f i h l m = rw add-one (bare-at ks ts [] f tt (pairs-kinds ks ts ss [] f e ∙ u) i h l m)
+unfolding Bare
+tidy ks ss e u ts f i h l m =
+    rw add-one (bare-at ks ts [] f tt (pairs-kinds ks ts ss [] f e ∙ u) i h l m .0 (λ q. omega arith))
+
+pub closed : (ks ss : List ℕ) → length ss ≡ length ks → pairsUp [] (together ks ss) ≡ true → Closed ks
+unfolding Bare
+closed ks ss e u ts f i h l m = rw add-one (bare-at ks ts [] f tt (pairs-kinds ks ts ss [] f e ∙ u) i h l m .1)

@@ -31,6 +31,11 @@ anItem = record { word = 0; span = 0 }
 abbrev pub Tidy : List ℕ → Type 0
 Tidy ks = (ss : List ℕ) → length ss ≡ length ks → (i : ℕ) → i < length ks → 1 ≤ kindOf (getD ks i 0) → kindOf (getD ks i 0) ≤ 4 → parse (drop (i + 1) (together ks ss)) .top .arms ≡ no-more
 
+-- and it stands in another block
+abbrev pub Closed : List ℕ → Type 0
+Closed ks =
+    (ss : List ℕ) → length ss ≡ length ks → (i : ℕ) → i < length ks → 1 ≤ kindOf (getD ks i 0) → kindOf (getD ks i 0) ≤ 4 → parse (drop (i + 1) (together ks ss)) .below ≡ [] → ⊥
+
 -- a tree of these kinds has room for 1,600 nodes, whatever the spans
 abbrev pub Roomy : List ℕ → Type 0
 Roomy ks = (ss : List ℕ) → length ss ≡ length ks → 6 + blockNodes (tree (together ks ss)) ≤ 1542
@@ -43,6 +48,7 @@ pub record AdmittedSheet (S : List ℕ) : Type 0 where
   pub outerEnd : outerEnd S < 2 ^ 32
   pub fits : (i : ℕ) → i < count S → itemFits (getD (items S) i anItem) ≡ true
   pub tidy : Tidy (kindWords S)
+  pub closed : Closed (kindWords S)
   pub room : Roomy (kindWords S)
   pub codes : graph S .codes .span ≡ spansWhere isCode (items S)
   pub codeNodes : length (graph S .codes .node) ≡ length (graph S .codes .span)
