@@ -3,3 +3,4 @@ pub mod Scopes
 pub mod Statements
 pub mod Choices
 pub mod Rooms
+pub mod Sheets

@@ -2,13 +2,13 @@
 -- Assumes nothing: these are definitions.
 use mathlib.Core.Path.{_≡_}
 use mathlib.Core.Bool.{Bool}
-use mathlib.Core.List.{List, []}
+use mathlib.Core.List.{List, [], _∷_}
 use Prim.Native.Nat.{ℕ, _+_, _≤_, _<_, _^_}
-use lib.ListN.{length, getD}
+use lib.ListN.{length, getD, take, drop}
 use Rattle.flow.specs.Sheet.{kindOf, scopeEndOf}
 use Rattle.flow.specs.Tree.{Stmt, Block, Open, done, no-more, inFront, outer, labelName, labelsOf}
 use Rattle.flow.specs.Size.{stmtNodes, blockNodes, armNodes}
-use Rattle.flow.specs.Graph.{Graph, Settings, buildStmt, buildBlock, buildArms, inside, inLoop, entered, closeInto}
+use Rattle.flow.specs.Graph.{Graph, Settings, buildStmt, buildBlock, buildArms, inside, inLoop, entered, closeInto, End, outside, start}
 use Rattle.cfg_steps.specs.declared.GraphBuilder.{GraphBuilder}
 use Rattle.cfg_steps.specs.Columns.{Cols, openAt, graphOf, settingsOf, Good, Grown, LabelsFit}
 
@@ -94,3 +94,37 @@ StmtRoom ks i b = (ss : List ℕ) → length ss ≡ length ks → (st : Stmt) (o
 
 abbrev pub ArmRoom : List ℕ → GraphBuilder → Type 0
 ArmRoom ks b = (ss : List ℕ) → length ss ≡ length ks → b .nodes + armNodes (openAt ks ss (b .item) .top .arms) ≤ 1600
+
+-- ---- a whole sheet
+
+abbrev pub free : ℕ
+free = 18446744073709551615
+
+-- six nodes with no successor, and what lies past them as it was
+pub record Started (es es' : List ℕ) : Type 0 where
+  pub nodes : take 6 es' ≡ free ∷ free ∷ free ∷ free ∷ free ∷ free ∷ []
+  pub past : drop 6 es' ≡ drop 6 es
+  pub size : length es' ≡ length es
+
+pub record Wide (x : Cols) : Type 0 where
+  pub edges : 1600 ≤ length (x .edges)
+  pub codes : 1024 ≤ length (x .codes)
+  pub names : 1024 ≤ length (x .names)
+  pub labels : 1600 ≤ length (x .labels)
+
+abbrev pub WholeRoom : List ℕ → Type 0
+WholeRoom ks = (ss : List ℕ) → length ss ≡ length ks → 6 + blockNodes (openAt ks ss 0 .top .body) ≤ 1600
+
+-- the graph of the statement rules; lengths, and what lies past the counts, are as they were
+pub record Whole (ks ss : List ℕ) (e : ℕ) (x : Cols) (r : GraphBuilder) (y : Cols) : Type 0 where
+  pub good : Good r y
+  pub edgesPast : drop (r .nodes) (y .edges) ≡ drop (r .nodes) (x .edges)
+  pub codesPast : drop (r .codes) (y .codes) ≡ drop (r .codes) (x .codes)
+  pub namesPast : drop (r .names) (y .names) ≡ drop (r .names) (x .names)
+  pub labelsPast : drop (r .nodes) (y .labels) ≡ drop (r .nodes) (x .labels)
+  pub edgesLength : length (y .edges) ≡ length (x .edges)
+  pub codesLength : length (y .codes) ≡ length (x .codes)
+  pub namesLength : length (y .names) ≡ length (x .names)
+  pub labelsLength : length (y .labels) ≡ length (x .labels)
+  pub built : graphOf ks ss r y
+    ≡ closeInto End (buildBlock (openAt ks ss 0 .top .body) (inside e (openAt ks ss 0 .top .body) outside start) (entered (openAt ks ss 0 .top .body) start))

@@ -5,10 +5,9 @@ ghost use Prim.Native.Nat.{ℕ, _+_, _≤_, _<_};
 ghost use lib.ListN.{length, getD};
 ghost use Rattle.flow.specs.Sheet.{kindOf, scopeEndOf};
 ghost use Rattle.cfg_steps.specs.Columns.{cols, Good};
-ghost use Rattle.cfg.specs.Steps.{Sane, Ender, Stepped, Opened, Finished, Scoped, Looped, Chosen, BlockRoom, EnteredRoom, StmtRoom, ArmRoom};
-use cfg_steps::GraphBuilder;
-use cfg_steps::ends_at;
-use cfg_steps::literal_truth;
+ghost use Rattle.cfg.specs.Steps.{Sane, Ender, Stepped, Opened, Finished, Scoped, Looped, Chosen, BlockRoom, EnteredRoom, StmtRoom, ArmRoom, Started, Wide, WholeRoom, Whole};
+
+use cfg_steps::{ends_at, literal_truth, GraphBuilder};
 use flow::Truth;
 
 // The place past the item that ends a block, if there is one.
@@ -296,4 +295,45 @@ fn stmt(
         return if_stmt(kinds, edges, codes, names, labels, t, i);
     }
     t.simple_stmt(edges, codes, names, labels, w, i)
+}
+
+// The exits and the entry, with no successor yet.
+fn start_nodes(edges: &mut [u64])
+    requires { ⌜ 6 ≤ length (now edges) ⌝ }
+    ensures { λ _. ⌜ Started (now (edges .entry)) (now (edges .exit)) ⌝ }
+{
+    edges[0] = 18446744073709551615;
+    edges[1] = 18446744073709551615;
+    edges[2] = 18446744073709551615;
+    edges[3] = 18446744073709551615;
+    edges[4] = 18446744073709551615;
+    edges[5] = 18446744073709551615;
+}
+
+// The graph of a sheet's kinds, whatever the columns held before.
+pub fn of_block(kinds: &[u64], edges: &mut [u64], codes: &mut [u64], names: &mut [u64], labels: &mut [u64], scope_end: u64) -> GraphBuilder
+    requires { ⌜ Sane (now kinds) × Wide (cols (now edges) (now codes) (now names) (now labels)) × («scope_end» < 4294967296) × WholeRoom (now kinds) ⌝ }
+    ensures { λ r. ⌜ ((ss : List ℕ) → length ss ≡ length (now (kinds .entry)) → Whole (now (kinds .entry)) ss «scope_end» (cols (now (edges .entry)) (now (codes .entry)) (now (names .entry)) (now (labels .entry))) r (cols (now (edges .exit)) (now (codes .exit)) (now (names .exit)) (now (labels .exit)))) ⌝ }
+{
+    start_nodes(edges);
+    let s = scoped_block(
+        kinds,
+        edges,
+        codes,
+        names,
+        labels,
+        GraphBuilder {
+            item: 0,
+            nodes: 6,
+            codes: 0,
+            names: 0,
+            labels: 0,
+            cursor: 5,
+            scope_end: 0,
+            break_target: 1,
+            continue_target: 0,
+        },
+        scope_end,
+    );
+    s.close_into(edges, 0)
 }
