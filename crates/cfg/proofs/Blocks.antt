@@ -32,14 +32,23 @@ moved-none {ks} {b} {x} ok h = record { good = ok; grown = grown-same b x; forwa
 
 pub moved-trans : {ks : List ℕ} {b t r : GraphBuilder} {x y z : Cols} → Moved ks b x t y → Moved ks t y r z → Moved ks b x r z
 moved-trans p q = record {
-    good = q .good; grown = grown-trans (omega (arith, p .labels)) (p .grown) (q .grown); forward = omega (arith, p .forward, q .forward);
-    within = q .within; labels = q .labels ∙ p .labels; settings = q .settings ∙ p .settings
-  }
+  good = q .good;
+  grown = grown-trans (omega (arith, p .labels)) (p .grown) (q .grown);
+  forward = omega (arith, p .forward, q .forward);
+  within = q .within;
+  labels = q .labels ∙ p .labels;
+  settings = q .settings ∙ p .settings;
+}
 
 pub moved-did : {ks js : List ℕ} {f : List ℕ → Graph → Graph} {n : ℕ} {b r : GraphBuilder} {x y : Cols} → b .item ≤ length ks → Did js f n b x r y → Moved ks b x r y
 moved-did h d = record {
-    good = d .good; grown = d .grown; forward = omega (arith, d .item); within = omega (arith, d .item); labels = d .labels; settings = d .settings
-  }
+  good = d .good;
+  grown = d .grown;
+  forward = omega (arith, d .item);
+  within = omega (arith, d .item);
+  labels = d .labels;
+  settings = d .settings;
+}
 
 -- ---- a block on its way
 
@@ -87,23 +96,23 @@ module _ {ks ss : List ℕ} {b : GraphBuilder} {x : Cols} where
         moved = moved-trans (g .moved) (s .moved);
         rest = sym (ap bare e) ∙ g .rest;
         still =
-          ap (buildBlock rest' (settingsOf b x)) (s .built ∙ ap (λ (q : Settings). buildStmt st q (graphOf ks ss t y)) (g .moved .settings))
-          ∙ sym (ap (λ (k : Block). buildBlock k (settingsOf b x) (graphOf ks ss t y)) body) ∙ g .still;
+            ap (buildBlock rest' (settingsOf b x)) (s .built ∙ ap (λ (q : Settings). buildStmt st q (graphOf ks ss t y)) (g .moved .settings))
+            ∙ sym (ap (λ (k : Block). buildBlock k (settingsOf b x) (graphOf ks ss t y)) body) ∙ g .still;
         room =
-          let q : t .nodes + (stmtNodes st + blockNodes rest') ≤ 1600 + length (labelName st ++ labelsOf rest') = rw body at (g .room) in
-          let n = stmt-count st (settingsOf t y) (graphOf ks ss t y) in
-          omega (arith, q, length-append (labelName st) (labelsOf rest'), rw (← s .built) at n, nodes-of ks ss (s .moved .good), nodes-of ks ss (g .moved .good))
+            let q : t .nodes + (stmtNodes st + blockNodes rest') ≤ 1600 + length (labelName st ++ labelsOf rest') = rw body at (g .room) in
+            let n = stmt-count st (settingsOf t y) (graphOf ks ss t y) in
+            omega (arith, q, length-append (labelName st) (labelsOf rest'), rw (← s .built) at n, nodes-of ks ss (s .moved .good), nodes-of ks ss (g .moved .good));
       }
 
   -- at an item that ends the block, and at the sheet's end
   pub going-ended : {t : GraphBuilder} {y : Cols} → Going ks ss b x t y → openAt ks ss (t .item) .top .body ≡ done → (t .item < length ks → Ender (kindOf (getD ks (t .item) 0))) → Finished ks ss b x t y
   unfolding buildBlock
   going-ended {t} {y} g e n = record {
-      moved = g .moved;
-      ended = n;
-      shut = bare-done (openAt ks ss (t .item)) e ∙ g .rest;
-      built = sym (ap (λ (k : Block). buildBlock k (settingsOf b x) (graphOf ks ss t y)) e) ∙ g .still
-    }
+    moved = g .moved;
+    ended = n;
+    shut = bare-done (openAt ks ss (t .item)) e ∙ g .rest;
+    built = sym (ap (λ (k : Block). buildBlock k (settingsOf b x) (graphOf ks ss t y)) e) ∙ g .still;
+  }
     where
       bare-done : (o : Open) → o .top .body ≡ done → o ≡ bare o
       bare-done o e = ap (λ (k : Block). record { top = record { body = k; arms = o .top .arms; close = o .top .close }; below = o .below }) e
@@ -134,8 +143,10 @@ module _ (ks ss : List ℕ) (e : length ss ≡ length ks) (j : ℕ) where
     where
       beyond : length ks ≤ j → openAt ks ss r ≡ outer o
       beyond h = rw (q h, read-end ks ss e j h) (ap outer (sym (read-end ks ss e j h) ∙ s))
+
       closed : j < length ks → (as' : Arms) (c : ℕ) (u : Open) → read (itemAt ks ss j) (openAt ks ss (j + 1)) ≡ opened as' c u → as' ≡ no-more
       closed h as' c u w = ap (λ (k : Open). k .top .arms) (sym w ∙ sym (read-at ks ss e j h) ∙ s) ∙ a
+
       within : j < length ks → openAt ks ss r ≡ outer o
       within h = rw (p h) (go (ℕ-discrete (kindOf (getD ks j 0)) 6) (ℕ-discrete (kindOf (getD ks j 0)) 7))
         where
@@ -152,6 +163,7 @@ module _ (ks ss : List ℕ) (e : length ss ≡ length ks) (j : ℕ) where
     where
       arms-of : j < length ks → (as' : Arms) (c : ℕ) (u : Open) → read (itemAt ks ss j) (openAt ks ss (j + 1)) ≡ opened as' c u → as' ≡ no-more
       arms-of h as' c u w = ap (λ (k : Open). k .top .arms) (sym w ∙ sym (read-at ks ss e j h) ∙ s) ∙ a
+
       found : j < length ks → (j < length ks) × (closes (kindOf (getD ks j 0)) ≡ true) × (getD ss j 0 ≡ o .top .close)
       found h = go (ℕ-discrete (kindOf (getD ks j 0)) 6) (ℕ-discrete (kindOf (getD ks j 0)) 7)
         where

@@ -52,6 +52,7 @@ module _ (ks ss : List ℕ) (e : length ss ≡ length ks) (i : ℕ) (lt : i < le
     where
       all : b .nodes + stmtNodes (simple (getD ks i 0) (getD ss i 0)) ≤ 1600 + length (labelName (simple (getD ks i 0) (getD ss i 0)))
       all = room ss e (simple (getD ks i 0) (getD ss i 0)) o (read-at ks ss e i lt ∙ read-simple (itemAt ks ss i) o q)
+
       go : Dec (kindOf (getD ks i 0) ≡ 11) → Dec (kindOf (getD ks i 0) ≡ 12) → Dec (kindOf (getD ks i 0) ≡ 19) → b .nodes + simpleMade (kindOf (getD ks i 0)) ≤ 1600
       go (yes p) y z = rw p (omega arith)
       go (no p) (yes y) z = rw y (omega arith)

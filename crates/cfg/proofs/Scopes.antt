@@ -18,16 +18,36 @@ use Rattle.cfg.proofs.Blocks.{nodes-of}
 -- other settings with the same place, counts and current node
 abbrev pub within : ℕ → ℕ → ℕ → ℕ → GraphBuilder → GraphBuilder
 within labels scope breaks continues b = record {
-    item = b .item; nodes = b .nodes; codes = b .codes; names = b .names; labels = labels; cursor = b .cursor;
-    «scope_end» = scope; «break_target» = breaks; «continue_target» = continues
-  }
+  item = b .item;
+  nodes = b .nodes;
+  codes = b .codes;
+  names = b .names;
+  labels = labels;
+  cursor = b .cursor;
+  «scope_end» = scope;
+  «break_target» = breaks;
+  «continue_target» = continues;
+}
 
 pub good-within : {b : GraphBuilder} {x : Cols} (labels scope breaks continues : ℕ) → labels ≤ b .labels → scope < 2 ^ 32 → breaks < b .nodes → continues < b .nodes → Good b x → Good (within labels scope breaks continues b) x
 good-within labels scope breaks continues hl hs hb hc ok = record {
-    wideEdges = ok .wideEdges; wideCodes = ok .wideCodes; wideNames = ok .wideNames; wideLabels = ok .wideLabels;
-    items = ok .items; nodes = ok .nodes; exits = ok .exits; codes = ok .codes; names = ok .names; labels = omega (arith, hl, ok .labels); cursor = ok .cursor;
-    breakTarget = hb; continueTarget = hc; scopeEnd = hs; codeNodes = ok .codeNodes; labelNodes = λ k q. ok .labelNodes k (omega arith)
-  }
+  wideEdges = ok .wideEdges;
+  wideCodes = ok .wideCodes;
+  wideNames = ok .wideNames;
+  wideLabels = ok .wideLabels;
+  items = ok .items;
+  nodes = ok .nodes;
+  exits = ok .exits;
+  codes = ok .codes;
+  names = ok .names;
+  labels = omega (arith, hl, ok .labels);
+  cursor = ok .cursor;
+  breakTarget = hb;
+  continueTarget = hc;
+  scopeEnd = hs;
+  codeNodes = ok .codeNodes;
+  labelNodes = λ k q. ok .labelNodes k (omega arith);
+}
 
 same-settings : {a a' c c' s s' : ℕ} {l l' : List Label} → a ≡ a' → c ≡ c' → s ≡ s' → l ≡ l'
     → _≡_ {A = Settings} (record { breakTo = a; continueTo = c; scopeEnd = s; labels = l }) (record { breakTo = a'; continueTo = c'; scopeEnd = s'; labels = l' })
@@ -63,24 +83,36 @@ module _ (ks ss : List ℕ) {b : GraphBuilder} {x : Cols} (ok : Good b x) (s : �
         let brk : r .«break_target» ≡ b .«break_target» = ap (λ (q : Settings). q .breakTo) (m .settings) ∙ n .breakTarget in
         let con : r .«continue_target» ≡ b .«continue_target» = ap (λ (q : Settings). q .continueTo) (m .settings) ∙ n .continueTarget in
         let kept : take (b .labels) (z .labels) ≡ take (b .labels) (x .labels) =
-              take-less {n = b .labels} {m = e .labels} (z .labels) (y .labels) (omega (arith, n .labels)) (m .grown .labelsKept) ∙ n .grown .labelsKept in
+        take-less {n = b .labels} {m = e .labels} (z .labels) (y .labels) (omega (arith, n .labels)) (m .grown .labelsKept) ∙ n .grown .labelsKept in
         let g = grown-trans (omega (arith, n .labels)) (n .grown) (m .grown) in
         record {
           moved = record {
             good = good-within (b .labels) (b .«scope_end») (r .«break_target») (r .«continue_target») (omega (arith, m .labels, n .labels)) (ok .scopeEnd) (m .good .breakTarget) (m .good .continueTarget) (m .good);
             grown = record {
-              nodes = g .nodes; codes = g .codes; names = g .names; edgesPast = g .edgesPast; codesPast = g .codesPast; namesPast = g .namesPast; labelsPast = g .labelsPast; labelsKept = kept;
-              edgesLength = g .edgesLength; codesLength = g .codesLength; namesLength = g .namesLength; labelsLength = g .labelsLength
+              nodes = g .nodes;
+              codes = g .codes;
+              names = g .names;
+              edgesPast = g .edgesPast;
+              codesPast = g .codesPast;
+              namesPast = g .namesPast;
+              labelsPast = g .labelsPast;
+              labelsKept = kept;
+              edgesLength = g .edgesLength;
+              codesLength = g .codesLength;
+              namesLength = g .namesLength;
+              labelsLength = g .labelsLength;
             };
-            forward = omega (arith, m .forward, n .item); within = m .within; labels = refl;
-            settings = same-settings brk con refl (same-labels (b .labels) (z .labels) (x .labels) kept)
+            forward = omega (arith, m .forward, n .item);
+            within = m .within;
+            labels = refl;
+            settings = same-settings brk con refl (same-labels (b .labels) (z .labels) (x .labels) kept);
           };
           ended = f .ended;
           shut = f .shut ∙ ap (λ (j : ℕ). bare (openAt ks ss j)) (n .item);
           built = f .built
-            ∙ ap (λ (j : ℕ). buildBlock (openAt ks ss j .top .body) (settingsOf e y) (graphOf ks ss e y)) (n .item)
-            ∙ ap (λ (q : Settings). buildBlock body q (graphOf ks ss e y)) inside-settings
-            ∙ ap (buildBlock body (inside s body (settingsOf b x) (graphOf ks ss b x))) entered-graph
+              ∙ ap (λ (j : ℕ). buildBlock (openAt ks ss j .top .body) (settingsOf e y) (graphOf ks ss e y)) (n .item)
+              ∙ ap (λ (q : Settings). buildBlock body q (graphOf ks ss e y)) inside-settings
+              ∙ ap (buildBlock body (inside s body (settingsOf b x) (graphOf ks ss b x))) entered-graph;
         }
 
 -- a loop's body: inside, BREAK and CONTINUE have the loop's targets, and the body's end goes on
@@ -100,13 +132,25 @@ module _ (ks ss : List ℕ) {b : GraphBuilder} {x : Cols} (ok : Good b x) (s aft
         moved = record {
           good = good-within (r .labels) (r .«scope_end») (b .«break_target») (b .«continue_target») (omega arith) (d .good .scopeEnd) (omega (arith, ok .breakTarget, g .nodes)) (omega (arith, ok .continueTarget, g .nodes)) (d .good);
           grown = record {
-            nodes = g .nodes; codes = g .codes; names = g .names; edgesPast = g .edgesPast; codesPast = g .codesPast; namesPast = g .namesPast; labelsPast = g .labelsPast; labelsKept = g .labelsKept;
-            edgesLength = g .edgesLength; codesLength = g .codesLength; namesLength = g .namesLength; labelsLength = g .labelsLength
+            nodes = g .nodes;
+            codes = g .codes;
+            names = g .names;
+            edgesPast = g .edgesPast;
+            codesPast = g .codesPast;
+            namesPast = g .namesPast;
+            labelsPast = g .labelsPast;
+            labelsKept = g .labelsKept;
+            edgesLength = g .edgesLength;
+            codesLength = g .codesLength;
+            namesLength = g .namesLength;
+            labelsLength = g .labelsLength;
           };
-          forward = omega (arith, m .forward, d .item); within = omega (arith, m .within, d .item); labels = d .labels ∙ m .labels;
-          settings = same-settings refl refl scope list
+          forward = omega (arith, m .forward, d .item);
+          within = omega (arith, m .within, d .item);
+          labels = d .labels ∙ m .labels;
+          settings = same-settings refl refl scope list;
         };
         ended = λ h. subst (λ (j : ℕ). Ender (kindOf (getD ks j 0))) (sym (d .item)) (f .ended (rw (← d .item) h));
         shut = ap (openAt ks ss) (d .item) ∙ f .shut;
-        built = d .built ss ∙ ap (closeInto next) (f .built)
+        built = d .built ss ∙ ap (closeInto next) (f .built);
       }

@@ -33,10 +33,23 @@ first = record { item = 0; nodes = 6; codes = 0; names = 0; labels = 0; cursor =
 module _ (e c n l e' : List ℕ) (w : Wide (cols e c n l)) (s : Started e e') where
   pub first-good : Good first (cols e' c n l)
   first-good = record {
-      wideEdges = omega (arith, w .edges, s .size); wideCodes = w .codes; wideNames = w .names; wideLabels = w .labels;
-      items = lit≤ tt; nodes = lit≤ tt; exits = lit≤ tt; codes = lit≤ tt; names = lit≤ tt; labels = lit≤ tt; cursor = inl (lit< tt);
-      breakTarget = lit< tt; continueTarget = lit< tt; scopeEnd = lit< tt; codeNodes = λ k h. absurd (omega arith); labelNodes = λ k h. absurd (omega arith)
-    }
+    wideEdges = omega (arith, w .edges, s .size);
+    wideCodes = w .codes;
+    wideNames = w .names;
+    wideLabels = w .labels;
+    items = lit≤ tt;
+    nodes = lit≤ tt;
+    exits = lit≤ tt;
+    codes = lit≤ tt;
+    names = lit≤ tt;
+    labels = lit≤ tt;
+    cursor = inl (lit< tt);
+    breakTarget = lit< tt;
+    continueTarget = lit< tt;
+    scopeEnd = lit< tt;
+    codeNodes = λ k h. absurd (omega arith);
+    labelNodes = λ k h. absurd (omega arith);
+  }
 
   first-graph : (ks ss : List ℕ) → graphOf ks ss first (cols e' c n l) ≡ start
   unfolding graphOf painted start
@@ -57,14 +70,18 @@ module _ (e c n l e' : List ℕ) (w : Wide (cols e c n l)) (s : Started e e') wh
         codesPast = k .codesPast ∙ drop-more {n = t .codes} {m = r .codes} (y .codes) c (k .codes) (g .codesPast);
         namesPast = k .namesPast ∙ drop-more {n = t .names} {m = r .names} (y .names) n (k .names) (g .namesPast);
         labelsPast = k .labelsPast ∙ drop-more {n = t .nodes} {m = r .nodes} (y .labels) l (k .nodes) (g .labelsPast);
-        edgesLength = k .edgesLength ∙ g .edgesLength ∙ s .size; codesLength = k .codesLength ∙ g .codesLength; namesLength = k .namesLength ∙ g .namesLength; labelsLength = k .labelsLength ∙ g .labelsLength;
+        edgesLength = k .edgesLength ∙ g .edgesLength ∙ s .size;
+        codesLength = k .codesLength ∙ g .codesLength;
+        namesLength = k .namesLength ∙ g .namesLength;
+        labelsLength = k .labelsLength ∙ g .labelsLength;
         built = d .built ss ∙ ap (closeInto 0) (sc .built
-          ∙ ap (λ (q : Settings). buildBlock B (inside scope B q G) (entered B G)) first-settings
-          ∙ ap (λ (q : Graph). buildBlock B (inside scope B outside q) (entered B q)) (first-graph ks ss))
+            ∙ ap (λ (q : Settings). buildBlock B (inside scope B q G) (entered B G)) first-settings
+            ∙ ap (λ (q : Graph). buildBlock B (inside scope B outside q) (entered B q)) (first-graph ks ss));
       }
     where
       B : Block
       B = openAt ks ss 0 .top .body
+
       G : Graph
       G = graphOf ks ss first (cols e' c n l)
 

@@ -24,28 +24,63 @@ use Rattle.cfg.proofs.Blocks.{nodes-of, moved-trans, moved-did, past-cl
 
 abbrev pub withItem : ℕ → GraphBuilder → GraphBuilder
 withItem j b = record {
-    item = j; nodes = b .nodes; codes = b .codes; names = b .names; labels = b .labels; cursor = b .cursor;
-    «scope_end» = b .«scope_end»; «break_target» = b .«break_target»; «continue_target» = b .«continue_target»
-  }
+  item = j;
+  nodes = b .nodes;
+  codes = b .codes;
+  names = b .names;
+  labels = b .labels;
+  cursor = b .cursor;
+  «scope_end» = b .«scope_end»;
+  «break_target» = b .«break_target»;
+  «continue_target» = b .«continue_target»;
+}
 
 pub good-item : {b : GraphBuilder} {x : Cols} (j : ℕ) → b .item ≤ j → j ≤ 1024 → Good b x → Good (withItem j b) x
 good-item j h k ok = record {
-    wideEdges = ok .wideEdges; wideCodes = ok .wideCodes; wideNames = ok .wideNames; wideLabels = ok .wideLabels;
-    items = k; nodes = ok .nodes; exits = ok .exits; codes = omega (arith, ok .codes); names = omega (arith, ok .names); labels = ok .labels; cursor = ok .cursor;
-    breakTarget = ok .breakTarget; continueTarget = ok .continueTarget; scopeEnd = ok .scopeEnd; codeNodes = ok .codeNodes; labelNodes = ok .labelNodes
-  }
+  wideEdges = ok .wideEdges;
+  wideCodes = ok .wideCodes;
+  wideNames = ok .wideNames;
+  wideLabels = ok .wideLabels;
+  items = k;
+  nodes = ok .nodes;
+  exits = ok .exits;
+  codes = omega (arith, ok .codes);
+  names = omega (arith, ok .names);
+  labels = ok .labels;
+  cursor = ok .cursor;
+  breakTarget = ok .breakTarget;
+  continueTarget = ok .continueTarget;
+  scopeEnd = ok .scopeEnd;
+  codeNodes = ok .codeNodes;
+  labelNodes = ok .labelNodes;
+}
 
 pub moved-item : {ks : List ℕ} {b r : GraphBuilder} {x y : Cols} (j : ℕ) → length ks ≤ 1024 → r .item ≤ j → j ≤ length ks → Moved ks b x r y → Moved ks b x (withItem j r) y
 unfolding settingsOf
 moved-item {ks} {b} {r} {x} {y} j few h k m = record {
-    good = good-item j h (omega arith) (m .good); grown = regrown (m .grown); forward = omega (arith, m .forward); within = k; labels = m .labels; settings = m .settings
-  }
+  good = good-item j h (omega arith) (m .good);
+  grown = regrown (m .grown);
+  forward = omega (arith, m .forward);
+  within = k;
+  labels = m .labels;
+  settings = m .settings;
+}
   where
     regrown : Grown b x r y → Grown b x (withItem j r) y
     regrown g = record {
-        nodes = g .nodes; codes = g .codes; names = g .names; edgesPast = g .edgesPast; codesPast = g .codesPast; namesPast = g .namesPast; labelsPast = g .labelsPast; labelsKept = g .labelsKept;
-        edgesLength = g .edgesLength; codesLength = g .codesLength; namesLength = g .namesLength; labelsLength = g .labelsLength
-      }
+      nodes = g .nodes;
+      codes = g .codes;
+      names = g .names;
+      edgesPast = g .edgesPast;
+      codesPast = g .codesPast;
+      namesPast = g .namesPast;
+      labelsPast = g .labelsPast;
+      labelsKept = g .labelsKept;
+      edgesLength = g .edgesLength;
+      codesLength = g .codesLength;
+      namesLength = g .namesLength;
+      labelsLength = g .labelsLength;
+    }
 
 pub graph-item : (ks ss : List ℕ) (j : ℕ) (b : GraphBuilder) (x : Cols) → graphOf ks ss (withItem j b) x ≡ graphOf ks ss b x
 unfolding graphOf
@@ -54,9 +89,16 @@ graph-item ks ss j b x = refl
 -- another current node
 abbrev pub withCursor : ℕ → GraphBuilder → GraphBuilder
 withCursor v b = record {
-    item = b .item; nodes = b .nodes; codes = b .codes; names = b .names; labels = b .labels; cursor = v;
-    «scope_end» = b .«scope_end»; «break_target» = b .«break_target»; «continue_target» = b .«continue_target»
-  }
+  item = b .item;
+  nodes = b .nodes;
+  codes = b .codes;
+  names = b .names;
+  labels = b .labels;
+  cursor = v;
+  «scope_end» = b .«scope_end»;
+  «break_target» = b .«break_target»;
+  «continue_target» = b .«continue_target»;
+}
 
 pub moved-cursor : {ks : List ℕ} {b r : GraphBuilder} {x y : Cols} (v : ℕ) → Good (withCursor v r) y → Moved ks b x r y → Moved ks b x (withCursor v r) y
 unfolding settingsOf
@@ -64,9 +106,19 @@ moved-cursor {ks} {b} {r} {x} {y} v ok m = record { good = ok; grown = regrown (
   where
     regrown : Grown b x r y → Grown b x (withCursor v r) y
     regrown g = record {
-        nodes = g .nodes; codes = g .codes; names = g .names; edgesPast = g .edgesPast; codesPast = g .codesPast; namesPast = g .namesPast; labelsPast = g .labelsPast; labelsKept = g .labelsKept;
-        edgesLength = g .edgesLength; codesLength = g .codesLength; namesLength = g .namesLength; labelsLength = g .labelsLength
-      }
+      nodes = g .nodes;
+      codes = g .codes;
+      names = g .names;
+      edgesPast = g .edgesPast;
+      codesPast = g .codesPast;
+      namesPast = g .namesPast;
+      labelsPast = g .labelsPast;
+      labelsKept = g .labelsKept;
+      edgesLength = g .edgesLength;
+      codesLength = g .codesLength;
+      namesLength = g .namesLength;
+      labelsLength = g .labelsLength;
+    }
 
 pub graph-cursor : (ks ss : List ℕ) (v : ℕ) (b : GraphBuilder) (x : Cols) → graphOf ks ss (withCursor v b) x ≡ moveTo v (graphOf ks ss b x)
 unfolding graphOf moveTo
@@ -74,10 +126,23 @@ graph-cursor ks ss v b x = refl
 
 pub good-cursor : {b : GraphBuilder} {x : Cols} (v : ℕ) → v < b .nodes → Good b x → Good (withCursor v b) x
 good-cursor v h ok = record {
-    wideEdges = ok .wideEdges; wideCodes = ok .wideCodes; wideNames = ok .wideNames; wideLabels = ok .wideLabels;
-    items = ok .items; nodes = ok .nodes; exits = ok .exits; codes = ok .codes; names = ok .names; labels = ok .labels; cursor = inl h;
-    breakTarget = ok .breakTarget; continueTarget = ok .continueTarget; scopeEnd = ok .scopeEnd; codeNodes = ok .codeNodes; labelNodes = ok .labelNodes
-  }
+  wideEdges = ok .wideEdges;
+  wideCodes = ok .wideCodes;
+  wideNames = ok .wideNames;
+  wideLabels = ok .wideLabels;
+  items = ok .items;
+  nodes = ok .nodes;
+  exits = ok .exits;
+  codes = ok .codes;
+  names = ok .names;
+  labels = ok .labels;
+  cursor = inl h;
+  breakTarget = ok .breakTarget;
+  continueTarget = ok .continueTarget;
+  scopeEnd = ok .scopeEnd;
+  codeNodes = ok .codeNodes;
+  labelNodes = ok .labelNodes;
+}
 
 -- ---- loops
 
@@ -109,12 +174,13 @@ module _ (ks ss : List ℕ) (e : length ss ≡ length ks) (few : length ks ≤ 1
         stmt = st;
         reads = rd ∙ ap (inFront st) (sym out) ∙ ap (λ (q : ℕ). inFront st (openAt ks ss q)) (sym (tl .item));
         built =
-          tl .built ss ∙ ap (T ss) (graph-item ks ss j t z ∙ bd .built ∙ inner hi' (hd .built ss) (hd .settings))
-          ∙ eq (graphOf ks ss b x) (nodes-of ks ss ok)
+            tl .built ss ∙ ap (T ss) (graph-item ks ss j t z ∙ bd .built ∙ inner hi' (hd .built ss) (hd .settings))
+            ∙ eq (graphOf ks ss b x) (nodes-of ks ss ok);
       }
     where
       made : ℕ → Settings → Graph → Graph
       made q S G = closeInto next (buildBlock (openAt ks ss q .top .body) (inside s (openAt ks ss q .top .body) (inLoop after next S) G) (entered (openAt ks ss q .top .body) G))
+
       inner : h .item ≡ i + 1 → graphOf ks ss h y ≡ f ss (graphOf ks ss b x) → settingsOf h y ≡ settingsOf b x
           → closeInto next (buildBlock (openAt ks ss (h .item) .top .body) (inside s (openAt ks ss (h .item) .top .body) (inLoop after next (settingsOf h y)) (graphOf ks ss h y)) (entered (openAt ks ss (h .item) .top .body) (graphOf ks ss h y)))
           ≡ closeInto next (buildBlock B (inside s B (inLoop after next (settingsOf b x)) (f ss (graphOf ks ss b x))) (entered B (f ss (graphOf ks ss b x))))
@@ -173,20 +239,22 @@ module _ (ks ss : List ℕ) (e : length ss ≡ length ks) (few : length ks ≤ 1
         stmt = if-stmt word (getD ss i 0) B (o .top .arms);
         reads = read-at ks ss e i lt ∙ read-if (itemAt ks ss i) o k ∙ ap (inFront (if-stmt word (getD ss i 0) B (o .top .arms))) (sym out);
         built =
-          graph-cursor ks ss (b .nodes + 1) r v
-          ∙ ap (moveTo (b .nodes + 1))
+            graph-cursor ks ss (b .nodes + 1) r v
+            ∙ ap (moveTo (b .nodes + 1))
             (ch .built ∙ ap (λ (w : Open). buildArms (w .top .arms) (b .nodes) (b .nodes + 1) true (settingsOf c u) (graphOf ks ss c u)) shut
             ∙ ap (λ (S : Settings). buildArms (o .top .arms) (b .nodes) (b .nodes + 1) true S (graphOf ks ss c u)) (m3 .settings)
             ∙ ap (buildArms (o .top .arms) (b .nodes) (b .nodes + 1) true (settingsOf b x)) (cl .built ss ∙ ap (closeInto (b .nodes + 1)) (sc .built ∙ inner hi' (hd .built ss) (hd .settings))))
-          ∙ done-if (graphOf ks ss b x) (nodes-of ks ss ok)
+            ∙ done-if (graphOf ks ss b x) (nodes-of ks ss ok);
       }
     where
       made : ℕ → Settings → Graph → Graph
       made q S G = buildBlock (openAt ks ss q .top .body) (inside s (openAt ks ss q .top .body) S G) (entered (openAt ks ss q .top .body) G)
+
       inner : h .item ≡ i + 1 → graphOf ks ss h y ≡ newNode (code (getD ss i 0) (graphOf ks ss b x)) → settingsOf h y ≡ settingsOf b x
           → buildBlock (openAt ks ss (h .item) .top .body) (inside s (openAt ks ss (h .item) .top .body) (settingsOf h y) (graphOf ks ss h y)) (entered (openAt ks ss (h .item) .top .body) (graphOf ks ss h y))
           ≡ made (i + 1) (settingsOf b x) (newNode (code (getD ss i 0) (graphOf ks ss b x)))
       inner p q w = ap (λ (m : ℕ). made m (settingsOf h y) (graphOf ks ss h y)) p ∙ ap (λ (S : Settings). made (i + 1) S (graphOf ks ss h y)) w ∙ ap (made (i + 1) (settingsOf b x)) q
+
       done-if : (g : Graph) → nodeCount g ≡ b .nodes
           → moveTo (b .nodes + 1) (buildArms (o .top .arms) (b .nodes) (b .nodes + 1) true (settingsOf b x) (closeInto (b .nodes + 1) (made (i + 1) (settingsOf b x) (newNode (code (getD ss i 0) g)))))
           ≡ buildStmt (if-stmt word (getD ss i 0) B (o .top .arms)) (settingsOf b x) g

@@ -127,4 +127,4 @@ pub record Whole (ks ss : List ℕ) (e : ℕ) (x : Cols) (r : GraphBuilder) (y :
   pub namesLength : length (y .names) ≡ length (x .names)
   pub labelsLength : length (y .labels) ≡ length (x .labels)
   pub built : graphOf ks ss r y
-    ≡ closeInto End (buildBlock (openAt ks ss 0 .top .body) (inside e (openAt ks ss 0 .top .body) outside start) (entered (openAt ks ss 0 .top .body) start))
+      ≡ closeInto End (buildBlock (openAt ks ss 0 .top .body) (inside e (openAt ks ss 0 .top .body) outside start) (entered (openAt ks ss 0 .top .body) start))

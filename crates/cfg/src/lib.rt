@@ -6,8 +6,9 @@ ghost use lib.ListN.{length, getD};
 ghost use Rattle.flow.specs.Sheet.{kindOf, scopeEndOf};
 ghost use Rattle.cfg_steps.specs.Columns.{cols, Good};
 ghost use Rattle.cfg.specs.Steps.{Sane, Ender, Stepped, Opened, Finished, Scoped, Looped, Chosen, BlockRoom, EnteredRoom, StmtRoom, ArmRoom, Started, Wide, WholeRoom, Whole};
-
-use cfg_steps::{ends_at, literal_truth, GraphBuilder};
+use cfg_steps::GraphBuilder;
+use cfg_steps::ends_at;
+use cfg_steps::literal_truth;
 use flow::Truth;
 
 // The place past the item that ends a block, if there is one.
@@ -311,7 +312,14 @@ fn start_nodes(edges: &mut [u64])
 }
 
 // The graph of a sheet's kinds, whatever the columns held before.
-pub fn of_block(kinds: &[u64], edges: &mut [u64], codes: &mut [u64], names: &mut [u64], labels: &mut [u64], scope_end: u64) -> GraphBuilder
+pub fn of_block(
+    kinds: &[u64],
+    edges: &mut [u64],
+    codes: &mut [u64],
+    names: &mut [u64],
+    labels: &mut [u64],
+    scope_end: u64,
+) -> GraphBuilder
     requires { ⌜ Sane (now kinds) × Wide (cols (now edges) (now codes) (now names) (now labels)) × («scope_end» < 4294967296) × WholeRoom (now kinds) ⌝ }
     ensures { λ r. ⌜ ((ss : List ℕ) → length ss ≡ length (now (kinds .entry)) → Whole (now (kinds .entry)) ss «scope_end» (cols (now (edges .entry)) (now (codes .entry)) (now (names .entry)) (now (labels .entry))) r (cols (now (edges .exit)) (now (codes .exit)) (now (names .exit)) (now (labels .exit)))) ⌝ }
 {

@@ -1,3 +1,5 @@
 pub mod Count
 pub mod Closure
 pub mod Worklist
+pub mod Stamps
+pub mod Alike

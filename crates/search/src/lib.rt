@@ -4,6 +4,7 @@ ghost use mathlib.Core.List.{_++_};
 ghost use Prim.Native.Nat.{_<_, _≤_};
 ghost use lib.ListN.{length, getD, drop, replicate};
 ghost use Rattle.search.specs.Worklist.{st, push, Room};
+ghost use Rattle.search.specs.Stamps.{stampPush};
 
 // The number in a cell, as an index.
 pub fn at(s: &[u64], i: usize) -> usize
@@ -37,5 +38,41 @@ pub fn push_if_new(marks: &mut [u64], stack: &mut [u64], n: usize, top: usize, v
         top + 1
     } else {
         top
+    }
+}
+
+// The number in a cell of 16 bits, as an index.
+pub fn cell(s: &[u16], i: usize) -> usize
+    requires { ⌜ i < length (now s) ⌝ }
+    ensures { λ r. ⌜ r ≡ getD (now (s .entry)) i 0 ⌝ }
+{
+    s[i] as usize
+}
+
+// For proofs alone, the code does nothing: a reference to a fixed array does not tell its length, a slice of it does.
+pub fn sized(a: &[u16; 1600])
+    ensures { λ _. ⌜ length (now (a .entry)) ≡ 1600 ⌝ }
+{
+    let _slice: &[u16] = a;
+}
+
+// v marked by a stamp and pushed, unless it is marked. The result is the stack's height.
+pub fn insert(
+    marks: &mut [u16; 1600],
+    stack: &mut [u16; 1600],
+    top: usize,
+    v: usize,
+    stamp: u16,
+) -> usize
+    requires { ⌜ v < 1600 ⌝ }
+    requires { ⌜ ((getD (now marks) v 0 ≡ stamp → ⊥) → top < 1600) ⌝ }
+    ensures { λ r. ⌜ st (now (marks .exit)) (now (stack .exit)) r ≡ stampPush stamp v (st (now (marks .entry)) (now (stack .entry)) top) ⌝ }
+{
+    if marks[v] == stamp {
+        top
+    } else {
+        marks[v] = stamp;
+        stack[top] = v as u16;
+        top + 1
     }
 }

@@ -206,7 +206,7 @@ arms-arm-test-requires : (t : ℕ) → arms-lts.Need-arm-test-requires (arms-cla
 arms-arm-test-requires t c κs = ((_, _, good-item (c .before .before .before .before .before .past .result) (c .before .before .before .before .before .past .ensures .0) (omega (arith, c .before .before .before .before .before .past .ensures .1, c .before .before .before .before .before .before .before .before .before .before .before .pre .1 .0 .0 .few)) (c .before .before .before .before .before .before .before .before .before .before .before .pre .1 .0 .1)), (omega (arith, elseif-room (c .before .before .before .before .before .before .before .before .before .before .before .args .kinds .now) (c .before .before .before .before .before .before .before .before .before .before .before .args .kinds .now) refl (c .before .before .before .before .before .before .before .before .before .before .before .args .b) (omega (arith, c .before .before .before .before .if1 .left)) (c .before .before .before .before .before .before .before .before .before .before .before .pre .1 .0 .4) (c .before .before .if2 .taken)), omega (arith, c .before .before .before .before .before .before .before .before .before .before .before .pre .1 .0 .1 .codes, c .before .before .before .before .before .past .ensures .2 (omega (arith, c .before .before .before .before .if1 .left))), omega (arith, c .before .before .before .before .if1 .left, c .before .before .before .before .before .before .before .before .before .before .before .pre .1 .0 .0 .few), c .before .before .before .before .before .before .before .before .before .before .before .pre .1 .1 .0))
 
 arms-scoped-block-requires : (t : ℕ) → arms-lts.Need-scoped-block-requires (arms-claims t) (arms-at t) arms.Post
-arms-scoped-block-requires t c κs = 
+arms-scoped-block-requires t c κs =
     let hd = c .before .before .before .before .before .before .before .before .arm-test .ensures (c .before .before .before .before .before .before .before .before .before .before .before .before .before .before .before .before .before .before .before .before .args .kinds .now) _ _ (good-item (c .before .before .before .before .before .before .before .before .before .before .before .before .before .before .past .result) (c .before .before .before .before .before .before .before .before .before .before .before .before .before .before .past .ensures .0) (omega (arith, c .before .before .before .before .before .before .before .before .before .before .before .before .before .before .past .ensures .1, c .before .before .before .before .before .before .before .before .before .before .before .before .before .before .before .before .before .before .before .before .pre .1 .0 .0 .few)) (c .before .before .before .before .before .before .before .before .before .before .before .before .before .before .before .before .before .before .before .before .pre .1 .0 .1)) (code-starts _ 6 (c .before .before .before .before .before .before .before .before .before .before .before .if2 .taken) (lit≤ tt)) in
     (omega (arith, c .before .before .before .before .before .before .before .before .before .before .before .before .before .before .before .before .before .before .before .before .pre .0, hd .item, c .before .before .before .before .before .before .before .before .before .before .before .before .before .before .past .ensures .2 (omega (arith, c .before .before .before .before .before .before .before .before .before .before .before .before .before .if1 .left)), c .before .before .before .before .before .before .before .before .before .before .before .before .before .if1 .left), (c .before .before .before .before .before .before .before .before .before .before .before .before .before .before .before .before .before .before .before .before .pre .1 .0 .0, hd .good, omega (arith, hd .item, c .before .before .before .before .before .before .before .before .before .before .before .before .before .before .past .ensures .1), at-item (c .before .before .before .before .before .before .before .before .before .before .before .before .before .before .before .before .before .before .before .before .args .kinds .now) (c .before .before .before .before .before .before .before .before .arm-test .result) (c .before .before .before .before .before .before .before .before .before .before .before .before .before .before .before .before .before .before .before .before .args .b .item + 1) (hd .item ∙ c .before .before .before .before .before .before .before .before .before .before .before .before .before .before .past .ensures .2 (omega (arith, c .before .before .before .before .before .before .before .before .before .before .before .before .before .if1 .left))) (λ ss e. omega (arith, elseif-room (c .before .before .before .before .before .before .before .before .before .before .before .before .before .before .before .before .before .before .before .before .args .kinds .now) ss e (c .before .before .before .before .before .before .before .before .before .before .before .before .before .before .before .before .before .before .before .before .args .b) (omega (arith, c .before .before .before .before .before .before .before .before .before .before .before .before .before .if1 .left)) (c .before .before .before .before .before .before .before .before .before .before .before .before .before .before .before .before .before .before .before .before .pre .1 .0 .4) (c .before .before .before .before .before .before .before .before .before .before .before .if2 .taken), hd .nodes)), c .before .before .before .before .before .before .before .before .before .before .before .before .before .before .before .before .before .before .before .before .pre .1 .0 .0 .scopes _ (omega (arith, c .before .before .before .before .before .before .before .before .before .before .before .before .before .if1 .left)) (omega (arith, c .before .before .before .before .before .before .before .before .before .before .before .if2 .taken)) (omega (arith, c .before .before .before .before .before .before .before .before .before .before .before .if2 .taken))))
 
@@ -214,19 +214,22 @@ arms-close-into-requires : (t : ℕ) → arms-lts.Need-close-into-requires (arms
 arms-close-into-requires t c κs = let s = c .before .before .before .before .before .before .before .before .before .scoped-block .ensures (c .before .before .before .before .before .before .before .before .before .before .before .before .before .before .before .before .before .before .before .before .before .before .before .before .before .before .before .before .before .before .args .kinds .now) refl .moved in (stands (s .good), omega (arith, s .grown .nodes, c .before .before .before .before .before .before .before .before .before .before .before .before .before .before .before .before .before .before .arm-test .ensures (c .before .before .before .before .before .before .before .before .before .before .before .before .before .before .before .before .before .before .before .before .before .before .before .before .before .before .before .before .before .before .args .kinds .now) _ _ (good-item (c .before .before .before .before .before .before .before .before .before .before .before .before .before .before .before .before .before .before .before .before .before .before .before .before .past .result) (c .before .before .before .before .before .before .before .before .before .before .before .before .before .before .before .before .before .before .before .before .before .before .before .before .past .ensures .0) (omega (arith, c .before .before .before .before .before .before .before .before .before .before .before .before .before .before .before .before .before .before .before .before .before .before .before .before .past .ensures .1, c .before .before .before .before .before .before .before .before .before .before .before .before .before .before .before .before .before .before .before .before .before .before .before .before .before .before .before .before .before .before .pre .1 .0 .0 .few)) (c .before .before .before .before .before .before .before .before .before .before .before .before .before .before .before .before .before .before .before .before .before .before .before .before .before .before .before .before .before .before .pre .1 .0 .1)) (code-starts _ 6 (c .before .before .before .before .before .before .before .before .before .before .before .before .before .before .before .before .before .before .before .before .before .if2 .taken) (lit≤ tt)) .nodes, c .before .before .before .before .before .before .before .before .before .before .before .before .before .before .before .before .before .before .before .before .before .before .before .before .before .before .before .before .before .before .pre .1 .1 .1))
 
 arms-arms-requires : (t : ℕ) → arms-lts.Need-arms-requires (arms-claims t) (arms-at t) arms.Post
-arms-arms-requires t c κs = 
+arms-arms-requires t c κs =
     let hd = c .before .before .before .before .before .before .before .before .before .before .before .before .before .before .before .before .before .before .before .before .before .before .before .before .before .arm-test .ensures (c .before .before .before .before .before .before .before .before .before .before .before .before .before .before .before .before .before .before .before .before .before .before .before .before .before .before .before .before .before .before .before .before .before .before .before .before .before .args .kinds .now) _ _ (good-item (c .before .before .before .before .before .before .before .before .before .before .before .before .before .before .before .before .before .before .before .before .before .before .before .before .before .before .before .before .before .before .before .past .result) (c .before .before .before .before .before .before .before .before .before .before .before .before .before .before .before .before .before .before .before .before .before .before .before .before .before .before .before .before .before .before .before .past .ensures .0) (omega (arith, c .before .before .before .before .before .before .before .before .before .before .before .before .before .before .before .before .before .before .before .before .before .before .before .before .before .before .before .before .before .before .before .past .ensures .1, c .before .before .before .before .before .before .before .before .before .before .before .before .before .before .before .before .before .before .before .before .before .before .before .before .before .before .before .before .before .before .before .before .before .before .before .before .before .pre .1 .0 .0 .few)) (c .before .before .before .before .before .before .before .before .before .before .before .before .before .before .before .before .before .before .before .before .before .before .before .before .before .before .before .before .before .before .before .before .before .before .before .before .before .pre .1 .0 .1)) (code-starts _ 6 (c .before .before .before .before .before .before .before .before .before .before .before .before .before .before .before .before .before .before .before .before .before .before .before .before .before .before .before .before .if2 .taken) (lit≤ tt)) in
     let sc = c .before .before .before .before .before .before .before .before .before .before .before .before .before .before .before .before .scoped-block .ensures (c .before .before .before .before .before .before .before .before .before .before .before .before .before .before .before .before .before .before .before .before .before .before .before .before .before .before .before .before .before .before .before .before .before .before .before .before .before .args .kinds .now) refl in
-    let cl = c .before .before .before .before .before .before .close-into .ensures (c .before .before .before .before .before .before .before .before .before .before .before .before .before .before .before .before .before .before .before .before .before .before .before .before .before .before .before .before .before .before .before .before .before .before .before .before .before .args .kinds .now) _ _ _ (c .before .before .before .before .before .before .before .before .before .before .before .before .before .before .before .before .scoped-block .ensures (c .before .before .before .before .before .before .before .before .before .before .before .before .before .before .before .before .before .before .before .before .before .before .before .before .before .before .before .before .before .before .before .before .before .before .before .before .before .args .kinds .now) refl .moved .good) in
-    (omega (arith, c .before .before .before .before .before .before .before .before .before .before .before .before .before .before .before .before .before .before .before .before .before .before .before .before .before .before .before .before .before .before .before .before .before .before .before .before .before .pre .0, hd .item, c .before .before .before .before .before .before .before .before .before .before .before .before .before .before .before .before .before .before .before .before .before .before .before .before .before .before .before .before .before .before .before .past .ensures .2 (omega (arith, c .before .before .before .before .before .before .before .before .before .before .before .before .before .before .before .before .before .before .before .before .before .before .before .before .before .before .before .before .before .before .if1 .left)), sc .moved .forward, cl .item, c .before .before .before .before .before .before .before .before .before .before .before .before .before .before .before .before .before .before .before .before .before .before .before .before .before .before .before .before .before .before .if1 .left),
-    ((c .before .before .before .before .before .before .before .before .before .before .before .before .before .before .before .before .before .before .before .before .before .before .before .before .before .before .before .before .before .before .before .before .before .before .before .before .before .pre .1 .0 .0, cl .good, omega (arith, cl .item, sc .moved .within), ended-on (c .before .before .before .before .before .before .before .before .before .before .before .before .before .before .before .before .before .before .before .before .before .before .before .before .before .before .before .before .before .before .before .before .before .before .before .before .before .args .kinds .now) (c .before .before .before .before .before .before .before .before .before .before .before .before .before .before .before .before .scoped-block .result) (c .before .before .before .before .before .before .close-into .result) (cl .item) (sc .ended), λ ss e. arms-left (c .before .before .before .before .before .before .before .before .before .before .before .before .before .before .before .before .before .before .before .before .before .before .before .before .before .before .before .before .before .before .before .before .before .before .before .before .before .args .b .item + 1) (c .before .before .before .before .before .before .close-into .result) (hd .good) (hd .item ∙ c .before .before .before .before .before .before .before .before .before .before .before .before .before .before .before .before .before .before .before .before .before .before .before .before .before .before .before .before .before .before .before .past .ensures .2 (omega (arith, c .before .before .before .before .before .before .before .before .before .before .before .before .before .before .before .before .before .before .before .before .before .before .before .before .before .before .before .before .before .before .if1 .left))) (c .before .before .before .before .before .before .before .before .before .before .before .before .before .before .before .before .scoped-block .ensures ss e) (cl .item) (cl .nodes) (omega (arith, elseif-room (c .before .before .before .before .before .before .before .before .before .before .before .before .before .before .before .before .before .before .before .before .before .before .before .before .before .before .before .before .before .before .before .before .before .before .before .before .before .args .kinds .now) ss e (c .before .before .before .before .before .before .before .before .before .before .before .before .before .before .before .before .before .before .before .before .before .before .before .before .before .before .before .before .before .before .before .before .before .before .before .before .before .args .b) (omega (arith, c .before .before .before .before .before .before .before .before .before .before .before .before .before .before .before .before .before .before .before .before .before .before .before .before .before .before .before .before .before .before .if1 .left)) (c .before .before .before .before .before .before .before .before .before .before .before .before .before .before .before .before .before .before .before .before .before .before .before .before .before .before .before .before .before .before .before .before .before .before .before .before .before .pre .1 .0 .4) (c .before .before .before .before .before .before .before .before .before .before .before .before .before .before .before .before .before .before .before .before .before .before .before .before .before .before .before .before .if2 .taken), hd .nodes))),
-    (omega (arith, hd .nodes, sc .moved .grown .nodes, cl .nodes), omega (arith, hd .nodes, sc .moved .grown .nodes, cl .nodes, c .before .before .before .before .before .before .before .before .before .before .before .before .before .before .before .before .before .before .before .before .before .before .before .before .before .before .before .before .before .before .before .before .before .before .before .before .before .pre .1 .1 .1))))
+    let cl = c .before .before .before .before .before .before .close-into .ensures (c .before .before .before .before .before .before .before .before .before .before .before .before .before .before .before .before .before .before .before .before .before .before .before .before .before .before .before .before .before .before .before .before .before .before .before .before .before .args .kinds .now) _ _ _ (c .before .before .before .before .before .before .before .before .before .before .before .before .before .before .before .before .scoped-block .ensures (c .before .before .before .before .before .before .before .before .before .before .before .before .before .before .before .before .before .before .before .before .before .before .before .before .before .before .before .before .before .before .before .before .before .before .before .before .before .args .kinds .now) refl .moved .good) in (
+      omega (arith, c .before .before .before .before .before .before .before .before .before .before .before .before .before .before .before .before .before .before .before .before .before .before .before .before .before .before .before .before .before .before .before .before .before .before .before .before .before .pre .0, hd .item, c .before .before .before .before .before .before .before .before .before .before .before .before .before .before .before .before .before .before .before .before .before .before .before .before .before .before .before .before .before .before .before .past .ensures .2 (omega (arith, c .before .before .before .before .before .before .before .before .before .before .before .before .before .before .before .before .before .before .before .before .before .before .before .before .before .before .before .before .before .before .if1 .left)), sc .moved .forward, cl .item, c .before .before .before .before .before .before .before .before .before .before .before .before .before .before .before .before .before .before .before .before .before .before .before .before .before .before .before .before .before .before .if1 .left),
+      (
+        (c .before .before .before .before .before .before .before .before .before .before .before .before .before .before .before .before .before .before .before .before .before .before .before .before .before .before .before .before .before .before .before .before .before .before .before .before .before .pre .1 .0 .0, cl .good, omega (arith, cl .item, sc .moved .within), ended-on (c .before .before .before .before .before .before .before .before .before .before .before .before .before .before .before .before .before .before .before .before .before .before .before .before .before .before .before .before .before .before .before .before .before .before .before .before .before .args .kinds .now) (c .before .before .before .before .before .before .before .before .before .before .before .before .before .before .before .before .scoped-block .result) (c .before .before .before .before .before .before .close-into .result) (cl .item) (sc .ended), λ ss e. arms-left (c .before .before .before .before .before .before .before .before .before .before .before .before .before .before .before .before .before .before .before .before .before .before .before .before .before .before .before .before .before .before .before .before .before .before .before .before .before .args .b .item + 1) (c .before .before .before .before .before .before .close-into .result) (hd .good) (hd .item ∙ c .before .before .before .before .before .before .before .before .before .before .before .before .before .before .before .before .before .before .before .before .before .before .before .before .before .before .before .before .before .before .before .past .ensures .2 (omega (arith, c .before .before .before .before .before .before .before .before .before .before .before .before .before .before .before .before .before .before .before .before .before .before .before .before .before .before .before .before .before .before .if1 .left))) (c .before .before .before .before .before .before .before .before .before .before .before .before .before .before .before .before .scoped-block .ensures ss e) (cl .item) (cl .nodes) (omega (arith, elseif-room (c .before .before .before .before .before .before .before .before .before .before .before .before .before .before .before .before .before .before .before .before .before .before .before .before .before .before .before .before .before .before .before .before .before .before .before .before .before .args .kinds .now) ss e (c .before .before .before .before .before .before .before .before .before .before .before .before .before .before .before .before .before .before .before .before .before .before .before .before .before .before .before .before .before .before .before .before .before .before .before .before .before .args .b) (omega (arith, c .before .before .before .before .before .before .before .before .before .before .before .before .before .before .before .before .before .before .before .before .before .before .before .before .before .before .before .before .before .before .if1 .left)) (c .before .before .before .before .before .before .before .before .before .before .before .before .before .before .before .before .before .before .before .before .before .before .before .before .before .before .before .before .before .before .before .before .before .before .before .before .before .pre .1 .0 .4) (c .before .before .before .before .before .before .before .before .before .before .before .before .before .before .before .before .before .before .before .before .before .before .before .before .before .before .before .before .if2 .taken), hd .nodes))),
+        (omega (arith, hd .nodes, sc .moved .grown .nodes, cl .nodes), omega (arith, hd .nodes, sc .moved .grown .nodes, cl .nodes, c .before .before .before .before .before .before .before .before .before .before .before .before .before .before .before .before .before .before .before .before .before .before .before .before .before .before .before .before .before .before .before .before .before .before .before .before .before .pre .1 .1 .1)),
+      ),
+    )
 
 arms-returns-2 : (t : ℕ) → arms-lts.Need-returns-2 (arms-claims t) (arms-at t) arms.Post
 arms-returns-2 t c = λ ss e. chosen-elseif (c .before .before .before .before .before .before .before .before .before .before .before .before .before .before .before .before .before .before .before .before .before .before .before .before .before .before .before .before .before .before .before .before .before .before .before .before .before .before .before .before .before .before .before .before .before .before .args .kinds .now) ss e (c .before .before .before .before .before .before .before .before .before .before .before .before .before .before .before .before .before .before .before .before .before .before .before .before .before .before .before .before .before .before .before .before .before .before .before .before .before .before .before .before .before .before .before .before .before .before .pre .1 .0 .0 .few) (c .before .before .before .before .before .before .before .before .before .before .before .before .before .before .before .before .before .before .before .before .before .before .before .before .before .before .before .before .before .before .before .before .before .before .before .before .before .before .before .before .before .before .before .before .before .before .pre .1 .0 .1) (omega (arith, c .before .before .before .before .before .before .before .before .before .before .before .before .before .before .before .before .before .before .before .before .before .before .before .before .before .before .before .before .before .before .before .before .before .before .before .before .before .before .before .if1 .left)) _ _ _ _ _ (c .before .before .before .before .before .before .before .before .before .before .before .before .before .before .before .before .before .before .before .before .before .before .before .before .before .before .before .before .before .before .before .before .before .before .before .before .before .if2 .taken) refl (c .before .before .before .before .before .before .before .before .before .before .before .before .before .before .before .before .before .before .before .before .before .before .before .before .before .before .before .before .before .before .before .before .before .before .before .before .before .before .before .before .past .ensures .2 (omega (arith, c .before .before .before .before .before .before .before .before .before .before .before .before .before .before .before .before .before .before .before .before .before .before .before .before .before .before .before .before .before .before .before .before .before .before .before .before .before .before .before .if1 .left))) (c .before .before .before .before .before .before .before .before .before .before .before .before .before .before .before .before .before .before .before .before .before .before .before .before .before .before .before .before .before .before .before .before .before .before .arm-test .ensures (c .before .before .before .before .before .before .before .before .before .before .before .before .before .before .before .before .before .before .before .before .before .before .before .before .before .before .before .before .before .before .before .before .before .before .before .before .before .before .before .before .before .before .before .before .before .before .args .kinds .now) _ _ (good-item (c .before .before .before .before .before .before .before .before .before .before .before .before .before .before .before .before .before .before .before .before .before .before .before .before .before .before .before .before .before .before .before .before .before .before .before .before .before .before .before .before .past .result) (c .before .before .before .before .before .before .before .before .before .before .before .before .before .before .before .before .before .before .before .before .before .before .before .before .before .before .before .before .before .before .before .before .before .before .before .before .before .before .before .before .past .ensures .0) (omega (arith, c .before .before .before .before .before .before .before .before .before .before .before .before .before .before .before .before .before .before .before .before .before .before .before .before .before .before .before .before .before .before .before .before .before .before .before .before .before .before .before .before .past .ensures .1, c .before .before .before .before .before .before .before .before .before .before .before .before .before .before .before .before .before .before .before .before .before .before .before .before .before .before .before .before .before .before .before .before .before .before .before .before .before .before .before .before .before .before .before .before .before .before .pre .1 .0 .0 .few)) (c .before .before .before .before .before .before .before .before .before .before .before .before .before .before .before .before .before .before .before .before .before .before .before .before .before .before .before .before .before .before .before .before .before .before .before .before .before .before .before .before .before .before .before .before .before .before .pre .1 .0 .1)) (code-starts _ 6 (c .before .before .before .before .before .before .before .before .before .before .before .before .before .before .before .before .before .before .before .before .before .before .before .before .before .before .before .before .before .before .before .before .before .before .before .before .before .if2 .taken) (lit≤ tt))) (c .before .before .before .before .before .before .before .before .before .before .before .before .before .before .before .before .before .before .before .before .before .before .before .before .before .scoped-block .ensures ss e) (c .before .before .before .before .before .before .before .before .before .before .before .before .before .before .before .close-into .ensures (c .before .before .before .before .before .before .before .before .before .before .before .before .before .before .before .before .before .before .before .before .before .before .before .before .before .before .before .before .before .before .before .before .before .before .before .before .before .before .before .before .before .before .before .before .before .before .args .kinds .now) _ _ _ (c .before .before .before .before .before .before .before .before .before .before .before .before .before .before .before .before .before .before .before .before .before .before .before .before .before .scoped-block .ensures (c .before .before .before .before .before .before .before .before .before .before .before .before .before .before .before .before .before .before .before .before .before .before .before .before .before .before .before .before .before .before .before .before .before .before .before .before .before .before .before .before .before .before .before .before .before .before .args .kinds .now) refl .moved .good)) (c .before .before .before .before .before .before .before .before .arms .ensures ss e)
 
 arms-scoped-block-requires-2 : (t : ℕ) → arms-lts.Need-scoped-block-requires-2 (arms-claims t) (arms-at t) arms.Post
-arms-scoped-block-requires-2 t c κs = 
+arms-scoped-block-requires-2 t c κs =
     let hd = move-did (c .before .before .before .before .before .before .before .before .before .before .before .before .before .before .args .kinds .now) _ _ _ _ _ (good-item (c .before .before .before .before .before .before .before .before .past .result) (c .before .before .before .before .before .before .before .before .past .ensures .0) (omega (arith, c .before .before .before .before .before .before .before .before .past .ensures .1, c .before .before .before .before .before .before .before .before .before .before .before .before .before .before .pre .1 .0 .0 .few)) (c .before .before .before .before .before .before .before .before .before .before .before .before .before .before .pre .1 .0 .1)) _ (inl (c .before .before .before .before .before .before .before .before .before .before .before .before .before .before .pre .1 .1 .0)) in
     (omega (arith, c .before .before .before .before .before .before .before .before .before .before .before .before .before .before .pre .0, c .before .before .before .before .before .before .before .before .past .ensures .2 (omega (arith, c .before .before .before .before .before .before .before .if1 .left)), c .before .before .before .before .before .before .before .if1 .left), (c .before .before .before .before .before .before .before .before .before .before .before .before .before .before .pre .1 .0 .0, hd .good, c .before .before .before .before .before .before .before .before .past .ensures .1, at-item (c .before .before .before .before .before .before .before .before .before .before .before .before .before .before .args .kinds .now) (withCursor (c .before .before .before .before .before .before .before .before .before .before .before .before .before .before .args .test) (withItem (c .before .before .before .before .before .before .before .before .past .result) (c .before .before .before .before .before .before .before .before .before .before .before .before .before .before .args .b))) (c .before .before .before .before .before .before .before .before .before .before .before .before .before .before .args .b .item + 1) (c .before .before .before .before .before .before .before .before .past .ensures .2 (omega (arith, c .before .before .before .before .before .before .before .if1 .left))) (λ ss e. omega (arith, else-room (c .before .before .before .before .before .before .before .before .before .before .before .before .before .before .args .kinds .now) ss e (c .before .before .before .before .before .before .before .before .before .before .before .before .before .before .args .b) (omega (arith, c .before .before .before .before .before .before .before .if1 .left)) (c .before .before .before .before .before .before .before .before .before .before .before .before .before .before .pre .1 .0 .4) (c .before .before .before .before .if3 .taken))), c .before .before .before .before .before .before .before .before .before .before .before .before .before .before .pre .1 .0 .0 .scopes _ (omega (arith, c .before .before .before .before .before .before .before .if1 .left)) (omega (arith, c .before .before .before .before .if3 .taken)) (omega (arith, c .before .before .before .before .if3 .taken))))
 
@@ -234,13 +237,16 @@ arms-close-into-requires-2 : (t : ℕ) → arms-lts.Need-close-into-requires-2 (
 arms-close-into-requires-2 t c κs = let s = c .before .before .before .before .before .before .before .before .before .scoped-block2 .ensures (c .before .before .before .before .before .before .before .before .before .before .before .before .before .before .before .before .before .before .before .before .before .before .before .before .args .kinds .now) refl .moved in (stands (s .good), omega (arith, s .grown .nodes, c .before .before .before .before .before .before .before .before .before .before .before .before .before .before .before .before .before .before .before .before .before .before .before .before .pre .1 .1 .1))
 
 arms-arms-requires-2 : (t : ℕ) → arms-lts.Need-arms-requires-2 (arms-claims t) (arms-at t) arms.Post
-arms-arms-requires-2 t c κs = 
+arms-arms-requires-2 t c κs =
     let hd = move-did (c .before .before .before .before .before .before .before .before .before .before .before .before .before .before .before .before .before .before .before .before .before .before .before .before .before .before .before .before .before .before .before .args .kinds .now) _ _ _ _ _ (good-item (c .before .before .before .before .before .before .before .before .before .before .before .before .before .before .before .before .before .before .before .before .before .before .before .before .before .past .result) (c .before .before .before .before .before .before .before .before .before .before .before .before .before .before .before .before .before .before .before .before .before .before .before .before .before .past .ensures .0) (omega (arith, c .before .before .before .before .before .before .before .before .before .before .before .before .before .before .before .before .before .before .before .before .before .before .before .before .before .past .ensures .1, c .before .before .before .before .before .before .before .before .before .before .before .before .before .before .before .before .before .before .before .before .before .before .before .before .before .before .before .before .before .before .before .pre .1 .0 .0 .few)) (c .before .before .before .before .before .before .before .before .before .before .before .before .before .before .before .before .before .before .before .before .before .before .before .before .before .before .before .before .before .before .before .pre .1 .0 .1)) _ (inl (c .before .before .before .before .before .before .before .before .before .before .before .before .before .before .before .before .before .before .before .before .before .before .before .before .before .before .before .before .before .before .before .pre .1 .1 .0)) in
     let sc = c .before .before .before .before .before .before .before .before .before .before .before .before .before .before .before .before .scoped-block2 .ensures (c .before .before .before .before .before .before .before .before .before .before .before .before .before .before .before .before .before .before .before .before .before .before .before .before .before .before .before .before .before .before .before .args .kinds .now) refl in
-    let cl = c .before .before .before .before .before .before .close-into2 .ensures (c .before .before .before .before .before .before .before .before .before .before .before .before .before .before .before .before .before .before .before .before .before .before .before .before .before .before .before .before .before .before .before .args .kinds .now) _ _ _ (c .before .before .before .before .before .before .before .before .before .before .before .before .before .before .before .before .scoped-block2 .ensures (c .before .before .before .before .before .before .before .before .before .before .before .before .before .before .before .before .before .before .before .before .before .before .before .before .before .before .before .before .before .before .before .args .kinds .now) refl .moved .good) in
-    (omega (arith, c .before .before .before .before .before .before .before .before .before .before .before .before .before .before .before .before .before .before .before .before .before .before .before .before .before .before .before .before .before .before .before .pre .0, c .before .before .before .before .before .before .before .before .before .before .before .before .before .before .before .before .before .before .before .before .before .before .before .before .before .past .ensures .2 (omega (arith, c .before .before .before .before .before .before .before .before .before .before .before .before .before .before .before .before .before .before .before .before .before .before .before .before .if1 .left)), sc .moved .forward, cl .item, c .before .before .before .before .before .before .before .before .before .before .before .before .before .before .before .before .before .before .before .before .before .before .before .before .if1 .left),
-    ((c .before .before .before .before .before .before .before .before .before .before .before .before .before .before .before .before .before .before .before .before .before .before .before .before .before .before .before .before .before .before .before .pre .1 .0 .0, cl .good, omega (arith, cl .item, sc .moved .within), ended-on (c .before .before .before .before .before .before .before .before .before .before .before .before .before .before .before .before .before .before .before .before .before .before .before .before .before .before .before .before .before .before .before .args .kinds .now) (c .before .before .before .before .before .before .before .before .before .before .before .before .before .before .before .before .scoped-block2 .result) (c .before .before .before .before .before .before .close-into2 .result) (cl .item) (sc .ended), λ ss e. arms-left (c .before .before .before .before .before .before .before .before .before .before .before .before .before .before .before .before .before .before .before .before .before .before .before .before .before .before .before .before .before .before .before .args .b .item + 1) (c .before .before .before .before .before .before .close-into2 .result) (hd .good) (c .before .before .before .before .before .before .before .before .before .before .before .before .before .before .before .before .before .before .before .before .before .before .before .before .before .past .ensures .2 (omega (arith, c .before .before .before .before .before .before .before .before .before .before .before .before .before .before .before .before .before .before .before .before .before .before .before .before .if1 .left))) (c .before .before .before .before .before .before .before .before .before .before .before .before .before .before .before .before .scoped-block2 .ensures ss e) (cl .item) (cl .nodes) (else-room (c .before .before .before .before .before .before .before .before .before .before .before .before .before .before .before .before .before .before .before .before .before .before .before .before .before .before .before .before .before .before .before .args .kinds .now) ss e (c .before .before .before .before .before .before .before .before .before .before .before .before .before .before .before .before .before .before .before .before .before .before .before .before .before .before .before .before .before .before .before .args .b) (omega (arith, c .before .before .before .before .before .before .before .before .before .before .before .before .before .before .before .before .before .before .before .before .before .before .before .before .if1 .left)) (c .before .before .before .before .before .before .before .before .before .before .before .before .before .before .before .before .before .before .before .before .before .before .before .before .before .before .before .before .before .before .before .pre .1 .0 .4) (c .before .before .before .before .before .before .before .before .before .before .before .before .before .before .before .before .before .before .before .before .before .if3 .taken))),
-    (omega (arith, sc .moved .grown .nodes, cl .nodes, c .before .before .before .before .before .before .before .before .before .before .before .before .before .before .before .before .before .before .before .before .before .before .before .before .before .before .before .before .before .before .before .pre .1 .1 .0), omega (arith, sc .moved .grown .nodes, cl .nodes, c .before .before .before .before .before .before .before .before .before .before .before .before .before .before .before .before .before .before .before .before .before .before .before .before .before .before .before .before .before .before .before .pre .1 .1 .1))))
+    let cl = c .before .before .before .before .before .before .close-into2 .ensures (c .before .before .before .before .before .before .before .before .before .before .before .before .before .before .before .before .before .before .before .before .before .before .before .before .before .before .before .before .before .before .before .args .kinds .now) _ _ _ (c .before .before .before .before .before .before .before .before .before .before .before .before .before .before .before .before .scoped-block2 .ensures (c .before .before .before .before .before .before .before .before .before .before .before .before .before .before .before .before .before .before .before .before .before .before .before .before .before .before .before .before .before .before .before .args .kinds .now) refl .moved .good) in (
+      omega (arith, c .before .before .before .before .before .before .before .before .before .before .before .before .before .before .before .before .before .before .before .before .before .before .before .before .before .before .before .before .before .before .before .pre .0, c .before .before .before .before .before .before .before .before .before .before .before .before .before .before .before .before .before .before .before .before .before .before .before .before .before .past .ensures .2 (omega (arith, c .before .before .before .before .before .before .before .before .before .before .before .before .before .before .before .before .before .before .before .before .before .before .before .before .if1 .left)), sc .moved .forward, cl .item, c .before .before .before .before .before .before .before .before .before .before .before .before .before .before .before .before .before .before .before .before .before .before .before .before .if1 .left),
+      (
+        (c .before .before .before .before .before .before .before .before .before .before .before .before .before .before .before .before .before .before .before .before .before .before .before .before .before .before .before .before .before .before .before .pre .1 .0 .0, cl .good, omega (arith, cl .item, sc .moved .within), ended-on (c .before .before .before .before .before .before .before .before .before .before .before .before .before .before .before .before .before .before .before .before .before .before .before .before .before .before .before .before .before .before .before .args .kinds .now) (c .before .before .before .before .before .before .before .before .before .before .before .before .before .before .before .before .scoped-block2 .result) (c .before .before .before .before .before .before .close-into2 .result) (cl .item) (sc .ended), λ ss e. arms-left (c .before .before .before .before .before .before .before .before .before .before .before .before .before .before .before .before .before .before .before .before .before .before .before .before .before .before .before .before .before .before .before .args .b .item + 1) (c .before .before .before .before .before .before .close-into2 .result) (hd .good) (c .before .before .before .before .before .before .before .before .before .before .before .before .before .before .before .before .before .before .before .before .before .before .before .before .before .past .ensures .2 (omega (arith, c .before .before .before .before .before .before .before .before .before .before .before .before .before .before .before .before .before .before .before .before .before .before .before .before .if1 .left))) (c .before .before .before .before .before .before .before .before .before .before .before .before .before .before .before .before .scoped-block2 .ensures ss e) (cl .item) (cl .nodes) (else-room (c .before .before .before .before .before .before .before .before .before .before .before .before .before .before .before .before .before .before .before .before .before .before .before .before .before .before .before .before .before .before .before .args .kinds .now) ss e (c .before .before .before .before .before .before .before .before .before .before .before .before .before .before .before .before .before .before .before .before .before .before .before .before .before .before .before .before .before .before .before .args .b) (omega (arith, c .before .before .before .before .before .before .before .before .before .before .before .before .before .before .before .before .before .before .before .before .before .before .before .before .if1 .left)) (c .before .before .before .before .before .before .before .before .before .before .before .before .before .before .before .before .before .before .before .before .before .before .before .before .before .before .before .before .before .before .before .pre .1 .0 .4) (c .before .before .before .before .before .before .before .before .before .before .before .before .before .before .before .before .before .before .before .before .before .if3 .taken))),
+        (omega (arith, sc .moved .grown .nodes, cl .nodes, c .before .before .before .before .before .before .before .before .before .before .before .before .before .before .before .before .before .before .before .before .before .before .before .before .before .before .before .before .before .before .before .pre .1 .1 .0), omega (arith, sc .moved .grown .nodes, cl .nodes, c .before .before .before .before .before .before .before .before .before .before .before .before .before .before .before .before .before .before .before .before .before .before .before .before .before .before .before .before .before .before .before .pre .1 .1 .1)),
+      ),
+    )
 
 arms-returns-3 : (t : ℕ) → arms-lts.Need-returns-3 (arms-claims t) (arms-at t) arms.Post
 arms-returns-3 t c = λ ss e. chosen-else (c .before .before .before .before .before .before .before .before .before .before .before .before .before .before .before .before .before .before .before .before .before .before .before .before .before .before .before .before .before .before .before .before .before .before .before .before .before .before .before .before .args .kinds .now) ss e (c .before .before .before .before .before .before .before .before .before .before .before .before .before .before .before .before .before .before .before .before .before .before .before .before .before .before .before .before .before .before .before .before .before .before .before .before .before .before .before .before .pre .1 .0 .0 .few) (c .before .before .before .before .before .before .before .before .before .before .before .before .before .before .before .before .before .before .before .before .before .before .before .before .before .before .before .before .before .before .before .before .before .before .before .before .before .before .before .before .pre .1 .0 .1) (omega (arith, c .before .before .before .before .before .before .before .before .before .before .before .before .before .before .before .before .before .before .before .before .before .before .before .before .before .before .before .before .before .before .before .before .before .if1 .left)) _ _ _ _ _ (c .before .before .before .before .before .before .before .before .before .before .before .before .before .before .before .before .before .before .before .before .before .before .before .before .before .before .before .before .before .before .if3 .taken) refl (c .before .before .before .before .before .before .before .before .before .before .before .before .before .before .before .before .before .before .before .before .before .before .before .before .before .before .before .before .before .before .before .before .before .before .past .ensures .2 (omega (arith, c .before .before .before .before .before .before .before .before .before .before .before .before .before .before .before .before .before .before .before .before .before .before .before .before .before .before .before .before .before .before .before .before .before .if1 .left))) (move-did (c .before .before .before .before .before .before .before .before .before .before .before .before .before .before .before .before .before .before .before .before .before .before .before .before .before .before .before .before .before .before .before .before .before .before .before .before .before .before .before .before .args .kinds .now) _ _ _ _ _ (good-item (c .before .before .before .before .before .before .before .before .before .before .before .before .before .before .before .before .before .before .before .before .before .before .before .before .before .before .before .before .before .before .before .before .before .before .past .result) (c .before .before .before .before .before .before .before .before .before .before .before .before .before .before .before .before .before .before .before .before .before .before .before .before .before .before .before .before .before .before .before .before .before .before .past .ensures .0) (omega (arith, c .before .before .before .before .before .before .before .before .before .before .before .before .before .before .before .before .before .before .before .before .before .before .before .before .before .before .before .before .before .before .before .before .before .before .past .ensures .1, c .before .before .before .before .before .before .before .before .before .before .before .before .before .before .before .before .before .before .before .before .before .before .before .before .before .before .before .before .before .before .before .before .before .before .before .before .before .before .before .before .pre .1 .0 .0 .few)) (c .before .before .before .before .before .before .before .before .before .before .before .before .before .before .before .before .before .before .before .before .before .before .before .before .before .before .before .before .before .before .before .before .before .before .before .before .before .before .before .before .pre .1 .0 .1)) _ (inl (c .before .before .before .before .before .before .before .before .before .before .before .before .before .before .before .before .before .before .before .before .before .before .before .before .before .before .before .before .before .before .before .before .before .before .before .before .before .before .before .before .pre .1 .1 .0))) (c .before .before .before .before .before .before .before .before .before .before .before .before .before .before .before .before .before .before .before .before .before .before .before .before .before .scoped-block2 .ensures ss e) (c .before .before .before .before .before .before .before .before .before .before .before .before .before .before .before .close-into2 .ensures (c .before .before .before .before .before .before .before .before .before .before .before .before .before .before .before .before .before .before .before .before .before .before .before .before .before .before .before .before .before .before .before .before .before .before .before .before .before .before .before .before .args .kinds .now) _ _ _ (c .before .before .before .before .before .before .before .before .before .before .before .before .before .before .before .before .before .before .before .before .before .before .before .before .before .scoped-block2 .ensures (c .before .before .before .before .before .before .before .before .before .before .before .before .before .before .before .before .before .before .before .before .before .before .before .before .before .before .before .before .before .before .before .before .before .before .before .before .before .before .before .before .args .kinds .now) refl .moved .good)) (c .before .before .before .before .before .before .before .before .arms2 .ensures ss e)
@@ -300,11 +306,14 @@ for-loop-add-loop-body : (t : ℕ) → for-loop-lts.Need-add-loop-body (for-loop
 for-loop-add-loop-body t c = omega (arith, c .before .before .before .before .before .before .before .before .before .before .before .before .before .before .before .before .before .before .pre .1 .1 .nodes)
 
 for-loop-loop-body-requires : (t : ℕ) → for-loop-lts.Need-loop-body-requires (for-loop-claims t) (for-loop-at t) for-loop.Post
-for-loop-loop-body-requires t c κs = 
-    let hd = c .before .before .before .before .before .before .before .before .for-head .ensures (c .before .before .before .before .before .before .before .before .before .before .before .before .before .before .before .before .before .before .args .kinds .now) _ _ (c .before .before .before .before .before .before .before .before .before .before .before .before .before .before .before .before .before .before .pre .1 .1) (code-starts _ 4 (c .before .before .before .before .before .before .before .before .before .before .before .before .before .before .before .before .before .before .pre .1 .5) (lit≤ tt)) in
-    (omega (arith, c .before .before .before .before .before .before .before .before .before .before .before .before .before .before .before .before .before .before .pre .0, hd .item, c .before .before .before .before .before .before .before .before .before .before .before .before .before .before .before .before .before .before .pre .1 .2, c .before .before .before .before .before .before .before .before .before .before .before .before .before .before .before .before .before .before .pre .1 .4),
-    ((c .before .before .before .before .before .before .before .before .before .before .before .before .before .before .before .before .before .before .pre .1 .0, hd .good, omega (arith, hd .item, c .before .before .before .before .before .before .before .before .before .before .before .before .before .before .before .before .before .before .pre .1 .2, c .before .before .before .before .before .before .before .before .before .before .before .before .before .before .before .before .before .before .pre .1 .4), at-item (c .before .before .before .before .before .before .before .before .before .before .before .before .before .before .before .before .before .before .args .kinds .now) (c .before .before .before .before .before .before .before .before .for-head .result) ((c .before .before .before .before .before .before .before .before .before .before .before .before .before .before .before .before .before .before .args .i) + 1) (hd .item ∙ c .before .before .before .before .before .before .before .before .before .before .before .before .before .before .before .before .before .before .pre .1 .2) (λ ss e. omega (arith, for-room (c .before .before .before .before .before .before .before .before .before .before .before .before .before .before .before .before .before .before .args .kinds .now) ss e (c .before .before .before .before .before .before .before .before .before .before .before .before .before .before .before .before .before .before .args .i) (c .before .before .before .before .before .before .before .before .before .before .before .before .before .before .before .before .before .before .pre .1 .4) (c .before .before .before .before .before .before .before .before .before .before .before .before .before .before .before .before .before .before .args .b) (c .before .before .before .before .before .before .before .before .before .before .before .before .before .before .before .before .before .before .pre .1 .6) (c .before .before .before .before .before .before .before .before .before .before .before .before .before .before .before .before .before .before .pre .1 .5), hd .nodes)), c .before .before .before .before .before .before .before .before .before .before .before .before .before .before .before .before .before .before .pre .1 .0 .scopes _ (c .before .before .before .before .before .before .before .before .before .before .before .before .before .before .before .before .before .before .pre .1 .4) (omega (arith, c .before .before .before .before .before .before .before .before .before .before .before .before .before .before .before .before .before .before .pre .1 .5)) (omega (arith, c .before .before .before .before .before .before .before .before .before .before .before .before .before .before .before .before .before .before .pre .1 .5))),
-    (omega (arith, hd .nodes), omega (arith, hd .nodes))))
+for-loop-loop-body-requires t c κs =
+    let hd = c .before .before .before .before .before .before .before .before .for-head .ensures (c .before .before .before .before .before .before .before .before .before .before .before .before .before .before .before .before .before .before .args .kinds .now) _ _ (c .before .before .before .before .before .before .before .before .before .before .before .before .before .before .before .before .before .before .pre .1 .1) (code-starts _ 4 (c .before .before .before .before .before .before .before .before .before .before .before .before .before .before .before .before .before .before .pre .1 .5) (lit≤ tt)) in (
+      omega (arith, c .before .before .before .before .before .before .before .before .before .before .before .before .before .before .before .before .before .before .pre .0, hd .item, c .before .before .before .before .before .before .before .before .before .before .before .before .before .before .before .before .before .before .pre .1 .2, c .before .before .before .before .before .before .before .before .before .before .before .before .before .before .before .before .before .before .pre .1 .4),
+      (
+        (c .before .before .before .before .before .before .before .before .before .before .before .before .before .before .before .before .before .before .pre .1 .0, hd .good, omega (arith, hd .item, c .before .before .before .before .before .before .before .before .before .before .before .before .before .before .before .before .before .before .pre .1 .2, c .before .before .before .before .before .before .before .before .before .before .before .before .before .before .before .before .before .before .pre .1 .4), at-item (c .before .before .before .before .before .before .before .before .before .before .before .before .before .before .before .before .before .before .args .kinds .now) (c .before .before .before .before .before .before .before .before .for-head .result) ((c .before .before .before .before .before .before .before .before .before .before .before .before .before .before .before .before .before .before .args .i) + 1) (hd .item ∙ c .before .before .before .before .before .before .before .before .before .before .before .before .before .before .before .before .before .before .pre .1 .2) (λ ss e. omega (arith, for-room (c .before .before .before .before .before .before .before .before .before .before .before .before .before .before .before .before .before .before .args .kinds .now) ss e (c .before .before .before .before .before .before .before .before .before .before .before .before .before .before .before .before .before .before .args .i) (c .before .before .before .before .before .before .before .before .before .before .before .before .before .before .before .before .before .before .pre .1 .4) (c .before .before .before .before .before .before .before .before .before .before .before .before .before .before .before .before .before .before .args .b) (c .before .before .before .before .before .before .before .before .before .before .before .before .before .before .before .before .before .before .pre .1 .6) (c .before .before .before .before .before .before .before .before .before .before .before .before .before .before .before .before .before .before .pre .1 .5), hd .nodes)), c .before .before .before .before .before .before .before .before .before .before .before .before .before .before .before .before .before .before .pre .1 .0 .scopes _ (c .before .before .before .before .before .before .before .before .before .before .before .before .before .before .before .before .before .before .pre .1 .4) (omega (arith, c .before .before .before .before .before .before .before .before .before .before .before .before .before .before .before .before .before .before .pre .1 .5)) (omega (arith, c .before .before .before .before .before .before .before .before .before .before .before .before .before .before .before .before .before .before .pre .1 .5))),
+        (omega (arith, hd .nodes), omega (arith, hd .nodes)),
+      ),
+    )
 
 for-loop-past-requires : (t : ℕ) → for-loop-lts.Need-past-requires (for-loop-claims t) (for-loop-at t) for-loop.Post
 for-loop-past-requires t c κs = c .before .before .before .before .before .before .before .before .loop-body .ensures (c .before .before .before .before .before .before .before .before .before .before .before .before .before .before .before .before .before .before .before .before .before .before .before .before .before .before .before .args .kinds .now) refl .moved .within
@@ -325,7 +334,7 @@ if-stmt-code-and-after-requires : (t : ℕ) → if-stmt-lts.Need-code-and-after-
 if-stmt-code-and-after-requires t c κs = ((_, _, c .before .before .before .before .before .before .before .before .pre .1 .1), (omega (arith, if-room (c .before .before .before .before .before .before .before .before .args .kinds .now) (c .before .before .before .before .before .before .before .before .args .kinds .now) refl (c .before .before .before .before .before .before .before .before .args .i) (c .before .before .before .before .before .before .before .before .pre .1 .4) (c .before .before .before .before .before .before .before .before .args .b) (c .before .before .before .before .before .before .before .before .pre .1 .6) (c .before .before .before .before .before .before .before .before .pre .1 .5)), c .before .before .before .before .before .before .before .before .pre .1 .3, omega (arith, c .before .before .before .before .before .before .before .before .pre .1 .4, c .before .before .before .before .before .before .before .before .pre .1 .0 .few)))
 
 if-stmt-scoped-block-requires : (t : ℕ) → if-stmt-lts.Need-scoped-block-requires (if-stmt-claims t) (if-stmt-at t) if-stmt.Post
-if-stmt-scoped-block-requires t c κs = 
+if-stmt-scoped-block-requires t c κs =
     let hd = c .before .before .before .before .before .before .before .before .code-and-after .ensures (c .before .before .before .before .before .before .before .before .before .before .before .before .before .before .before .before .before .args .kinds .now) _ _ (c .before .before .before .before .before .before .before .before .before .before .before .before .before .before .before .before .before .pre .1 .1) (code-starts _ 5 (c .before .before .before .before .before .before .before .before .before .before .before .before .before .before .before .before .before .pre .1 .5) (lit≤ tt)) in
     (omega (arith, c .before .before .before .before .before .before .before .before .before .before .before .before .before .before .before .before .before .pre .0, hd .item, c .before .before .before .before .before .before .before .before .before .before .before .before .before .before .before .before .before .pre .1 .2, c .before .before .before .before .before .before .before .before .before .before .before .before .before .before .before .before .before .pre .1 .4), (c .before .before .before .before .before .before .before .before .before .before .before .before .before .before .before .before .before .pre .1 .0, hd .good, omega (arith, hd .item, c .before .before .before .before .before .before .before .before .before .before .before .before .before .before .before .before .before .pre .1 .2, c .before .before .before .before .before .before .before .before .before .before .before .before .before .before .before .before .before .pre .1 .4), at-item (c .before .before .before .before .before .before .before .before .before .before .before .before .before .before .before .before .before .args .kinds .now) (c .before .before .before .before .before .before .before .before .code-and-after .result) ((c .before .before .before .before .before .before .before .before .before .before .before .before .before .before .before .before .before .args .i) + 1) (hd .item ∙ c .before .before .before .before .before .before .before .before .before .before .before .before .before .before .before .before .before .pre .1 .2) (λ ss e. omega (arith, if-room (c .before .before .before .before .before .before .before .before .before .before .before .before .before .before .before .before .before .args .kinds .now) ss e (c .before .before .before .before .before .before .before .before .before .before .before .before .before .before .before .before .before .args .i) (c .before .before .before .before .before .before .before .before .before .before .before .before .before .before .before .before .before .pre .1 .4) (c .before .before .before .before .before .before .before .before .before .before .before .before .before .before .before .before .before .args .b) (c .before .before .before .before .before .before .before .before .before .before .before .before .before .before .before .before .before .pre .1 .6) (c .before .before .before .before .before .before .before .before .before .before .before .before .before .before .before .before .before .pre .1 .5), hd .nodes)), c .before .before .before .before .before .before .before .before .before .before .before .before .before .before .before .before .before .pre .1 .0 .scopes _ (c .before .before .before .before .before .before .before .before .before .before .before .before .before .before .before .before .before .pre .1 .4) (omega (arith, c .before .before .before .before .before .before .before .before .before .before .before .before .before .before .before .before .before .pre .1 .5)) (omega (arith, c .before .before .before .before .before .before .before .before .before .before .before .before .before .before .before .before .before .pre .1 .5))))
 
@@ -339,13 +348,16 @@ if-stmt-add-arms : (t : ℕ) → if-stmt-lts.Need-add-arms (if-stmt-claims t) (i
 if-stmt-add-arms t c = omega (arith, c .before .before .before .before .before .before .before .before .before .before .before .before .before .before .before .before .before .before .before .before .before .before .before .before .before .before .before .before .before .before .before .before .before .before .pre .1 .1 .nodes)
 
 if-stmt-arms-requires : (t : ℕ) → if-stmt-lts.Need-arms-requires (if-stmt-claims t) (if-stmt-at t) if-stmt.Post
-if-stmt-arms-requires t c κs = 
+if-stmt-arms-requires t c κs =
     let hd = c .before .before .before .before .before .before .before .before .before .before .before .before .before .before .before .before .before .before .before .before .before .before .before .before .before .code-and-after .ensures (c .before .before .before .before .before .before .before .before .before .before .before .before .before .before .before .before .before .before .before .before .before .before .before .before .before .before .before .before .before .before .before .before .before .before .args .kinds .now) _ _ (c .before .before .before .before .before .before .before .before .before .before .before .before .before .before .before .before .before .before .before .before .before .before .before .before .before .before .before .before .before .before .before .before .before .before .pre .1 .1) (code-starts _ 5 (c .before .before .before .before .before .before .before .before .before .before .before .before .before .before .before .before .before .before .before .before .before .before .before .before .before .before .before .before .before .before .before .before .before .before .pre .1 .5) (lit≤ tt)) in
     let sc = c .before .before .before .before .before .before .before .before .before .before .before .before .before .before .before .before .scoped-block .ensures (c .before .before .before .before .before .before .before .before .before .before .before .before .before .before .before .before .before .before .before .before .before .before .before .before .before .before .before .before .before .before .before .before .before .before .args .kinds .now) refl in
-    let cl = c .before .before .before .before .before .before .close-into .ensures (c .before .before .before .before .before .before .before .before .before .before .before .before .before .before .before .before .before .before .before .before .before .before .before .before .before .before .before .before .before .before .before .before .before .before .args .kinds .now) _ _ _ (c .before .before .before .before .before .before .before .before .before .before .before .before .before .before .before .before .scoped-block .ensures (c .before .before .before .before .before .before .before .before .before .before .before .before .before .before .before .before .before .before .before .before .before .before .before .before .before .before .before .before .before .before .before .before .before .before .args .kinds .now) refl .moved .good) in
-    (omega (arith, c .before .before .before .before .before .before .before .before .before .before .before .before .before .before .before .before .before .before .before .before .before .before .before .before .before .before .before .before .before .before .before .before .before .before .pre .0, hd .item, sc .moved .forward, cl .item),
-    ((c .before .before .before .before .before .before .before .before .before .before .before .before .before .before .before .before .before .before .before .before .before .before .before .before .before .before .before .before .before .before .before .before .before .before .pre .1 .0, cl .good, omega (arith, cl .item, sc .moved .within), ended-on (c .before .before .before .before .before .before .before .before .before .before .before .before .before .before .before .before .before .before .before .before .before .before .before .before .before .before .before .before .before .before .before .before .before .before .args .kinds .now) (c .before .before .before .before .before .before .before .before .before .before .before .before .before .before .before .before .scoped-block .result) (c .before .before .before .before .before .before .close-into .result) (cl .item) (sc .ended), λ ss e. arms-left ((c .before .before .before .before .before .before .before .before .before .before .before .before .before .before .before .before .before .before .before .before .before .before .before .before .before .before .before .before .before .before .before .before .before .before .args .i) + 1) (c .before .before .before .before .before .before .close-into .result) (hd .good) (hd .item ∙ c .before .before .before .before .before .before .before .before .before .before .before .before .before .before .before .before .before .before .before .before .before .before .before .before .before .before .before .before .before .before .before .before .before .before .pre .1 .2) (c .before .before .before .before .before .before .before .before .before .before .before .before .before .before .before .before .scoped-block .ensures ss e) (cl .item) (cl .nodes) (omega (arith, if-room (c .before .before .before .before .before .before .before .before .before .before .before .before .before .before .before .before .before .before .before .before .before .before .before .before .before .before .before .before .before .before .before .before .before .before .args .kinds .now) ss e (c .before .before .before .before .before .before .before .before .before .before .before .before .before .before .before .before .before .before .before .before .before .before .before .before .before .before .before .before .before .before .before .before .before .before .args .i) (c .before .before .before .before .before .before .before .before .before .before .before .before .before .before .before .before .before .before .before .before .before .before .before .before .before .before .before .before .before .before .before .before .before .before .pre .1 .4) (c .before .before .before .before .before .before .before .before .before .before .before .before .before .before .before .before .before .before .before .before .before .before .before .before .before .before .before .before .before .before .before .before .before .before .args .b) (c .before .before .before .before .before .before .before .before .before .before .before .before .before .before .before .before .before .before .before .before .before .before .before .before .before .before .before .before .before .before .before .before .before .before .pre .1 .6) (c .before .before .before .before .before .before .before .before .before .before .before .before .before .before .before .before .before .before .before .before .before .before .before .before .before .before .before .before .before .before .before .before .before .before .pre .1 .5), hd .nodes))),
-    (omega (arith, hd .nodes, sc .moved .grown .nodes, cl .nodes), omega (arith, hd .nodes, sc .moved .grown .nodes, cl .nodes))))
+    let cl = c .before .before .before .before .before .before .close-into .ensures (c .before .before .before .before .before .before .before .before .before .before .before .before .before .before .before .before .before .before .before .before .before .before .before .before .before .before .before .before .before .before .before .before .before .before .args .kinds .now) _ _ _ (c .before .before .before .before .before .before .before .before .before .before .before .before .before .before .before .before .scoped-block .ensures (c .before .before .before .before .before .before .before .before .before .before .before .before .before .before .before .before .before .before .before .before .before .before .before .before .before .before .before .before .before .before .before .before .before .before .args .kinds .now) refl .moved .good) in (
+      omega (arith, c .before .before .before .before .before .before .before .before .before .before .before .before .before .before .before .before .before .before .before .before .before .before .before .before .before .before .before .before .before .before .before .before .before .before .pre .0, hd .item, sc .moved .forward, cl .item),
+      (
+        (c .before .before .before .before .before .before .before .before .before .before .before .before .before .before .before .before .before .before .before .before .before .before .before .before .before .before .before .before .before .before .before .before .before .before .pre .1 .0, cl .good, omega (arith, cl .item, sc .moved .within), ended-on (c .before .before .before .before .before .before .before .before .before .before .before .before .before .before .before .before .before .before .before .before .before .before .before .before .before .before .before .before .before .before .before .before .before .before .args .kinds .now) (c .before .before .before .before .before .before .before .before .before .before .before .before .before .before .before .before .scoped-block .result) (c .before .before .before .before .before .before .close-into .result) (cl .item) (sc .ended), λ ss e. arms-left ((c .before .before .before .before .before .before .before .before .before .before .before .before .before .before .before .before .before .before .before .before .before .before .before .before .before .before .before .before .before .before .before .before .before .before .args .i) + 1) (c .before .before .before .before .before .before .close-into .result) (hd .good) (hd .item ∙ c .before .before .before .before .before .before .before .before .before .before .before .before .before .before .before .before .before .before .before .before .before .before .before .before .before .before .before .before .before .before .before .before .before .before .pre .1 .2) (c .before .before .before .before .before .before .before .before .before .before .before .before .before .before .before .before .scoped-block .ensures ss e) (cl .item) (cl .nodes) (omega (arith, if-room (c .before .before .before .before .before .before .before .before .before .before .before .before .before .before .before .before .before .before .before .before .before .before .before .before .before .before .before .before .before .before .before .before .before .before .args .kinds .now) ss e (c .before .before .before .before .before .before .before .before .before .before .before .before .before .before .before .before .before .before .before .before .before .before .before .before .before .before .before .before .before .before .before .before .before .before .args .i) (c .before .before .before .before .before .before .before .before .before .before .before .before .before .before .before .before .before .before .before .before .before .before .before .before .before .before .before .before .before .before .before .before .before .before .pre .1 .4) (c .before .before .before .before .before .before .before .before .before .before .before .before .before .before .before .before .before .before .before .before .before .before .before .before .before .before .before .before .before .before .before .before .before .before .args .b) (c .before .before .before .before .before .before .before .before .before .before .before .before .before .before .before .before .before .before .before .before .before .before .before .before .before .before .before .before .before .before .before .before .before .before .pre .1 .6) (c .before .before .before .before .before .before .before .before .before .before .before .before .before .before .before .before .before .before .before .before .before .before .before .before .before .before .before .before .before .before .before .before .before .before .pre .1 .5), hd .nodes))),
+        (omega (arith, hd .nodes, sc .moved .grown .nodes, cl .nodes), omega (arith, hd .nodes, sc .moved .grown .nodes, cl .nodes)),
+      ),
+    )
 
 if-stmt-add-r : (t : ℕ) → if-stmt-lts.Need-add-r (if-stmt-claims t) (if-stmt-at t) if-stmt.Post
 if-stmt-add-r t c = omega (arith, c .before .before .before .before .before .before .before .before .before .before .before .before .before .before .before .before .before .before .before .before .before .before .before .before .before .before .before .before .before .before .before .before .before .before .before .before .before .before .before .before .before .before .before .pre .1 .1 .nodes)
@@ -385,17 +397,20 @@ repeat-loop-add-loop-body-2 : (t : ℕ) → repeat-loop-lts.Need-add-loop-body-2
 repeat-loop-add-loop-body-2 t c = omega (arith, c .before .before .before .before .before .before .before .before .before .before .before .before .before .before .before .pre .1 .1 .nodes)
 
 repeat-loop-loop-body-requires : (t : ℕ) → repeat-loop-lts.Need-loop-body-requires (repeat-loop-claims t) (repeat-loop-at t) repeat-loop.Post
-repeat-loop-loop-body-requires t c κs = 
-    let hd = c .before .before .before .before .before .before .repeat-head .ensures (c .before .before .before .before .before .before .before .before .before .before .before .before .before .before .before .args .kinds .now) _ _ _ (c .before .before .before .before .before .before .before .before .before .before .before .before .before .before .before .pre .1 .1) in
-    (omega (arith, c .before .before .before .before .before .before .before .before .before .before .before .before .before .before .before .pre .0, hd .item, c .before .before .before .before .before .before .before .before .before .before .before .before .before .before .before .pre .1 .2, c .before .before .before .before .before .before .before .before .before .before .before .before .before .before .before .pre .1 .4),
-    ((c .before .before .before .before .before .before .before .before .before .before .before .before .before .before .before .pre .1 .0, hd .good, omega (arith, hd .item, c .before .before .before .before .before .before .before .before .before .before .before .before .before .before .before .pre .1 .2, c .before .before .before .before .before .before .before .before .before .before .before .before .before .before .before .pre .1 .4), at-item (c .before .before .before .before .before .before .before .before .before .before .before .before .before .before .before .args .kinds .now) (c .before .before .before .before .before .before .repeat-head .result) ((c .before .before .before .before .before .before .before .before .before .before .before .before .before .before .before .args .i) + 1) (hd .item ∙ c .before .before .before .before .before .before .before .before .before .before .before .before .before .before .before .pre .1 .2) (λ ss e. omega (arith, repeat-room (c .before .before .before .before .before .before .before .before .before .before .before .before .before .before .before .args .kinds .now) ss e (c .before .before .before .before .before .before .before .before .before .before .before .before .before .before .before .args .i) (c .before .before .before .before .before .before .before .before .before .before .before .before .before .before .before .pre .1 .4) (c .before .before .before .before .before .before .before .before .before .before .before .before .before .before .before .args .b) (c .before .before .before .before .before .before .before .before .before .before .before .before .before .before .before .pre .1 .6) (c .before .before .before .before .before .before .before .before .before .before .before .before .before .before .before .pre .1 .5), hd .nodes)), c .before .before .before .before .before .before .before .before .before .before .before .before .before .before .before .pre .1 .0 .scopes _ (c .before .before .before .before .before .before .before .before .before .before .before .before .before .before .before .pre .1 .4) (omega (arith, c .before .before .before .before .before .before .before .before .before .before .before .before .before .before .before .pre .1 .5)) (omega (arith, c .before .before .before .before .before .before .before .before .before .before .before .before .before .before .before .pre .1 .5))),
-    (omega (arith, hd .nodes), omega (arith, hd .nodes))))
+repeat-loop-loop-body-requires t c κs =
+    let hd = c .before .before .before .before .before .before .repeat-head .ensures (c .before .before .before .before .before .before .before .before .before .before .before .before .before .before .before .args .kinds .now) _ _ _ (c .before .before .before .before .before .before .before .before .before .before .before .before .before .before .before .pre .1 .1) in (
+      omega (arith, c .before .before .before .before .before .before .before .before .before .before .before .before .before .before .before .pre .0, hd .item, c .before .before .before .before .before .before .before .before .before .before .before .before .before .before .before .pre .1 .2, c .before .before .before .before .before .before .before .before .before .before .before .before .before .before .before .pre .1 .4),
+      (
+        (c .before .before .before .before .before .before .before .before .before .before .before .before .before .before .before .pre .1 .0, hd .good, omega (arith, hd .item, c .before .before .before .before .before .before .before .before .before .before .before .before .before .before .before .pre .1 .2, c .before .before .before .before .before .before .before .before .before .before .before .before .before .before .before .pre .1 .4), at-item (c .before .before .before .before .before .before .before .before .before .before .before .before .before .before .before .args .kinds .now) (c .before .before .before .before .before .before .repeat-head .result) ((c .before .before .before .before .before .before .before .before .before .before .before .before .before .before .before .args .i) + 1) (hd .item ∙ c .before .before .before .before .before .before .before .before .before .before .before .before .before .before .before .pre .1 .2) (λ ss e. omega (arith, repeat-room (c .before .before .before .before .before .before .before .before .before .before .before .before .before .before .before .args .kinds .now) ss e (c .before .before .before .before .before .before .before .before .before .before .before .before .before .before .before .args .i) (c .before .before .before .before .before .before .before .before .before .before .before .before .before .before .before .pre .1 .4) (c .before .before .before .before .before .before .before .before .before .before .before .before .before .before .before .args .b) (c .before .before .before .before .before .before .before .before .before .before .before .before .before .before .before .pre .1 .6) (c .before .before .before .before .before .before .before .before .before .before .before .before .before .before .before .pre .1 .5), hd .nodes)), c .before .before .before .before .before .before .before .before .before .before .before .before .before .before .before .pre .1 .0 .scopes _ (c .before .before .before .before .before .before .before .before .before .before .before .before .before .before .before .pre .1 .4) (omega (arith, c .before .before .before .before .before .before .before .before .before .before .before .before .before .before .before .pre .1 .5)) (omega (arith, c .before .before .before .before .before .before .before .before .before .before .before .before .before .before .before .pre .1 .5))),
+        (omega (arith, hd .nodes), omega (arith, hd .nodes)),
+      ),
+    )
 
 repeat-loop-past-requires : (t : ℕ) → repeat-loop-lts.Need-past-requires (repeat-loop-claims t) (repeat-loop-at t) repeat-loop.Post
 repeat-loop-past-requires t c κs = c .before .before .before .before .before .before .before .before .loop-body .ensures (c .before .before .before .before .before .before .before .before .before .before .before .before .before .before .before .before .before .before .before .before .before .before .before .before .args .kinds .now) refl .moved .within
 
 repeat-loop-repeat-end-requires : (t : ℕ) → repeat-loop-lts.Need-repeat-end-requires (repeat-loop-claims t) (repeat-loop-at t) repeat-loop.Post
-repeat-loop-repeat-end-requires t c κs = 
+repeat-loop-repeat-end-requires t c κs =
     let ca = closed-at (c .before .before .before .before .before .before .before .before .before .before .before .before .before .before .before .before .before .before .before .before .before .before .before .before .before .before .before .args .kinds .now) (c .before .before .before .before .before .before .before .before .before .before .before .before .before .before .before .before .before .before .before .before .before .before .before .before .before .before .before .args .kinds .now) refl (c .before .before .before .before .before .before .before .before .before .before .before .loop-body .result .item) (openAt (c .before .before .before .before .before .before .before .before .before .before .before .before .before .before .before .before .before .before .before .before .before .before .before .before .before .before .before .args .kinds .now) (c .before .before .before .before .before .before .before .before .before .before .before .before .before .before .before .before .before .before .before .before .before .before .before .before .before .before .before .args .kinds .now) ((c .before .before .before .before .before .before .before .before .before .before .before .before .before .before .before .before .before .before .before .before .before .before .before .before .before .before .before .args .i) + 1)) (c .before .before .before .before .before .before .before .before .before .before .before .loop-body .ensures (c .before .before .before .before .before .before .before .before .before .before .before .before .before .before .before .before .before .before .before .before .before .before .before .before .before .before .before .args .kinds .now) refl .ended) (c .before .before .before .before .before .before .before .before .before .before .before .loop-body .ensures (c .before .before .before .before .before .before .before .before .before .before .before .before .before .before .before .before .before .before .before .before .before .before .before .before .before .before .before .args .kinds .now) refl .shut ∙ ap (λ j. bare (openAt (c .before .before .before .before .before .before .before .before .before .before .before .before .before .before .before .before .before .before .before .before .before .before .before .before .before .before .before .args .kinds .now) (c .before .before .before .before .before .before .before .before .before .before .before .before .before .before .before .before .before .before .before .before .before .before .before .before .before .before .before .args .kinds .now) j)) (c .before .before .before .before .before .before .before .before .before .before .before .before .before .before .before .before .before .before .repeat-head .ensures (c .before .before .before .before .before .before .before .before .before .before .before .before .before .before .before .before .before .before .before .before .before .before .before .before .before .before .before .args .kinds .now) _ _ _ (c .before .before .before .before .before .before .before .before .before .before .before .before .before .before .before .before .before .before .before .before .before .before .before .before .before .before .before .pre .1 .1) .item ∙ c .before .before .before .before .before .before .before .before .before .before .before .before .before .before .before .before .before .before .before .before .before .before .before .before .before .before .before .pre .1 .2)) (c .before .before .before .before .before .before .before .before .before .before .before .before .before .before .before .before .before .before .before .before .before .before .before .before .before .before .before .pre .1 .0 .tidy (c .before .before .before .before .before .before .before .before .before .before .before .before .before .before .before .before .before .before .before .before .before .before .before .before .before .before .before .args .kinds .now) refl _ (c .before .before .before .before .before .before .before .before .before .before .before .before .before .before .before .before .before .before .before .before .before .before .before .before .before .before .before .pre .1 .4) (omega (arith, c .before .before .before .before .before .before .before .before .before .before .before .before .before .before .before .before .before .before .before .before .before .before .before .before .before .before .before .pre .1 .5)) (omega (arith, c .before .before .before .before .before .before .before .before .before .before .before .before .before .before .before .before .before .before .before .before .before .before .before .before .before .before .before .pre .1 .5))) (c .before .before .before .before .before .before .before .before .before .before .before .before .before .before .before .before .before .before .before .before .before .before .before .before .before .before .before .pre .1 .0 .closed (c .before .before .before .before .before .before .before .before .before .before .before .before .before .before .before .before .before .before .before .before .before .before .before .before .before .before .before .args .kinds .now) refl _ (c .before .before .before .before .before .before .before .before .before .before .before .before .before .before .before .before .before .before .before .before .before .before .before .before .before .before .before .pre .1 .4) (c .before .before .before .before .before .before .before .before .before .before .before .before .before .before .before .before .before .before .before .before .before .before .before .before .before .before .before .pre .1 .5)) in
     let bd = c .before .before .before .before .before .before .before .before .before .before .before .loop-body .ensures (c .before .before .before .before .before .before .before .before .before .before .before .before .before .before .before .before .before .before .before .before .before .before .before .before .before .before .before .args .kinds .now) refl .moved in
     ((_, _, good-item (c .before .before .past .result) (c .before .before .past .ensures .0) (omega (arith, c .before .before .past .ensures .1, c .before .before .before .before .before .before .before .before .before .before .before .before .before .before .before .before .before .before .before .before .before .before .before .before .before .before .before .pre .1 .0 .few)) (c .before .before .before .before .before .before .before .before .before .before .before .loop-body .ensures (c .before .before .before .before .before .before .before .before .before .before .before .before .before .before .before .before .before .before .before .before .before .before .before .before .before .before .before .args .kinds .now) refl .moved .good)), (omega (arith, c .before .before .before .before .before .before .before .before .before .before .before .before .before .before .before .before .before .before .repeat-head .ensures (c .before .before .before .before .before .before .before .before .before .before .before .before .before .before .before .before .before .before .before .before .before .before .before .before .before .before .before .args .kinds .now) _ _ _ (c .before .before .before .before .before .before .before .before .before .before .before .before .before .before .before .before .before .before .before .before .before .before .before .before .before .before .before .pre .1 .1) .nodes, bd .grown .nodes), omega (arith, bd .good .codes, c .before .before .past .ensures .2 (ca .0)), omega (arith, ca .0, c .before .before .before .before .before .before .before .before .before .before .before .before .before .before .before .before .before .before .before .before .before .before .before .before .before .before .before .pre .1 .0 .few)))
@@ -409,7 +424,7 @@ scoped-block-enter-block-requires : (t : ℕ) → scoped-block-lts.Need-enter-bl
 scoped-block-enter-block-requires t c κs = ((c .before .before .before .before .before .before .before .pre .1 .2, c .before .before .before .before .before .before .before .pre .1 .0 .few, c .before .before .before .before .before .before .before .pre .1 .0 .labels), ((_, _, good-within (c .before .before .before .before .before .before .before .args .b .labels) (c .before .before .before .before .before .before .before .args .scope-end) (c .before .before .before .before .before .before .before .args .b .«break_target») (c .before .before .before .before .before .before .before .args .b .«continue_target») (le-refl _) (c .before .before .before .before .before .before .before .pre .1 .4) (c .before .before .before .before .before .before .before .pre .1 .1 .breakTarget) (c .before .before .before .before .before .before .before .pre .1 .1 .continueTarget) (c .before .before .before .before .before .before .before .pre .1 .1)), λ ss e. omega (arith, c .before .before .before .before .before .before .before .pre .1 .3 ss e, labels-inside (openAt (c .before .before .before .before .before .before .before .args .kinds .now) ss (c .before .before .before .before .before .before .before .args .b .item) .top .body))))
 
 scoped-block-block-requires : (t : ℕ) → scoped-block-lts.Need-block-requires (scoped-block-claims t) (scoped-block-at t) scoped-block.Post
-scoped-block-block-requires t c κs = 
+scoped-block-block-requires t c κs =
     let n = c .before .before .before .before .before .before .before .before .enter-block .ensures (c .before .before .before .before .before .before .before .before .before .before .before .before .before .before .before .before .args .kinds .now) _ _ refl (good-within (c .before .before .before .before .before .before .before .before .before .before .before .before .before .before .before .before .args .b .labels) (c .before .before .before .before .before .before .before .before .before .before .before .before .before .before .before .before .args .scope-end) (c .before .before .before .before .before .before .before .before .before .before .before .before .before .before .before .before .args .b .«break_target») (c .before .before .before .before .before .before .before .before .before .before .before .before .before .before .before .before .args .b .«continue_target») (le-refl _) (c .before .before .before .before .before .before .before .before .before .before .before .before .before .before .before .before .pre .1 .4) (c .before .before .before .before .before .before .before .before .before .before .before .before .before .before .before .before .pre .1 .1 .breakTarget) (c .before .before .before .before .before .before .before .before .before .before .before .before .before .before .before .before .pre .1 .1 .continueTarget) (c .before .before .before .before .before .before .before .before .before .before .before .before .before .before .before .before .pre .1 .1)) in
     (omega (arith, c .before .before .before .before .before .before .before .before .before .before .before .before .before .before .before .before .pre .0, n .item), (c .before .before .before .before .before .before .before .before .before .before .before .before .before .before .before .before .pre .1 .0, n .good, omega (arith, n .item, c .before .before .before .before .before .before .before .before .before .before .before .before .before .before .before .before .pre .1 .2), λ ss e. entered-room _ ss (c .before .before .before .before .before .before .before .before .before .before .before .before .before .before .before .before .pre .1 .1) (c .before .before .before .before .before .before .before .before .before .before .before .before .before .before .before .before .args .scope-end) (c .before .before .before .before .before .before .before .before .enter-block .ensures ss _ _ e (good-within (c .before .before .before .before .before .before .before .before .before .before .before .before .before .before .before .before .args .b .labels) (c .before .before .before .before .before .before .before .before .before .before .before .before .before .before .before .before .args .scope-end) (c .before .before .before .before .before .before .before .before .before .before .before .before .before .before .before .before .args .b .«break_target») (c .before .before .before .before .before .before .before .before .before .before .before .before .before .before .before .before .args .b .«continue_target») (le-refl _) (c .before .before .before .before .before .before .before .before .before .before .before .before .before .before .before .before .pre .1 .4) (c .before .before .before .before .before .before .before .before .before .before .before .before .before .before .before .before .pre .1 .1 .breakTarget) (c .before .before .before .before .before .before .before .before .before .before .before .before .before .before .before .before .pre .1 .1 .continueTarget) (c .before .before .before .before .before .before .before .before .before .before .before .before .before .before .before .before .pre .1 .1))) (c .before .before .before .before .before .before .before .before .before .before .before .before .before .before .before .before .pre .1 .3 ss e)))
 
@@ -480,11 +495,14 @@ while-loop-add-loop-body : (t : ℕ) → while-loop-lts.Need-add-loop-body (whil
 while-loop-add-loop-body t c = omega (arith, c .before .before .before .before .before .before .before .before .before .before .before .before .before .before .before .before .before .before .pre .1 .1 .nodes)
 
 while-loop-loop-body-requires : (t : ℕ) → while-loop-lts.Need-loop-body-requires (while-loop-claims t) (while-loop-at t) while-loop.Post
-while-loop-loop-body-requires t c κs = 
-    let hd = c .before .before .before .before .before .before .before .before .while-head .ensures (c .before .before .before .before .before .before .before .before .before .before .before .before .before .before .before .before .before .before .args .kinds .now) _ _ (c .before .before .before .before .before .before .before .before .before .before .before .before .before .before .before .before .before .before .pre .1 .1) (code-starts _ 2 (c .before .before .before .before .before .before .before .before .before .before .before .before .before .before .before .before .before .before .pre .1 .5) (lit≤ tt)) in
-    (omega (arith, c .before .before .before .before .before .before .before .before .before .before .before .before .before .before .before .before .before .before .pre .0, hd .item, c .before .before .before .before .before .before .before .before .before .before .before .before .before .before .before .before .before .before .pre .1 .2, c .before .before .before .before .before .before .before .before .before .before .before .before .before .before .before .before .before .before .pre .1 .4),
-    ((c .before .before .before .before .before .before .before .before .before .before .before .before .before .before .before .before .before .before .pre .1 .0, hd .good, omega (arith, hd .item, c .before .before .before .before .before .before .before .before .before .before .before .before .before .before .before .before .before .before .pre .1 .2, c .before .before .before .before .before .before .before .before .before .before .before .before .before .before .before .before .before .before .pre .1 .4), at-item (c .before .before .before .before .before .before .before .before .before .before .before .before .before .before .before .before .before .before .args .kinds .now) (c .before .before .before .before .before .before .before .before .while-head .result) ((c .before .before .before .before .before .before .before .before .before .before .before .before .before .before .before .before .before .before .args .i) + 1) (hd .item ∙ c .before .before .before .before .before .before .before .before .before .before .before .before .before .before .before .before .before .before .pre .1 .2) (λ ss e. omega (arith, while-room (c .before .before .before .before .before .before .before .before .before .before .before .before .before .before .before .before .before .before .args .kinds .now) ss e (c .before .before .before .before .before .before .before .before .before .before .before .before .before .before .before .before .before .before .args .i) (c .before .before .before .before .before .before .before .before .before .before .before .before .before .before .before .before .before .before .pre .1 .4) (c .before .before .before .before .before .before .before .before .before .before .before .before .before .before .before .before .before .before .args .b) (c .before .before .before .before .before .before .before .before .before .before .before .before .before .before .before .before .before .before .pre .1 .6) (c .before .before .before .before .before .before .before .before .before .before .before .before .before .before .before .before .before .before .pre .1 .5), hd .nodes)), c .before .before .before .before .before .before .before .before .before .before .before .before .before .before .before .before .before .before .pre .1 .0 .scopes _ (c .before .before .before .before .before .before .before .before .before .before .before .before .before .before .before .before .before .before .pre .1 .4) (omega (arith, c .before .before .before .before .before .before .before .before .before .before .before .before .before .before .before .before .before .before .pre .1 .5)) (omega (arith, c .before .before .before .before .before .before .before .before .before .before .before .before .before .before .before .before .before .before .pre .1 .5))),
-    (omega (arith, hd .nodes), omega (arith, hd .nodes))))
+while-loop-loop-body-requires t c κs =
+    let hd = c .before .before .before .before .before .before .before .before .while-head .ensures (c .before .before .before .before .before .before .before .before .before .before .before .before .before .before .before .before .before .before .args .kinds .now) _ _ (c .before .before .before .before .before .before .before .before .before .before .before .before .before .before .before .before .before .before .pre .1 .1) (code-starts _ 2 (c .before .before .before .before .before .before .before .before .before .before .before .before .before .before .before .before .before .before .pre .1 .5) (lit≤ tt)) in (
+      omega (arith, c .before .before .before .before .before .before .before .before .before .before .before .before .before .before .before .before .before .before .pre .0, hd .item, c .before .before .before .before .before .before .before .before .before .before .before .before .before .before .before .before .before .before .pre .1 .2, c .before .before .before .before .before .before .before .before .before .before .before .before .before .before .before .before .before .before .pre .1 .4),
+      (
+        (c .before .before .before .before .before .before .before .before .before .before .before .before .before .before .before .before .before .before .pre .1 .0, hd .good, omega (arith, hd .item, c .before .before .before .before .before .before .before .before .before .before .before .before .before .before .before .before .before .before .pre .1 .2, c .before .before .before .before .before .before .before .before .before .before .before .before .before .before .before .before .before .before .pre .1 .4), at-item (c .before .before .before .before .before .before .before .before .before .before .before .before .before .before .before .before .before .before .args .kinds .now) (c .before .before .before .before .before .before .before .before .while-head .result) ((c .before .before .before .before .before .before .before .before .before .before .before .before .before .before .before .before .before .before .args .i) + 1) (hd .item ∙ c .before .before .before .before .before .before .before .before .before .before .before .before .before .before .before .before .before .before .pre .1 .2) (λ ss e. omega (arith, while-room (c .before .before .before .before .before .before .before .before .before .before .before .before .before .before .before .before .before .before .args .kinds .now) ss e (c .before .before .before .before .before .before .before .before .before .before .before .before .before .before .before .before .before .before .args .i) (c .before .before .before .before .before .before .before .before .before .before .before .before .before .before .before .before .before .before .pre .1 .4) (c .before .before .before .before .before .before .before .before .before .before .before .before .before .before .before .before .before .before .args .b) (c .before .before .before .before .before .before .before .before .before .before .before .before .before .before .before .before .before .before .pre .1 .6) (c .before .before .before .before .before .before .before .before .before .before .before .before .before .before .before .before .before .before .pre .1 .5), hd .nodes)), c .before .before .before .before .before .before .before .before .before .before .before .before .before .before .before .before .before .before .pre .1 .0 .scopes _ (c .before .before .before .before .before .before .before .before .before .before .before .before .before .before .before .before .before .before .pre .1 .4) (omega (arith, c .before .before .before .before .before .before .before .before .before .before .before .before .before .before .before .before .before .before .pre .1 .5)) (omega (arith, c .before .before .before .before .before .before .before .before .before .before .before .before .before .before .before .before .before .before .pre .1 .5))),
+        (omega (arith, hd .nodes), omega (arith, hd .nodes)),
+      ),
+    )
 
 while-loop-past-requires : (t : ℕ) → while-loop-lts.Need-past-requires (while-loop-claims t) (while-loop-at t) while-loop.Post
 while-loop-past-requires t c κs = c .before .before .before .before .before .before .before .before .loop-body .ensures (c .before .before .before .before .before .before .before .before .before .before .before .before .before .before .before .before .before .before .before .before .before .before .before .before .before .before .before .args .kinds .now) refl .moved .within

@@ -1,0 +1,4 @@
+pub mod Stamps
+pub mod Walk
+pub mod Walking
+pub mod EmptyReads

@@ -1,0 +1,47 @@
+-- `next_uses::link` meets its contract: the two cases of its test.
+-- Assumes nothing.
+use borrow.Author.Tests.{lt-ltb, le-ltb}
+use borrow.Author.Needs.{needs}
+use Rattle.next_uses.proofs.link.Statement.{statement}
+use Rattle.next_uses.proofs.link.Tie as tie
+
+mul-next : tie.Need-mul-next
+mul-next c = search needs
+
+element-copy-out-next : tie.Need-element-copy-out-next
+element-copy-out-next c = search needs
+
+mul-next-2 : tie.Need-mul-next-2
+mul-next-2 c = search needs
+
+element-write-next : tie.Need-element-write-next
+element-write-next c = search needs
+
+cast-head : tie.Need-cast-head
+cast-head c = search needs
+
+mul-head : tie.Need-mul-head
+mul-head c = search needs
+
+element-write-head : tie.Need-element-write-head
+element-write-head c = search needs
+
+returns : tie.Need-returns
+returns c = (simp (lt-ltb _ _ (c .before .if1 .taken)), simp (lt-ltb _ _ (c .before .if1 .taken)))
+
+returns-2 : tie.Need-returns-2
+returns-2 c = (simp (le-ltb _ _ (c .if1 .left)), simp (le-ltb _ _ (c .if1 .left)))
+
+pub link-spec : {M : Type 1} → statement M
+link-spec =
+    tie.close
+    (tie.spec
+    mul-next
+    element-copy-out-next
+    mul-next-2
+    element-write-next
+    cast-head
+    mul-head
+    element-write-head
+    returns
+    returns-2)

@@ -1,0 +1,3 @@
+pub mod Grouped
+pub mod Uses
+pub mod Spelled
