@@ -60,6 +60,12 @@ module _ (S : List ℕ) (e : sheetVerdict S ≡ Admitted) where
         spans = spans;
         outerEnd = passes .outerEnd;
         fits = λ i h. fits-at (items S) (passes .fits) i (omega (arith, all-items));
+        shallow = passes .shallow;
+        pairs = passes .pairs;
+        beside = passes .beside;
+        inOrder = passes .line;
+        heldBy = passes .heldBy;
+        namesInside = passes .named;
         tidy = tidy (kindWords S) (spanWords S) as-many (passes .pairs);
         closed = closed (kindWords S) (spanWords S) as-many (passes .pairs);
         room = roomy (kindWords S) (spanWords S) as-many (omega (arith, kinds, passes .few)) (passes .pairs);

@@ -115,6 +115,7 @@ module _ (S U : List ℕ) (few : length (locals S) ≤ 1024) (kinds : (u : ℕ) 
         unassigned = λ ℓ u h. at (word 0 ℓ (suc u)) (unassignedWord ℓ u) (omega arith) (told 0 ℓ (suc u) (omega arith) h);
         overwritten = λ ℓ w h. at (word 1 ℓ (suc w)) (overwrittenWord ℓ w) (omega arith) (told 1 ℓ (suc w) (omega arith) h);
         initial = λ ℓ h. at (word 1 ℓ 0) (initialWord ℓ) (omega arith) (told 1 ℓ 0 (omega arith) h);
+        asMany = length-map fs (λ (x : Finding). x .span) ∙ sym (length-map fs (λ (x : Finding). x .word));
         nothingElse = λ i h. subst₂ (Named S U) (sym (word-at fs i)) (sym (span-at fs i)) (stated _ (findings-law _ .0 (mem-at noFinding fs i (omega (arith, words-length fs)))));
         rising = λ i j h k. subst₂ (λ (x y : ℕ). Before (order S U x) (order S U y)) (sym (word-at fs i)) (sym (word-at fs j)) (rising-at noFinding findings-rising i j h (omega (arith, words-length fs)));
       }

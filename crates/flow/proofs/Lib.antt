@@ -16,3 +16,4 @@ pub mod Written
 pub mod Sources
 pub mod Spans
 pub mod Admission
+pub mod Judged

@@ -14,7 +14,7 @@ use Rattle.flow.specs.declared.Verdict.{Verdict}
 use Rattle.flow.specs.declared.Verdict.the-variants.{Admitted, Refused}
 use Rattle.flow.specs.Sheet.{Item, kind, count, outerEnd, items, startOf, endOf, argumentOf}
 use Rattle.flow.specs.Kinds.{argumentFits, itemFits}
-use Rattle.flow.specs.Refusals.{Test, lowest, miscount, allFit, badItem, pairsUp, badNesting, inLine, offTheLine, sheetTests, sheetVerdict}
+use Rattle.flow.specs.Refusals.{Test, lowest, miscount, allFit, badItem, pairsUp, badNesting, inLine, offTheLine, sheetTests, sheetVerdict, outnumbered, tooDeep, sideBySide, held, namesFit, badName}
 use Rattle.flow.specs.Admitted.{anItem}
 use Rattle.search.proofs.Worklist.{keep-in}
 use Rattle.flow.proofs.Members.{and-both}
@@ -71,20 +71,30 @@ pub record Passed (ws : List ℕ) : Type 0 where
   pub fits : allFit (items ws) ≡ true
   pub pairs : pairsUp [] (items ws) ≡ true
   pub line : inLine 0 (items ws) ≡ true
+  pub shallow : outnumbered 0 0 (items ws) ≡ false
+  pub beside : sideBySide 0 (items ws) ≡ true
+  pub heldBy : held (Rattle.flow.specs.Sheet.outerEnd ws ∷ []) (items ws) ≡ true
+  pub named : namesFit 0 0 (items ws) ≡ true
 
 pub sheet-passed : (ws : List ℕ) → sheetVerdict ws ≡ Admitted → Passed ws
-unfolding sheetVerdict sheetTests miscount badItem badNesting offTheLine
+unfolding sheetVerdict sheetTests miscount badItem tooDeep badNesting offTheLine badName
 sheet-passed ws e =
     let p = passed _ e in
     let c = counted 2 ws (p .0) in
     let i = and-both (ltb (outerEnd ws) (2 ^ 32)) _ (not-false _ (p .1 .0)) in
+    let nests = and-both (pairsUp [] (items ws)) _ (not-false _ (p .1 .1 .1 .0)) in
+    let lies = and-both (inLine 0 (items ws)) _ (not-false _ (p .1 .1 .1 .1 .0)) in
     record {
       words = c .0;
       few = c .1;
       outerEnd = ltb-true _ _ (i .0);
       fits = i .1;
-      pairs = and-both (pairsUp [] (items ws)) _ (not-false _ (p .1 .1 .1 .0)) .0;
-      line = and-both (inLine 0 (items ws)) _ (not-false _ (p .1 .1 .1 .1 .0)) .0;
+      pairs = nests .0;
+      line = lies .0;
+      shallow = p .1 .1 .0;
+      beside = nests .1;
+      heldBy = lies .1;
+      named = not-false _ (p .1 .1 .1 .1 .1 .0);
     }
 
 -- ---- an item

@@ -1,7 +1,7 @@
 -- What 01's table shows of a sheet that it admits: the facts that later layers lean on. `proofs/Admission.antt` draws them from `sheetVerdict`.
 -- Assumes nothing: these are definitions.
 use mathlib.Core.Path.{_≡_}
-use mathlib.Core.Bool.{Bool, true}
+use mathlib.Core.Bool.{Bool, true, false}
 use mathlib.Core.List.{List, [], _∷_, _++_}
 use Prim.Native.Nat.{ℕ, _+_, _*_, _^_, _≤_, _<_}
 use lib.ListN.{length, getD, drop}
@@ -10,7 +10,7 @@ use Rattle.flow.specs.declared.Bench.{Bench}
 use Rattle.flow.specs.declared.Verdict.the-variants.{Admitted}
 use Rattle.flow.specs.Sheet.{Item, kind, count, outerEnd, items, kindWords, spanWords, together, kindOf, endOf, useWords, useSpans, localOf, useKindOf}
 use Rattle.flow.specs.Kinds.{NAME, itemFits, isCode}
-use Rattle.flow.specs.Refusals.{nameCount, sheetVerdict}
+use Rattle.flow.specs.Refusals.{nameCount, sheetVerdict, outnumbered, pairsUp, sideBySide, inLine, held, namesFit}
 use Rattle.flow.specs.Tree.{parse, tree, no-more}
 use Rattle.flow.specs.Size.{blockNodes}
 use Rattle.flow.specs.Graph.{graph}
@@ -47,6 +47,12 @@ pub record AdmittedSheet (S : List ℕ) : Type 0 where
   pub spans : length (spanWords S) ≡ count S
   pub outerEnd : outerEnd S < 2 ^ 32
   pub fits : (i : ℕ) → i < count S → itemFits (getD (items S) i anItem) ≡ true
+  pub shallow : outnumbered 0 0 (items S) ≡ false
+  pub pairs : pairsUp [] (items S) ≡ true
+  pub beside : sideBySide 0 (items S) ≡ true
+  pub inOrder : inLine 0 (items S) ≡ true
+  pub heldBy : held (Rattle.flow.specs.Sheet.outerEnd S ∷ []) (items S) ≡ true
+  pub namesInside : namesFit 0 0 (items S) ≡ true
   pub tidy : Tidy (kindWords S)
   pub closed : Closed (kindWords S)
   pub room : Roomy (kindWords S)

@@ -140,7 +140,7 @@ Before [] ys = ⊥
 Before (x ∷ xs) [] = ⊥
 Before (x ∷ xs) (y ∷ ys) = (x < y) ⊎ ((x ≡ y) × Before xs ys)
 
--- "Nothing else is listed for any local"
+-- "Nothing else is listed for any local": an entry has the form of one of the three; that it is rightly there, the three say from left to right
 abbrev pub Named : List ℕ → List ℕ → ℕ → ℕ → Type 0
 Named S U word span =
     ((ℓ : ℕ) × (u : ℕ) × (ℓ < length (locals S)) × (word ≡ unassignedWord ℓ u) × (span ≡ useSpan U u))
@@ -152,5 +152,6 @@ pub record Demand3 (S U words spans : List ℕ) : Type 0 where
   pub unassigned : (ℓ u : ℕ) → ℓ < length (locals S) → Listed words spans (unassignedWord ℓ u) (useSpan U u) ↔ Unassigned S U ℓ u
   pub overwritten : (ℓ w : ℕ) → ℓ < length (locals S) → Listed words spans (overwrittenWord ℓ w) (useSpan U w) ↔ Overwritten S U ℓ w
   pub initial : (ℓ : ℕ) → ℓ < length (locals S) → Listed words spans (initialWord ℓ) (getD (graph S .names .span) ℓ 0) ↔ OverwrittenInitial S U ℓ
+  pub asMany : length spans ≡ length words
   pub nothingElse : (i : ℕ) → i < length words → Named S U (getD words i 0) (getD spans i 0)
   pub rising : (i j : ℕ) → i < j → j < length words → Before (order S U (getD words i 0)) (order S U (getD words j 0))

@@ -72,6 +72,7 @@ pub record Use : Type 0 where
   pub inClosure : Bool
   pub place : Place
 
+-- 0 where there is none, which `allFound` rules out
 abbrev pub nodeOf : Place → ℕ
 nodeOf (Node v) = v
 nodeOf Past = 0

@@ -95,6 +95,7 @@ connect a b g = record {
   current = g .current;
 }
 
+-- another node is current, with no edge to it; 01's "moves there" is `advanceTo`
 unfoldable pub moveTo : ℕ → Graph → Graph
 moveTo v g = record { nodes = g .nodes; codes = g .codes; names = g .names; current = v }
 

@@ -107,6 +107,6 @@ isCode i =
 unfoldable pub literalTruth : ℕ → Truth
 literalTruth c = cond (leb c 1) False (cond (leb c 8) True Unknown)
 
--- "It raises exactly when the argument is 6": `error` is called as a bare name that the script holds a reference to, and neither resolved, nor `_ENV`, nor assigned
+-- "It raises exactly when the argument is 6": no method call (1), of bare `error` (2), whose span holds a reference of that name (4), which is not resolved (8), under no local `_ENV` (16), with neither `_ENV` (32) nor `error` (64) assigned
 abbrev pub raises : ℕ → Bool
 raises a = eqb a 6

@@ -1,5 +1,7 @@
 -- 01, "Label check": "Yes exactly when no two labels with the same name number, not 0, stand directly in the same block and every GOTO finds a label."
--- The clauses rest on the Lua manuals: 5.2 §3.3.4 and 5.3 §3.3.4 ("A label is visible in the entire block where it is defined, including nested blocks"; a label may not be repeated where it is visible in that block), 5.4 and 5.5 §3.3.4 the same. 5.1 and Luau have no goto, so that no clause comes from them.
+-- Every GOTO finds a label: Lua 5.2 and 5.3, section 3.3.4: "A label is visible in the entire block where it is defined, except inside nested blocks where a label with the same name is defined and inside nested functions. A goto may jump to any visible label as long as it does not enter into the scope of a local variable." So a label of an enclosing block is found, too.
+-- No label twice in one block: the compilers of 5.2 and later refuse it.
+-- That no goto enters the scope of a local, and 5.4's ban on a name that an enclosing block's label has, come with request C-16. 5.1 and Luau have no goto.
 -- Assumes nothing: these are definitions.
 use mathlib.Core.Bool.{Bool, true, false, _&&_, _||_, not}
 use mathlib.Core.List.{List, [], _∷_, _++_}

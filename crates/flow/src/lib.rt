@@ -19,7 +19,7 @@ pub enum Place {
     Past,
 }
 
-// How many entries the lent columns hold: the shortest column of each sort.
+// How many entries the lent columns hold: the shortest column of each sort. The mark column is one for locals.
 pub struct Bench {
     pub nodes: usize,
     pub codes: usize,
