@@ -4,3 +4,4 @@ pub mod Statements
 pub mod Choices
 pub mod Rooms
 pub mod Sheets
+pub mod Sanity

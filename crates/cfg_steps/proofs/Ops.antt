@@ -213,7 +213,7 @@ painted-length ks ss (c ∷ cs) ps = painted-length ks ss cs _ ∙ go (hasStart 
     go true = length-set ps (lo c) _
     go false = refl
 
-painted-append : (ks ss cs ds ps : List ℕ) → painted ks ss (cs ++ ds) ps ≡ painted ks ss ds (painted ks ss cs ps)
+pub painted-append : (ks ss cs ds ps : List ℕ) → painted ks ss (cs ++ ds) ps ≡ painted ks ss ds (painted ks ss cs ps)
 unfolding painted
 painted-append ks ss [] ds ps = refl
 painted-append ks ss (c ∷ cs) ds ps = painted-append ks ss cs ds _
@@ -225,7 +225,7 @@ unfolding painted
 painted-last ks ss c ps k w i v t h p q e = rw (take-more k w c h, painted-append ks ss (take k c) (w ∷ []) ps, p, q, e)
 
 -- codes of nodes that are there leave what is added past them
-painted-left : (ks ss cs ps qs : List ℕ) → ((k : ℕ) → k < length cs → lo (getD cs k 0) < length ps) → painted ks ss cs (ps ++ qs) ≡ painted ks ss cs ps ++ qs
+pub painted-left : (ks ss cs ps qs : List ℕ) → ((k : ℕ) → k < length cs → lo (getD cs k 0) < length ps) → painted ks ss cs (ps ++ qs) ≡ painted ks ss cs ps ++ qs
 unfolding painted
 painted-left ks ss [] ps qs h = refl
 painted-left ks ss (c ∷ cs) ps qs h =

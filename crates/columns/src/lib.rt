@@ -1,0 +1,145 @@
+// The words of a built graph, taken apart in place into the columns of its chart.
+ghost use mathlib.Core.Path.{_≡_};
+ghost use mathlib.Core.List.{[], _∷_, _++_, map};
+ghost use Prim.Native.Nat.{ℕ, _≤_, _<_};
+ghost use lib.ListN.{length, getD, set, take, drop, replicate};
+ghost use Rattle.cfg_steps.specs.Columns.{lo, hi, hasStart, painted, nameNode, nameItem};
+ghost use Rattle.columns.specs.Words.{CodeWithin};
+use search::clear;
+
+// A word is its lower half + 2^32 × its upper half.
+const HALF: u64 = 0x1_0000_0000;
+
+// The word of node i: its first successor stays in the column, and its second goes to the other.
+fn split_edge(first: &mut [u64], second: &mut [u64], i: usize)
+    requires { ⌜ (i < length (now first)) × (i < length (now second)) ⌝ }
+    ensures { λ _. ⌜ now (first .exit) ≡ set (now (first .entry)) i (lo (getD (now (first .entry)) i 0)) ⌝ }
+    ensures { λ _. ⌜ now (second .exit) ≡ set (now (second .entry)) i (hi (getD (now (first .entry)) i 0)) ⌝ }
+{
+    let w = first[i];
+    first[i] = w % HALF;
+    second[i] = w / HALF;
+}
+
+// The successors of n nodes, whose words stand in `first`.
+pub fn split_edges(first: &mut [u64], second: &mut [u64], n: usize)
+    requires { ⌜ (n ≤ length (now first)) × (n ≤ length (now second)) ⌝ }
+    ensures { λ _. ⌜ now (first .exit) ≡ map lo (take n (now (first .entry))) ++ drop n (now (first .entry)) ⌝ }
+    ensures { λ _. ⌜ now (second .exit) ≡ map hi (take n (now (first .entry))) ++ drop n (now (second .entry)) ⌝ }
+{
+    let mut i = 0;
+    while i < n {
+        split_edge(first, second, i);
+        i += 1;
+    }
+}
+
+// Whether a code gives its node a start, by its item's word: not where the item ends a block (8, 9) or is a label (12).
+fn has_start(word: u64) -> bool
+    ensures { λ r. ⌜ r ≡ hasStart word ⌝ }
+{
+    match word % 256 {
+        8 | 9 | 12 => false,
+        _ => true,
+    }
+}
+
+// The word of code k: its node stays in the column, its item gives the span, and the node may start there.
+fn split_code(
+    kinds: &[u64],
+    spans: &[u64],
+    code_node: &mut [u64],
+    code_span: &mut [u64],
+    start: &mut [u64],
+    k: usize,
+)
+    requires { ⌜ (k < length (now «code_node»)) × (k < length (now «code_span»)) ⌝ }
+    requires { ⌜ CodeWithin (length (now start)) (now kinds) (now spans) (getD (now «code_node») k 0) ⌝ }
+    ensures { λ _. ⌜ now («code_node» .exit) ≡ set (now («code_node» .entry)) k (lo (getD (now («code_node» .entry)) k 0)) ⌝ }
+    ensures { λ _. ⌜ now («code_span» .exit) ≡ set (now («code_span» .entry)) k (getD (now (spans .entry)) (hi (getD (now («code_node» .entry)) k 0)) 0) ⌝ }
+    ensures { λ _. ⌜ now (start .exit) ≡ painted (now (kinds .entry)) (now (spans .entry)) (getD (now («code_node» .entry)) k 0 ∷ []) (now (start .entry)) ⌝ }
+{
+    let c = code_node[k];
+    let node = (c % HALF) as usize;
+    let item = (c / HALF) as usize;
+    let span = spans[item];
+    code_node[k] = c % HALF;
+    code_span[k] = span;
+    if has_start(kinds[item]) {
+        start[node] = span % HALF;
+    }
+}
+
+// The nodes and spans of the codes, whose words stand in `code_node`, and the code starts of n nodes, 0 where no code gives one.
+pub fn split_codes(
+    kinds: &[u64],
+    spans: &[u64],
+    code_node: &mut [u64],
+    code_span: &mut [u64],
+    start: &mut [u64],
+    codes: usize,
+    n: usize,
+)
+    requires { ⌜ (codes ≤ length (now «code_node»)) × (codes ≤ length (now «code_span»)) × (n ≤ length (now start)) ⌝ }
+    requires { ⌜ ((k : ℕ) → k < codes → CodeWithin n (now kinds) (now spans) (getD (now «code_node») k 0)) ⌝ }
+    ensures { λ _. ⌜ now («code_node» .exit) ≡ map lo (take codes (now («code_node» .entry))) ++ drop codes (now («code_node» .entry)) ⌝ }
+    ensures { λ _. ⌜ now («code_span» .exit) ≡ map (λ c. getD (now (spans .entry)) (hi c) 0) (take codes (now («code_node» .entry))) ++ drop codes (now («code_span» .entry)) ⌝ }
+    ensures { λ _. ⌜ now (start .exit) ≡ painted (now (kinds .entry)) (now (spans .entry)) (take codes (now («code_node» .entry))) (replicate n 0) ++ drop n (now (start .entry)) ⌝ }
+{
+    clear(start, n);
+    let mut k = 0;
+    while k < codes {
+        split_code(kinds, spans, code_node, code_span, start, k);
+        k += 1;
+    }
+}
+
+// A name's node by its word, where 65,535 stands for no node.
+fn node_of_name(w: u64) -> u64
+    ensures { λ r. ⌜ r ≡ nameNode w ⌝ }
+{
+    let node = w % 65536;
+    if node == 65535 { 4294967295 } else { node }
+}
+
+// The word of name k: its node stays in the column, its item gives the span, and the upper half is its scope end.
+fn split_name(
+    spans: &[u64],
+    name_node: &mut [u64],
+    name_span: &mut [u64],
+    name_end: &mut [u64],
+    k: usize,
+)
+    requires { ⌜ (k < length (now «name_node»)) × (k < length (now «name_span»)) × (k < length (now «name_end»)) ⌝ }
+    requires { ⌜ nameItem (getD (now «name_node») k 0) < length (now spans) ⌝ }
+    ensures { λ _. ⌜ now («name_node» .exit) ≡ set (now («name_node» .entry)) k (nameNode (getD (now («name_node» .entry)) k 0)) ⌝ }
+    ensures { λ _. ⌜ now («name_span» .exit) ≡ set (now («name_span» .entry)) k (getD (now (spans .entry)) (nameItem (getD (now («name_node» .entry)) k 0)) 0) ⌝ }
+    ensures { λ _. ⌜ now («name_end» .exit) ≡ set (now («name_end» .entry)) k (hi (getD (now («name_node» .entry)) k 0)) ⌝ }
+{
+    let w = name_node[k];
+    let item = (w / 65536 % 65536) as usize;
+    name_node[k] = node_of_name(w);
+    name_span[k] = spans[item];
+    name_end[k] = w / HALF;
+}
+
+// The nodes, spans and scope ends of the names, whose words stand in `name_node`.
+pub fn split_names(
+    spans: &[u64],
+    name_node: &mut [u64],
+    name_span: &mut [u64],
+    name_end: &mut [u64],
+    names: usize,
+)
+    requires { ⌜ (names ≤ length (now «name_node»)) × (names ≤ length (now «name_span»)) × (names ≤ length (now «name_end»)) ⌝ }
+    requires { ⌜ ((k : ℕ) → k < names → nameItem (getD (now «name_node») k 0) < length (now spans)) ⌝ }
+    ensures { λ _. ⌜ now («name_node» .exit) ≡ map nameNode (take names (now («name_node» .entry))) ++ drop names (now («name_node» .entry)) ⌝ }
+    ensures { λ _. ⌜ now («name_span» .exit) ≡ map (λ w. getD (now (spans .entry)) (nameItem w) 0) (take names (now («name_node» .entry))) ++ drop names (now («name_span» .entry)) ⌝ }
+    ensures { λ _. ⌜ now («name_end» .exit) ≡ map hi (take names (now («name_node» .entry))) ++ drop names (now («name_end» .entry)) ⌝ }
+{
+    let mut k = 0;
+    while k < names {
+        split_name(spans, name_node, name_span, name_end, k);
+        k += 1;
+    }
+}
