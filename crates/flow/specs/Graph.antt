@@ -73,27 +73,30 @@ pub record Settings : Type 0 where
   pub scopeEnd : ℕ
   pub labels : List Label
 
+-- the same graph with other nodes, codes or names
+abbrev pub withNodes : Nodes → Graph → Graph
+withNodes n g = record { nodes = n; codes = g .codes; names = g .names; current = g .current }
+
+abbrev pub withCodes : Codes → Graph → Graph
+withCodes c g = record { nodes = g .nodes; codes = c; names = g .names; current = g .current }
+
+abbrev pub withNames : Names → Graph → Graph
+withNames n g = record { nodes = g .nodes; codes = g .codes; names = n; current = g .current }
+
 unfoldable pub newNode : Graph → Graph
-newNode g = record {
-  nodes = record { first = g .nodes .first ++ (absent ∷ []); second = g .nodes .second ++ (absent ∷ []); start = g .nodes .start ++ (0 ∷ []) };
-  codes = g .codes;
-  names = g .names;
-  current = g .current;
-}
+newNode g = withNodes (record { first = g .nodes .first ++ (absent ∷ []); second = g .nodes .second ++ (absent ∷ []); start = g .nodes .start ++ (0 ∷ []) }) g
 
 -- "A node has a first and a second successor; a third edge is dropped."; from no node there is no edge
 unfoldable pub connect : ℕ → ℕ → Graph → Graph
-connect a b g = record {
-  nodes = cond (eqb a absent) (g .nodes)
-      (cond (eqb (getD (g .nodes .first) a 0) absent)
-      (record { first = set (g .nodes .first) a b; second = g .nodes .second; start = g .nodes .start })
-      (cond (eqb (getD (g .nodes .second) a 0) absent)
-      (record { first = g .nodes .first; second = set (g .nodes .second) a b; start = g .nodes .start })
-      (g .nodes)));
-  codes = g .codes;
-  names = g .names;
-  current = g .current;
-}
+connect a b g =
+    withNodes
+    (cond (eqb a absent) (g .nodes)
+    (cond (eqb (getD (g .nodes .first) a 0) absent)
+    (record { first = set (g .nodes .first) a b; second = g .nodes .second; start = g .nodes .start })
+    (cond (eqb (getD (g .nodes .second) a 0) absent)
+    (record { first = g .nodes .first; second = set (g .nodes .second) a b; start = g .nodes .start })
+    (g .nodes))))
+    g
 
 -- another node is current, with no edge to it; 01's "moves there" is `advanceTo`
 unfoldable pub moveTo : ℕ → Graph → Graph
@@ -105,20 +108,10 @@ advanceTo v g = moveTo v (connect (g .current) v g)
 
 -- a span recorded at a node
 unfoldable pub recordCode : ℕ → ℕ → Graph → Graph
-recordCode s v g = record {
-  nodes = g .nodes;
-  codes = record { span = g .codes .span ++ (s ∷ []); node = g .codes .node ++ (v ∷ []) };
-  names = g .names;
-  current = g .current;
-}
+recordCode s v g = withCodes (record { span = g .codes .span ++ (s ∷ []); node = g .codes .node ++ (v ∷ []) }) g
 
 unfoldable pub setStart : ℕ → ℕ → Graph → Graph
-setStart v p g = record {
-  nodes = record { first = g .nodes .first; second = g .nodes .second; start = set (g .nodes .start) v p };
-  codes = g .codes;
-  names = g .names;
-  current = g .current;
-}
+setStart v p g = withNodes (record { first = g .nodes .first; second = g .nodes .second; start = set (g .nodes .start) v p }) g
 
 -- "Each code item but LABEL and UNTIL makes a new node, records span and start, takes an edge .. and becomes current."
 unfoldable pub code : ℕ → Graph → Graph
@@ -134,12 +127,8 @@ jump s b g = closeInto b (code s g)
 
 -- a NAME: "its span, node and scope end"; its LOCAL's node is current
 unfoldable pub declare : ℕ → Settings → Graph → Graph
-declare s st g = record {
-  nodes = g .nodes;
-  codes = g .codes;
-  names = record { span = g .names .span ++ (s ∷ []); node = g .names .node ++ (g .current ∷ []); scopeEnd = g .names .scopeEnd ++ (st .scopeEnd ∷ []) };
-  current = g .current;
-}
+declare s st g =
+    withNames (record { span = g .names .span ++ (s ∷ []); node = g .names .node ++ (g .current ∷ []); scopeEnd = g .names .scopeEnd ++ (st .scopeEnd ∷ []) }) g
 
 -- "A name means the innermost, then latest, such label": the labels in force, the latest first. Name 0 has no label.
 unfoldable pub labelNode : ℕ → List Label → Found
