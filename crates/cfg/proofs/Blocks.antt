@@ -16,11 +16,13 @@ use Rattle.flow.specs.Tree.{Stmt, Block, Arms, Frame, Open, simple, do-block, w
 use Rattle.flow.specs.Size.{stmtNodes, blockNodes, armNodes, simpleNodes}
 use Rattle.flow.specs.Graph.{Graph, Settings, Label, nodeCount, buildStmt, buildBlock, buildArms, inside, inLoop, entered, closeInto, newNodes, withLabels}
 use Rattle.flow.proofs.NodeCount.{stmt-count, block-count, built-count}
+use Rattle.blocks.specs.Open.{itemAt, openAt, Ender}
+use Rattle.blocks.proofs.Parse.{read-at, read-end, read-close, read-elseif, read-else}
+use Rattle.blocks.proofs.Scan.{ender-closes}
 use Rattle.cfg_steps.specs.declared.GraphBuilder.{GraphBuilder}
-use Rattle.cfg_steps.specs.Columns.{Cols, itemAt, openAt, graphOf, settingsOf, labelList, Good, Grown, Did, Entered}
+use Rattle.cfg_steps.specs.Columns.{Cols, graphOf, settingsOf, labelList, Good, Grown, Did, Entered}
 use Rattle.cfg_steps.proofs.Ops.{count-of, grown-same, grown-trans, same-labels, take-less}
-use Rattle.cfg_steps.proofs.Parse.{read-at, read-end, read-close, read-elseif, read-else}
-use Rattle.cfg.specs.Steps.{Sane, Ender, bare, Moved, Stepped, Opened, Finished, Scoped, Looped, Chosen, BlockRoom, EnteredRoom, StmtRoom, ArmRoom}
+use Rattle.cfg.specs.Steps.{bare, Moved, Stepped, Finished}
 
 -- ---- moves
 
@@ -120,10 +122,6 @@ module _ {ks ss : List ℕ} {b : GraphBuilder} {x : Cols} where
 -- ---- where a block ends
 
 module _ (ks ss : List ℕ) (e : length ss ≡ length ks) (j : ℕ) where
-  pub ender-closes : Ender (kindOf (getD ks j 0)) → (kindOf (getD ks j 0) ≡ 6 → ⊥) → (kindOf (getD ks j 0) ≡ 7 → ⊥) → closes (kindOf (getD ks j 0)) ≡ true
-  ender-closes n p q =
-      elim (ℕ-discrete (kindOf (getD ks j 0)) 8) [ yes r ↦ rw r | no s ↦ let z : kindOf (getD ks j 0) ≡ 9 = omega (arith, n .least, n .most) in rw z ]
-
   pub ender-done : j < length ks → Ender (kindOf (getD ks j 0)) → openAt ks ss j .top .body ≡ done
   unfolding opened
   ender-done h n = rw (read-at ks ss e j h) (go (ℕ-discrete (kindOf (getD ks j 0)) 6) (ℕ-discrete (kindOf (getD ks j 0)) 7))

@@ -13,10 +13,11 @@ use Rattle.flow.specs.Tree.{Stmt, Block, Arms, Open, simple, do-block, no-more,
 use Rattle.flow.specs.Size.{stmtNodes, blockNodes, armNodes}
 use Rattle.flow.specs.Graph.{Graph, Settings, nodeCount, code, moveTo, connect, simpleStmt, buildStmt, buildBlock, buildArms, inside, entered, closeInto}
 use Rattle.flow.proofs.NodeCount.{arms-count}
+use Rattle.blocks.specs.Open.{itemAt, openAt}
+use Rattle.blocks.proofs.Parse.{read-at, read-end, read-do, read-elseif, read-else, read-close, read-simple}
 use Rattle.cfg_steps.specs.declared.GraphBuilder.{GraphBuilder}
-use Rattle.cfg_steps.specs.Columns.{Cols, cols, itemAt, openAt, graphOf, settingsOf, Good, Grown, Did}
-use Rattle.cfg_steps.proofs.Parse.{read-at, read-end, read-do, read-elseif, read-else, read-close, read-simple}
-use Rattle.cfg.specs.Steps.{Sane, Ender, bare, Moved, Stepped, Opened, Scoped, Chosen}
+use Rattle.cfg_steps.specs.Columns.{Cols, cols, graphOf, settingsOf, Good, Grown, Did}
+use Rattle.cfg.specs.Steps.{bare, Moved, Stepped, Opened, Scoped, Chosen}
 use Rattle.cfg.proofs.Blocks.{nodes-of, moved-none, moved-trans, moved-did, past-close, end-done}
 use Rattle.cfg.proofs.Statements.{withItem, good-item, moved-item, graph-item, withCursor, moved-cursor, graph-cursor}
 

@@ -2,9 +2,8 @@
 -- Assumes nothing.
 use mathlib.Core.Path.{_≡_, refl, sym, ap, _∙_, subst}
 use mathlib.Core.List.{List, []}
-use mathlib.Core.Bool.{Bool, true, false, _&&_, true≢false, false≢true}
+use mathlib.Core.Bool.{true, false, false≢true}
 use native.Mathlib.Decide.{ℕ-discrete}
-use lib.Dec.{leb}
 use Prim.Native.Nat.{ℕ, zero, suc, _+_, _≤_, _<_, _^_}
 use native.Mathlib.Omega.{arith}
 use lib.ListN.{length, getD}
@@ -14,12 +13,13 @@ use Rattle.flow.specs.Tree.{Stmt, Open, simple, do-block, while-loop, repeat-lo
 use Rattle.flow.specs.Size.{stmtNodes, blockNodes, armNodes}
 use Rattle.flow.specs.Graph.{Graph}
 use Rattle.flow.proofs.NodeCount.{built-count}
+use Rattle.blocks.specs.Open.{itemAt, openAt, Ender}
+use Rattle.blocks.proofs.Parse.{read-at, read-do, read-while, read-repeat, read-for, read-if, read-elseif, read-else, read-simple}
 use Rattle.cfg_steps.specs.declared.GraphBuilder.{GraphBuilder}
-use Rattle.cfg_steps.specs.Columns.{Cols, itemAt, openAt, graphOf, settingsOf, hasStart, simpleMade, endsAt, Good, Did}
-use Rattle.cfg_steps.proofs.Parse.{read-at, read-do, read-while, read-repeat, read-for, read-if, read-elseif, read-else, read-simple}
+use Rattle.cfg_steps.specs.Columns.{Cols, graphOf, settingsOf, hasStart, simpleMade, Good, Did}
 use Rattle.cfg_steps.proofs.Simple.{starts}
-use borrow.Author.Tests.{ne-eqb, leb-true, le-leb}
-use Rattle.cfg.specs.Steps.{Sane, Ender, bare, Scoped, StmtRoom, ArmRoom, BlockRoom}
+use borrow.Author.Tests.{ne-eqb}
+use Rattle.cfg.specs.Steps.{Scoped, StmtRoom, ArmRoom, BlockRoom}
 use Rattle.cfg.proofs.Blocks.{nodes-of}
 
 -- a block that is entered and built has made its nodes
@@ -78,18 +78,6 @@ pub close-starts : (w : ℕ) → closes (kindOf w) ≡ true → hasStart w ≡ f
 close-starts w c = elim (ℕ-discrete (kindOf w) 8) [ yes e ↦ rw e | no p ↦ elim (ℕ-discrete (kindOf w) 9) [ yes e ↦ rw e | no q ↦ absurd (false≢true (rw (ne-eqb (kindOf w) 8 p, ne-eqb (kindOf w) 9 q) at c)) ] ]
 
 -- ---- what ends a block
-
-pub ends : (k : ℕ) → endsAt k 0 ≡ true → Ender k
-unfolding endsAt
-ends k e = let p = both (leb 6 k) (leb k 9) e in record { least = leb-true 6 k (p .0); most = leb-true k 9 (p .1) }
-  where
-    both : (a b : Bool) → (a && b) ≡ true → (a ≡ true) × (b ≡ true)
-    both true b q = (refl, q)
-    both false b q = absurd (false≢true q)
-
-pub ends-not : (k : ℕ) → endsAt k 0 ≡ false → Ender k → ⊥
-unfolding endsAt
-ends-not k e n = true≢false (sym (rw (le-leb 6 k (n .least), le-leb k 9 (n .most))) ∙ e)
 
 -- a kind that opens nothing and ends nothing
 pub simple-kind : (w : ℕ) → (kindOf w ≡ 1 → ⊥) → (kindOf w ≡ 2 → ⊥) → (kindOf w ≡ 3 → ⊥) → (kindOf w ≡ 4 → ⊥) → (kindOf w ≡ 5 → ⊥) → (Ender (kindOf w) → ⊥) → (k : ℕ) → 1 ≤ k → k ≤ 9 → kindOf w ≡ k → ⊥

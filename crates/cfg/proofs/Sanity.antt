@@ -13,7 +13,8 @@ use Rattle.flow.specs.Tree.{tree}
 use Rattle.flow.specs.Kinds.{itemFits, argumentFits, scoped}
 use Rattle.flow.specs.Admitted.{AdmittedSheet, anItem}
 use Rattle.flow.proofs.Members.{and-both}
-use Rattle.cfg_steps.specs.Columns.{LabelsFit, openAt}
+use Rattle.blocks.specs.Open.{openAt}
+use Rattle.cfg_steps.specs.Columns.{LabelsFit}
 use Rattle.cfg.specs.Steps.{Sane, WholeRoom}
 
 word-at : (ks ss : List ℕ) → length ss ≡ length ks → (i : ℕ) → i < length ks → getD (together ks ss) i anItem .word ≡ getD ks i 0

@@ -9,10 +9,11 @@ use Rattle.flow.specs.Sheet.{kindOf}
 use Rattle.flow.specs.Tree.{Block, labelsOf}
 use Rattle.flow.specs.Size.{blockNodes}
 use Rattle.flow.specs.Graph.{Graph, Settings, Label, nodeCount, buildBlock, inside, inLoop, entered, closeInto, newNodes, withLabels}
+use Rattle.blocks.specs.Open.{openAt, Ender}
 use Rattle.cfg_steps.specs.declared.GraphBuilder.{GraphBuilder}
-use Rattle.cfg_steps.specs.Columns.{Cols, cols, openAt, graphOf, settingsOf, labelList, Good, Grown, Did, Entered}
+use Rattle.cfg_steps.specs.Columns.{Cols, cols, graphOf, settingsOf, labelList, Good, Grown, Did, Entered}
 use Rattle.cfg_steps.proofs.Ops.{grown-trans, same-labels, take-less}
-use Rattle.cfg.specs.Steps.{Ender, bare, Moved, Finished, Scoped, Looped}
+use Rattle.cfg.specs.Steps.{bare, Moved, Finished, Scoped, Looped}
 use Rattle.cfg.proofs.Blocks.{nodes-of}
 
 -- other settings with the same place, counts and current node

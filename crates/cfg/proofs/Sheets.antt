@@ -13,7 +13,8 @@ use Rattle.flow.specs.Tree.{Block, tree}
 use Rattle.flow.specs.Size.{blockNodes}
 use Rattle.flow.specs.Graph.{Graph, Nodes, Settings, End, outside, start, inside, entered, buildBlock, closeInto, graph}
 use Rattle.cfg_steps.specs.declared.GraphBuilder.{GraphBuilder}
-use Rattle.cfg_steps.specs.Columns.{Cols, cols, lo, hi, openAt, graphOf, settingsOf, labelList, painted, Good, Did}
+use Rattle.blocks.specs.Open.{openAt}
+use Rattle.cfg_steps.specs.Columns.{Cols, cols, lo, hi, graphOf, settingsOf, labelList, painted, Good, Did}
 use Rattle.cfg_steps.proofs.Ops.{drop-more}
 use Rattle.cfg.specs.Steps.{free, Started, Wide, WholeRoom, Whole, Scoped}
 

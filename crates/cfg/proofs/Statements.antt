@@ -13,11 +13,12 @@ use Rattle.flow.specs.Sheet.{kindOf, argumentOf, conditionOf, scopeEndOf}
 use Rattle.flow.specs.Kinds.{literalTruth}
 use Rattle.flow.specs.Tree.{Stmt, Block, Arms, Open, simple, do-block, while-loop, repeat-loop, for-loop, if-stmt, no-more, elseif, otherwise, inFront, opened, outer}
 use Rattle.flow.specs.Graph.{Graph, Settings, nodeCount, newNode, code, advanceTo, moveTo, connect, recordCode, enterWhen, unlessTrue, unlessFalse, buildStmt, buildBlock, buildArms, inside, inLoop, entered, closeInto}
+use Rattle.blocks.specs.Open.{itemAt, openAt}
+use Rattle.blocks.proofs.Parse.{read-at, read-while, read-repeat, read-for, read-if}
 use Rattle.cfg_steps.specs.declared.GraphBuilder.{GraphBuilder}
-use Rattle.cfg_steps.specs.Columns.{Cols, cols, itemAt, openAt, graphOf, settingsOf, Good, Grown, Did}
+use Rattle.cfg_steps.specs.Columns.{Cols, cols, graphOf, settingsOf, Good, Grown, Did}
 use Rattle.cfg_steps.proofs.Ops.{current-of}
-use Rattle.cfg_steps.proofs.Parse.{read-at, read-end, read-do, read-while, read-repeat, read-for, read-if, read-elseif, read-else, read-close}
-use Rattle.cfg.specs.Steps.{Sane, Ender, bare, Moved, Stepped, Opened, Scoped, Looped, Chosen}
+use Rattle.cfg.specs.Steps.{bare, Moved, Stepped, Opened, Scoped, Looped, Chosen}
 use Rattle.cfg.proofs.Blocks.{nodes-of, moved-trans, moved-did, past-close}
 
 -- ---- another place in the sheet

@@ -9,8 +9,9 @@ use Rattle.flow.specs.Sheet.{kindOf, scopeEndOf}
 use Rattle.flow.specs.Tree.{Stmt, Block, Open, done, no-more, inFront, outer, labelName, labelsOf}
 use Rattle.flow.specs.Size.{stmtNodes, blockNodes, armNodes}
 use Rattle.flow.specs.Graph.{Graph, Settings, buildStmt, buildBlock, buildArms, inside, inLoop, entered, closeInto, End, outside, start}
+use Rattle.blocks.specs.Open.{openAt, Ender}
 use Rattle.cfg_steps.specs.declared.GraphBuilder.{GraphBuilder}
-use Rattle.cfg_steps.specs.Columns.{Cols, openAt, graphOf, settingsOf, Good, Grown, LabelsFit}
+use Rattle.cfg_steps.specs.Columns.{Cols, graphOf, settingsOf, Good, Grown, LabelsFit}
 
 -- what admission shows of the kinds alone
 pub record Sane (ks : List ℕ) : Type 0 where
@@ -19,11 +20,6 @@ pub record Sane (ks : List ℕ) : Type 0 where
   pub scopes : (i : ℕ) → i < length ks → 1 ≤ kindOf (getD ks i 0) → kindOf (getD ks i 0) ≤ 7 → scopeEndOf (getD ks i 0) < 2 ^ 32
   pub tidy : (ss : List ℕ) → length ss ≡ length ks → (i : ℕ) → i < length ks → 1 ≤ kindOf (getD ks i 0) → kindOf (getD ks i 0) ≤ 4 → openAt ks ss (i + 1) .top .arms ≡ no-more
   pub closed : (ss : List ℕ) → length ss ≡ length ks → (i : ℕ) → i < length ks → kindOf (getD ks i 0) ≡ 3 → openAt ks ss (i + 1) .below ≡ [] → ⊥
-
--- an item that ends a block: ELSEIF, ELSE, END, UNTIL
-pub record Ender (k : ℕ) : Type 0 where
-  pub least : 6 ≤ k
-  pub most : k ≤ 9
 
 -- the open blocks with the innermost one read
 abbrev pub bare : Open → Open

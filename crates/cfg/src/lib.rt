@@ -4,10 +4,11 @@ ghost use mathlib.Core.List.{List};
 ghost use Prim.Native.Nat.{ℕ, _+_, _≤_, _<_};
 ghost use lib.ListN.{length, getD};
 ghost use Rattle.flow.specs.Sheet.{kindOf, scopeEndOf};
+ghost use Rattle.blocks.specs.Open.{Ender};
 ghost use Rattle.cfg_steps.specs.Columns.{cols, Good};
-ghost use Rattle.cfg.specs.Steps.{Sane, Ender, Stepped, Opened, Finished, Scoped, Looped, Chosen, BlockRoom, EnteredRoom, StmtRoom, ArmRoom, Started, Wide, WholeRoom, Whole};
+ghost use Rattle.cfg.specs.Steps.{Sane, Stepped, Opened, Finished, Scoped, Looped, Chosen, BlockRoom, EnteredRoom, StmtRoom, ArmRoom, Started, Wide, WholeRoom, Whole};
+use blocks::ends_at;
 use cfg_steps::GraphBuilder;
-use cfg_steps::ends_at;
 use cfg_steps::literal_truth;
 use flow::Truth;
 

@@ -3,17 +3,16 @@
 use mathlib.Core.Path.{_≡_}
 use mathlib.Core.Logic.{_⊎_}
 use mathlib.Core.Bool.{Bool, true, false, cond, not, _&&_}
-use mathlib.Core.List.{List, [], _∷_, _++_, map}
-use Prim.Native.Nat.{ℕ, zero, suc, _+_, _-_, _*_, _/_, _%_, _^_, _≤_, _<_}
+use mathlib.Core.List.{List, [], _∷_, map}
+use Prim.Native.Nat.{ℕ, zero, suc, _+_, _*_, _/_, _%_, _^_, _≤_, _<_}
 use lib.ListN.{length, take, drop, getD, set, replicate}
-use lib.Dec.{eqb, leb}
+use lib.Dec.{eqb}
 use Rattle.flow.specs.declared.Truth.{Truth}
 use Rattle.flow.specs.declared.Truth.the-variants.{False, True, Unknown}
-use Rattle.flow.specs.Sheet.{Item, together, kindOf, argumentOf, scopeEndOf, startOf, oneOf}
-use Rattle.flow.specs.Kinds.{END, UNTIL, NAME, LABEL, BREAK, CONTINUE, RETURN, CALL, EMPTY, opens, closes, raises}
-use Rattle.flow.specs.Tree.{Open, Frame, parse, nothingRead, labelsOf}
-use Rattle.flow.specs.Findings.{onlyIf}
+use Rattle.flow.specs.Sheet.{kindOf, argumentOf, startOf, oneOf}
+use Rattle.flow.specs.Kinds.{END, UNTIL, NAME, LABEL, BREAK, CONTINUE, RETURN, CALL, EMPTY, raises}
 use Rattle.flow.specs.Graph.{newNodes, withLabels, standAt, labelNode, jump, code, ReturnValue, ReturnEmpty, Error, Graph, Nodes, Codes, Names, Settings, Label, absent}
+use Rattle.blocks.specs.Open.{Scanned}
 use Rattle.cfg_steps.specs.declared.GraphBuilder.{GraphBuilder}
 
 pub record Cols : Type 0 where
@@ -24,13 +23,6 @@ pub record Cols : Type 0 where
 
 abbrev pub cols : List ℕ → List ℕ → List ℕ → List ℕ → Cols
 cols e c n l = record { edges = e; codes = c; names = n; labels = l }
-
--- the item j of a sheet of the kinds ks and the spans ss, and what is open there
-abbrev pub itemAt : List ℕ → List ℕ → ℕ → Item
-itemAt ks ss j = record { word = getD ks j 0; span = getD ss j 0 }
-
-unfoldable pub openAt : List ℕ → List ℕ → ℕ → Open
-openAt ks ss j = parse (drop j (together ks ss))
 
 -- the halves of a word
 abbrev pub lo : ℕ → ℕ
@@ -139,23 +131,7 @@ pub record Did (ks : List ℕ) (f : List ℕ → Graph → Graph) (n : ℕ) (b :
   pub settings : settingsOf r y ≡ settingsOf b x
   pub built : (ss : List ℕ) → graphOf ks ss r y ≡ f ss (graphOf ks ss b x)
 
--- ---- the labels standing directly in a block, found by a scan that counts how deep it is
-
--- the block d blocks out from the innermost
-abbrev pub frameAt : ℕ → Open → Frame
-frameAt zero o = o .top
-frameAt (suc d) o = getD (o .below) d nothingRead
-
--- the label that an item is, where it stands directly in the block
-unfoldable pub labelsHere : ℕ → ℕ → List ℕ
-labelsHere w d = onlyIf (eqb d 0 && (eqb (kindOf w) LABEL && not (eqb (argumentOf w) 0))) (argumentOf w ∷ [])
-
--- a kind that ends the block
-unfoldable pub endsAt : ℕ → ℕ → Bool
-endsAt k d = eqb d 0 && (leb 6 k && leb k 9)
-
-unfoldable pub depthAfter : ℕ → ℕ → ℕ
-depthAfter k d = cond (opens k) (d + 1) (cond (closes k) (d - 1) d)
+-- ---- the labels standing directly in a block
 
 -- a label's name fits its word
 abbrev pub LabelsFit : List ℕ → Type 0
@@ -177,11 +153,11 @@ pub record Entered (ks as' : List ℕ) (b : GraphBuilder) (x : Cols) (r : GraphB
   pub inForce : labelList (r .labels) (y .labels) ≡ withLabels as' (b .nodes) (labelList (b .labels) (x .labels))
   pub built : (ss : List ℕ) → graphOf ks ss r y ≡ newNodes as' (graphOf ks ss b x)
 
--- a scan on its way: as' are found, and the rest of the block's labels are still to come d blocks out
+-- a scan on its way: the names that are found have nodes and are in force, and the rest of the block's labels are still to come d blocks out
 pub record Scanning (ks ss : List ℕ) (b : GraphBuilder) (x : Cols) (d j : ℕ) (t : GraphBuilder) (y : Cols) : Type 0 where
   pub found : List ℕ
   pub entered : Entered ks found b x t y
-  pub rest : found ++ labelsOf (frameAt d (openAt ks ss j) .body) ≡ labelsOf (openAt ks ss (b .item) .top .body)
+  pub scanned : Scanned ks ss (b .item) found d j
 
 -- ---- statements of one item
 

@@ -5,13 +5,16 @@ ghost use mathlib.Core.Bool.{true, false, cond};
 ghost use lib.Dec.{eqb};
 ghost use mathlib.Core.List.{List, [], _∷_};
 ghost use Prim.Native.Nat.{ℕ, _+_, _-_, _≤_, _<_, _^_};
-ghost use lib.ListN.{length, getD, drop};
+ghost use lib.ListN.{length, getD};
 ghost use Rattle.flow.specs.Sheet.{kindOf, argumentOf};
 ghost use Rattle.flow.specs.Kinds.{literalTruth};
-ghost use Rattle.flow.specs.Tree.{labelsOf};
 ghost use mathlib.Core.Logic.{_⊎_};
 ghost use Rattle.flow.specs.Graph.{labelNode, newNode, advanceTo, code, closeInto, jump, recordCode, declare, simpleStmt, orBreak, connect, moveTo, enterWhen, unlessTrue, unlessFalse};
-ghost use Rattle.cfg_steps.specs.Columns.{cols, joined, labelList, hasStart, settingsOf, Good, Standing, Did, openAt, labelsHere, endsAt, depthAfter, Entered, LabelsFit, labelled, coded, simpleMade, mayFail, mayHold};
+ghost use Rattle.blocks.specs.Open.{labelsAt, labelsHere};
+ghost use Rattle.cfg_steps.specs.Columns.{cols, joined, labelList, hasStart, settingsOf, Good, Standing, Did, Entered, LabelsFit, labelled, coded, simpleMade, mayFail, mayHold};
+use blocks::depth_after;
+use blocks::ends_at;
+use blocks::is_label;
 use flow::Found;
 use flow::Truth;
 
@@ -172,49 +175,6 @@ impl GraphBuilder {
     }
 }
 
-// Whether an item of a kind ends the block that a scan started in.
-pub fn ends_at(kind: u64, depth: usize) -> bool
-    ensures { λ r. ⌜ r ≡ endsAt kind depth ⌝ }
-{
-    if depth != 0 {
-        return false;
-    }
-    if kind < 6 {
-        return false;
-    }
-    kind <= 9
-}
-
-// How deep a scan is past an item of a kind.
-fn depth_after(kind: u64, depth: usize) -> usize
-    requires { ⌜ depth < 1024 ⌝ }
-    ensures { λ r. ⌜ r ≡ depthAfter kind depth ⌝ }
-{
-    if kind == 0 {
-        return depth;
-    }
-    if kind <= 5 {
-        return depth + 1;
-    }
-    if kind == 8 {
-        return less(depth);
-    }
-    if kind == 9 {
-        return less(depth);
-    }
-    depth
-}
-
-// One less, and 0 for 0.
-fn less(depth: usize) -> usize
-    ensures { λ r. ⌜ r ≡ depth - 1 ⌝ }
-{
-    if depth == 0 {
-        return 0;
-    }
-    depth - 1
-}
-
 impl GraphBuilder {
     // A label's node, and the label in force.
     fn new_label(mut self, edges: &mut [u64], labels: &mut [u64], name: u64) -> GraphBuilder
@@ -240,14 +200,10 @@ impl GraphBuilder {
         if depth != 0 {
             return self;
         }
-        if w % 256 != 12 {
+        if !is_label(w) {
             return self;
         }
-        let name = w / 256;
-        if name == 0 {
-            return self;
-        }
-        self.new_label(edges, labels, name)
+        self.new_label(edges, labels, w / 256)
     }
 }
 
@@ -256,8 +212,8 @@ impl GraphBuilder {
     pub fn enter_block(self, kinds: &[u64], edges: &mut [u64], labels: &mut [u64]) -> GraphBuilder
         requires { ⌜ (self .item ≤ length (now kinds)) × (length (now kinds) ≤ 1024) × LabelsFit (now kinds) ⌝ }
         requires { ⌜ ((c n : List ℕ) × Good self (cols (now edges) c n (now labels))) ⌝ }
-        requires { ⌜ ((ss : List ℕ) → length ss ≡ length (now kinds) → self .nodes + length (labelsOf (openAt (now kinds) ss (self .item) .top .body)) ≤ 1600) ⌝ }
-        ensures { λ r. ⌜ ((ss c n : List ℕ) → length ss ≡ length (now (kinds .entry)) → Good self (cols (now (edges .entry)) c n (now (labels .entry))) → Entered (now (kinds .entry)) (labelsOf (openAt (now (kinds .entry)) ss (self .item) .top .body)) self (cols (now (edges .entry)) c n (now (labels .entry))) r (cols (now (edges .exit)) c n (now (labels .exit)))) ⌝ }
+        requires { ⌜ ((ss : List ℕ) → length ss ≡ length (now kinds) → self .nodes + length (labelsAt (now kinds) ss (self .item)) ≤ 1600) ⌝ }
+        ensures { λ r. ⌜ ((ss c n : List ℕ) → length ss ≡ length (now (kinds .entry)) → Good self (cols (now (edges .entry)) c n (now (labels .entry))) → Entered (now (kinds .entry)) (labelsAt (now (kinds .entry)) ss (self .item)) self (cols (now (edges .entry)) c n (now (labels .entry))) r (cols (now (edges .exit)) c n (now (labels .exit)))) ⌝ }
     {
         let mut b = self;
         let mut depth = 0;

@@ -1,14 +1,16 @@
 use Rattle.cfg_steps.proofs.Loops.{move-did}
 use mathlib.Core.Logic.{inl}
 use lib.Dec.{lit≤}
-use Rattle.cfg.proofs.Rooms.{scoped-nodes, do-room, while-room, repeat-room, for-room, if-room, simple-room, elseif-room, else-room, code-starts, close-starts, ends, ends-not, simple-kind, ended-on, arms-left, at-item}
+use Rattle.cfg.proofs.Rooms.{scoped-nodes, do-room, while-room, repeat-room, for-room, if-room, simple-room, elseif-room, else-room, code-starts, close-starts, simple-kind, ended-on, arms-left, at-item}
 use Rattle.cfg.proofs.Choices.{chosen-over, chosen-end, chosen-elseif, chosen-else, opened-stepped, do-stepped, simple-stepped}
 use Rattle.cfg.proofs.Statements.{withItem, good-item, withCursor, good-cursor, while-opened, repeat-opened, for-opened, if-opened}
 use Rattle.cfg.proofs.Scopes.{good-within, entered-room, scoped, looped}
-use Rattle.cfg.proofs.Blocks.{nodes-of, labels-inside, Going, going-none, going-room, going-more, going-ended, ender-done, end-done, ender-closes, closed-at}
-use Rattle.cfg.specs.Steps.{Ender, bare}
+use Rattle.cfg.proofs.Blocks.{nodes-of, labels-inside, Going, going-none, going-room, going-more, going-ended, ender-done, end-done, closed-at}
+use Rattle.cfg.specs.Steps.{bare}
 use Rattle.cfg_steps.proofs.Simple.{stands}
-use Rattle.cfg_steps.specs.Columns.{cols, openAt}
+use Rattle.cfg_steps.specs.Columns.{cols}
+use Rattle.blocks.specs.Open.{openAt}
+use Rattle.blocks.proofs.Scan.{ends, ends-not, ender-closes}
 use lib.ListN.{length, getD}
 use native.Mathlib.Nat.{le-refl}
 use native.Mathlib.Omega.{arith}
@@ -58,7 +60,7 @@ use Rattle.cfg_steps.proofs.GraphBuilder.repeat_end.Reads as repeat-end-reads
 use Rattle.cfg_steps.proofs.GraphBuilder.repeat_head.Reads as repeat-head-reads
 use Rattle.cfg_steps.proofs.GraphBuilder.simple_stmt.Reads as simple-stmt-reads
 use Rattle.cfg_steps.proofs.GraphBuilder.while_head.Reads as while-head-reads
-use Rattle.cfg_steps.proofs.ends_at.Reads as ends-at-reads
+use Rattle.blocks.proofs.ends_at.Reads as ends-at-reads
 use Rattle.cfg_steps.proofs.literal_truth.Reads as literal-truth-reads
 use Rattle.cfg.proofs.+arms+block+for_loop+if_stmt+loop_body+repeat_loop+scoped_block+stmt+while_loop.{
   statement,
@@ -255,7 +257,7 @@ arms-arms-end-requires-2 : (t : ℕ) → arms-lts.Need-arms-end-requires-2 (arms
 arms-arms-end-requires-2 t c κs = ((_, _, _, good-item (c .before .before .before .before .before .past .result) (c .before .before .before .before .before .past .ensures .0) (omega (arith, c .before .before .before .before .before .past .ensures .1, c .before .before .before .before .before .before .before .before .before .before .before .pre .1 .0 .0 .few)) (c .before .before .before .before .before .before .before .before .before .before .before .pre .1 .0 .1)), (c .before .before .before .before .before .before .before .before .before .before .before .pre .1 .1 .0, c .before .before .before .before .before .before .before .before .before .before .before .pre .1 .1 .1))
 
 arms-returns-4 : (t : ℕ) → arms-lts.Need-returns-4 (arms-claims t) (arms-at t) arms.Post
-arms-returns-4 t c = λ ss e. chosen-end (c .before .before .before .before .before .before .before .before .before .before .before .before .before .before .args .kinds .now) ss e (c .before .before .before .before .before .before .before .before .before .before .before .before .before .before .pre .1 .0 .0 .few) (c .before .before .before .before .before .before .before .before .before .before .before .before .before .before .pre .1 .0 .1) (omega (arith, c .before .before .before .before .before .before .before .if1 .left)) _ _ _ _ (ender-closes (c .before .before .before .before .before .before .before .before .before .before .before .before .before .before .args .kinds .now) ss e _ (c .before .before .before .before .before .before .before .before .before .before .before .before .before .before .pre .1 .0 .3 (omega (arith, c .before .before .before .before .before .before .before .if1 .left))) (c .before .before .before .before .before .if2 .left) (c .before .before .before .before .if3 .left)) (c .before .before .before .before .before .before .before .before .past .ensures .2 (omega (arith, c .before .before .before .before .before .before .before .if1 .left))) (c .before .before .arms-end2 .ensures (c .before .before .before .before .before .before .before .before .before .before .before .before .before .before .args .kinds .now) _ _ _ (good-item (c .before .before .before .before .before .before .before .before .past .result) (c .before .before .before .before .before .before .before .before .past .ensures .0) (omega (arith, c .before .before .before .before .before .before .before .before .past .ensures .1, c .before .before .before .before .before .before .before .before .before .before .before .before .before .before .pre .1 .0 .0 .few)) (c .before .before .before .before .before .before .before .before .before .before .before .before .before .before .pre .1 .0 .1)))
+arms-returns-4 t c = λ ss e. chosen-end (c .before .before .before .before .before .before .before .before .before .before .before .before .before .before .args .kinds .now) ss e (c .before .before .before .before .before .before .before .before .before .before .before .before .before .before .pre .1 .0 .0 .few) (c .before .before .before .before .before .before .before .before .before .before .before .before .before .before .pre .1 .0 .1) (omega (arith, c .before .before .before .before .before .before .before .if1 .left)) _ _ _ _ (ender-closes (c .before .before .before .before .before .before .before .before .before .before .before .before .before .before .pre .1 .0 .3 (omega (arith, c .before .before .before .before .before .before .before .if1 .left))) (c .before .before .before .before .before .if2 .left) (c .before .before .before .before .if3 .left)) (c .before .before .before .before .before .before .before .before .past .ensures .2 (omega (arith, c .before .before .before .before .before .before .before .if1 .left))) (c .before .before .arms-end2 .ensures (c .before .before .before .before .before .before .before .before .before .before .before .before .before .before .args .kinds .now) _ _ _ (good-item (c .before .before .before .before .before .before .before .before .past .result) (c .before .before .before .before .before .before .before .before .past .ensures .0) (omega (arith, c .before .before .before .before .before .before .before .before .past .ensures .1, c .before .before .before .before .before .before .before .before .before .before .before .before .before .before .pre .1 .0 .0 .few)) (c .before .before .before .before .before .before .before .before .before .before .before .before .before .before .pre .1 .0 .1)))
 
 abbrev block-Inv-loop : block-lts.InvT-loop
 block-Inv-loop kinds edges₀ codes₀ names₀ labels₀ t₀ at₀ edges codes names labels t at = (at ≡ t .item) × ((ss : List ℕ) → length ss ≡ length kinds → Going kinds ss t₀ (cols edges₀ codes₀ names₀ labels₀) t (cols edges codes names labels))

@@ -5,15 +5,16 @@ use mathlib.Core.List.{List}
 use lib.ListN.{length}
 use borrow.Author.Needs.{needs}
 use mathlib.Core.Path.{_∙_, sym}
+use Rattle.blocks.proofs.Scan.{depth-step}
 use Rattle.cfg_steps.specs.Columns.{cols, Good, Scanning}
-use Rattle.cfg_steps.proofs.Scan.{scan-start, scan-more, scan-ended, scan-over, scan-room, depth-bound}
+use Rattle.cfg_steps.proofs.Scan.{scan-start, scan-more, scan-ended, scan-over, scan-room}
 use Rattle.cfg_steps.proofs.GraphBuilder.enter_block.Statement.{statement}
 use Rattle.cfg_steps.proofs.GraphBuilder.enter_block.Tie as tie
 use Rattle.cfg_steps.proofs.GraphBuilder.enter_block.Reads as reads
 use Rattle.cfg_steps.proofs.GraphBuilder.enter_block.Lts as lts
 use Rattle.cfg_steps.proofs.GraphBuilder.label_here.Reads as label-here-reads
-use Rattle.cfg_steps.proofs.depth_after.Reads as depth-after-reads
-use Rattle.cfg_steps.proofs.ends_at.Reads as ends-at-reads
+use Rattle.blocks.proofs.depth_after.Reads as depth-after-reads
+use Rattle.blocks.proofs.ends_at.Reads as ends-at-reads
 
 abbrev Inv-loop : tie.InvT-loop
 Inv-loop kinds edges₀ labels₀ b₀ depth₀ j₀ edges labels b depth j = (j ≤ length kinds) × (depth ≤ j) × ((ss k n : List ℕ) → length ss ≡ length kinds → Good b₀ (cols edges₀ k n labels₀) → Scanning kinds ss b₀ (cols edges₀ k n labels₀) depth j b (cols edges k n labels))
@@ -76,7 +77,7 @@ loop-less c = omega arith
 loop-again : tie.Need-loop-again Inv-loop μ-loop
 loop-again c = (
   omega arith,
-  depth-bound _ (c .before .before .before .before .before .before .before .before .before .before .before .before .loop .depth) (c .before .before .before .before .before .before .before .before .before .before .before .before .loop .j) (c .depth-after .ensures) (omega arith),
+  depth-step _ (c .before .before .before .before .before .before .before .before .before .before .before .before .loop .depth) (c .before .before .before .before .before .before .before .before .before .before .before .before .loop .j) (c .depth-after .ensures) (omega arith),
   λ ss k n e ok. rw (c .depth-after .ensures) (scan-more e (c .before .before .before .before .before .before .before .before .before .before .before .before .loop .inv .2 ss k n e ok) (c .before .before .before .before .before .before .before .before .before .before .before .loop-test .taken) (sym (c .before .before .before .before .before .before .before .before .before .ends-at .ensures) ∙ c .before .before .before .before .before .before .before .before .if1 .left) (c .before .before .before .before .before .label-here .ensures _ k n (c .before .before .before .before .before .before .before .before .before .before .before .before .loop .inv .2 ss k n e ok .entered .good))),
 )
 

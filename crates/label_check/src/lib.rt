@@ -1,0 +1,223 @@
+// The label check: no two labels of a name stand directly in a block, and every GOTO finds a label.
+ghost use mathlib.Core.Path.{_≡_};
+ghost use mathlib.Core.Bool.{true, false};
+ghost use mathlib.Core.List.{List, [], _∷_};
+ghost use Prim.Native.Nat.{ℕ, _+_, _-_, _≤_, _<_};
+ghost use lib.ListN.{length, take, drop, set};
+ghost use Rattle.flow.specs.Sheet.{oneOf, together};
+ghost use Rattle.flow.specs.Tree.{tree};
+ghost use Rattle.blocks.specs.Open.{labelsAt, labelsHere};
+ghost use Rattle.label_check.specs.Walk.{openedSight, nextArm, closedSight, jumped, wholeFine, Checkable, Unlabelled, Entered, Walking, After};
+use blocks::depth_after;
+use blocks::ends_at;
+use blocks::is_label;
+
+const DO: u64 = 1;
+
+const WHILE: u64 = 2;
+
+const REPEAT: u64 = 3;
+
+const FOR: u64 = 4;
+
+const IF: u64 = 5;
+
+const ELSEIF: u64 = 6;
+
+const ELSE: u64 = 7;
+
+const END: u64 = 8;
+
+const UNTIL: u64 = 9;
+
+const GOTO: u64 = 13;
+
+// Where no label with a name follows any more, so that no scan need go on.
+fn labels_end(kinds: &[u64]) -> usize
+    ensures { λ r. ⌜ Unlabelled (now (kinds .entry)) r ⌝ }
+{
+    let mut end = kinds.len();
+    while 0 < end {
+        let last = end - 1;
+        let w = kinds[last];
+        if is_label(w) {
+            return end;
+        }
+        end = last;
+    }
+    end
+}
+
+// Whether a name is among the labels from one place up to another, the latest first.
+fn among(labels: &[u64; 1024], from: usize, to: usize, name: u64) -> bool
+    requires { ⌜ (from ≤ to) × (to ≤ 1024) × (length (now labels) ≡ 1024) ⌝ }
+    ensures { λ r. ⌜ r ≡ oneOf name (drop from (take to (now (labels .entry)))) ⌝ }
+{
+    let mut k = to;
+    while from < k {
+        k -= 1;
+        if labels[k] == name {
+            return true;
+        }
+    }
+    false
+}
+
+// What a walk over the items has found, and the labels that are in sight there.
+struct Sight {
+    // Whether no label is repeated so far, and each GOTO found its label.
+    fine: bool,
+    // How many labels are in sight, and how many of them stand outside the innermost block.
+    count: usize,
+    base: usize,
+    // How many blocks are open in the outermost one.
+    depth: usize,
+}
+
+impl Sight {
+    // A label more in its block, where it may be a repeat.
+    fn add(mut self, labels: &mut [u64; 1024], name: u64) -> Sight
+        requires { ⌜ (self .base ≤ self .count) × (self .count < 1024) × (length (now labels) ≡ 1024) ⌝ }
+        ensures { λ r. ⌜ Entered (name ∷ []) self (now (labels .entry)) r (now (labels .exit)) ⌝ }
+    {
+        let base = self.base;
+        let count = self.count;
+        let mut fine = self.fine;
+        if among(labels, base, count, name) {
+            fine = false;
+        }
+        labels[count] = name;
+        self.fine = fine;
+        self.count = count + 1;
+        self
+    }
+
+    // The same, where an item is a named label that stands directly in the block.
+    fn label_here(self, labels: &mut [u64; 1024], w: u64, depth: usize) -> Sight
+        requires { ⌜ (self .base ≤ self .count) × (self .count + length (labelsHere w depth) ≤ 1024) × (length (now labels) ≡ 1024) ⌝ }
+        ensures { λ r. ⌜ Entered (labelsHere w depth) self (now (labels .entry)) r (now (labels .exit)) ⌝ }
+    {
+        if depth != 0 {
+            return self;
+        }
+        if !is_label(w) {
+            return self;
+        }
+        self.add(labels, w / 256)
+    }
+
+    // The labels standing directly in the block that starts at an item come in sight.
+    fn enter(self, kinds: &[u64], labels: &mut [u64; 1024], end: usize, from: usize) -> Sight
+        requires { ⌜ Unlabelled (now kinds) end × (length (now kinds) ≤ 1024) ⌝ }
+        requires { ⌜ (self .base ≤ self .count) × (length (now labels) ≡ 1024) ⌝ }
+        requires { ⌜ ((ss : List ℕ) → length ss ≡ length (now kinds) → self .count + length (labelsAt (now kinds) ss from) ≤ 1024) ⌝ }
+        ensures { λ r. ⌜ ((ss : List ℕ) → length ss ≡ length (now (kinds .entry)) → Entered (labelsAt (now (kinds .entry)) ss from) self (now (labels .entry)) r (now (labels .exit))) ⌝ }
+    {
+        let mut s = self;
+        let mut depth = 0;
+        let mut j = from;
+        while j < end {
+            let w = kinds[j];
+            let kind = w % 256;
+            if ends_at(kind, depth) {
+                return s;
+            }
+            s = s.label_here(labels, w, depth);
+            depth = depth_after(kind, depth);
+            j += 1;
+        }
+        s
+    }
+
+    // A block opens, with no label in sight yet.
+    fn open(mut self, marks: &mut [usize; 1024]) -> Sight
+        requires { ⌜ self .depth < 1024 ⌝ }
+        ensures { λ r. ⌜ (r ≡ openedSight self) × (now (marks .exit) ≡ set (now (marks .entry)) (self .depth) (self .base)) ⌝ }
+    {
+        let depth = self.depth;
+        marks[depth] = self.base;
+        self.base = self.count;
+        self.depth = depth + 1;
+        self
+    }
+
+    // The arm above is left, and its labels go out of sight.
+    fn next_arm(mut self) -> Sight
+        ensures { λ r. ⌜ r ≡ nextArm self ⌝ }
+    {
+        self.count = self.base;
+        self
+    }
+
+    // The innermost block is left, and its labels go out of sight.
+    fn close(mut self, marks: &[usize; 1024]) -> Sight
+        requires { ⌜ (1 ≤ self .depth) × (self .depth ≤ 1024) ⌝ }
+        ensures { λ r. ⌜ r ≡ closedSight self (now (marks .entry)) ⌝ }
+    {
+        let depth = self.depth - 1;
+        let count = self.base;
+        self.count = count;
+        self.base = marks[depth];
+        self.depth = depth;
+        self
+    }
+
+    // A GOTO of a name, which has to be in sight.
+    fn jump(mut self, labels: &[u64; 1024], name: u64) -> Sight
+        requires { ⌜ (self .count ≤ 1024) × (length (now labels) ≡ 1024) ⌝ }
+        ensures { λ r. ⌜ r ≡ jumped self (now (labels .entry)) name ⌝ }
+    {
+        let count = self.count;
+        self.fine = among(labels, 0, count, name);
+        self
+    }
+
+    // What is in sight past item j.
+    fn step(
+        self,
+        kinds: &[u64],
+        labels: &mut [u64; 1024],
+        marks: &mut [usize; 1024],
+        end: usize,
+        j: usize,
+    ) -> Sight
+        requires { ⌜ Checkable (now kinds) × Unlabelled (now kinds) end × (j < length (now kinds)) × (self .fine ≡ true) ⌝ }
+        requires { ⌜ ((ss : List ℕ) → length ss ≡ length (now kinds) → Walking (now kinds) ss j self (now labels) (now marks)) ⌝ }
+        ensures { λ r. ⌜ ((ss : List ℕ) → length ss ≡ length (now (kinds .entry)) → After (now (kinds .entry)) ss (j + 1) r (now (labels .exit)) (now (marks .exit))) ⌝ }
+    {
+        let w = kinds[j];
+        match w % 256 {
+            DO | WHILE | REPEAT | FOR | IF => self.open(marks).enter(kinds, labels, end, j + 1),
+            ELSEIF | ELSE => self.next_arm().enter(kinds, labels, end, j + 1),
+            END | UNTIL => self.close(marks),
+            GOTO => self.jump(labels, w / 256),
+            _ => self,
+        }
+    }
+}
+
+// Whether, in a sheet of these kinds, no label is repeated directly in its block and every GOTO finds one.
+pub fn labels_fine(kinds: &[u64]) -> bool
+    requires { ⌜ Checkable (now kinds) ⌝ }
+    ensures { λ r. ⌜ ((ss : List ℕ) → length ss ≡ length (now (kinds .entry)) → r ≡ wholeFine (tree (together (now (kinds .entry)) ss))) ⌝ }
+{
+    let mut labels = [0u64; 1024];
+    let mut marks = [0usize; 1024];
+    let end = labels_end(kinds);
+    let outermost = Sight {
+        fine: true,
+        count: 0,
+        base: 0,
+        depth: 0,
+    };
+    let mut s = outermost.enter(kinds, &mut labels, end, 0);
+    let mut j = 0;
+    while j < kinds.len() {
+        if !s.fine {
+            break;
+        }
+        s = s.step(kinds, &mut labels, &mut marks, end, j);
+        j += 1;
+    }
+    s.fine
+}
