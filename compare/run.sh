@@ -22,7 +22,7 @@ cargo build --release --offline --quiet --target-dir target
 compare=target/release/compare
 
 $compare pieces
-$compare stored stored
+$compare stored ../crates/replay/data
 $compare short --length 4
 $compare short --length 3 --uses 2
 $compare pairs --pairs 50000 --seed 1

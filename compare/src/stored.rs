@@ -1,5 +1,5 @@
 //! Stored answers: written here, replayed by a program without Rust at hand.
-//! `stored/README.md` describes the layout.
+//! `STORED.md` describes the layout.
 
 use std::fs;
 use std::path::Path;

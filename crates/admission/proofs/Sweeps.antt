@@ -1,0 +1,105 @@
+-- The refusals' definitions as sweeps. Assumes nothing.
+use Prim.Native.Nat.{ℕ, _+_}
+use mathlib.Core.Bool.{Bool, true, cond, _&&_, _||_, not}
+use mathlib.Core.List.{List, [], _∷_}
+use mathlib.Core.Path.{_≡_, refl, ap}
+use native.Mathlib.Omega.{arith}
+use lib.Dec.{eqb, ltb}
+use lib.ListN.{length}
+use Rattle.flow.specs.Kinds.{LOCAL, NAME, itemFits, opens, closes, isCode}
+use Rattle.flow.specs.Refusals.{one, allFit, outnumbered, mayStand, openAfter, pairsUp, besideEachOther, sideBySide, inLine, scopesAfter, held, nameFits, namesFit, nameCount, useFits, usesFit}
+use Rattle.flow.specs.Sheet.{Item, kind, endOf, scopeEndOf, together}
+use Rattle.admission.specs.Turn.{lineFits, heldHere}
+use Rattle.admission.proofs.Bools.{and-pairs, not-or}
+use Rattle.admission.proofs.Sweep.{Sweep}
+
+-- 3
+pub fitting-law : (i : Item) (is : List Item) → allFit (i ∷ is) ≡ (itemFits i && allFit is)
+unfolding allFit
+fitting-law i is = refl
+
+abbrev pub fitting : Sweep
+fitting = record { State = Unit {0}; all = λ s is. allFit is; fits = λ s i. itemFits i; after = λ s i. s; law = λ s i is. fitting-law i is }
+
+-- 4, with the openers and the closers so far
+pub shallow-law : (o c : ℕ) (i : Item) (is : List Item) → not (outnumbered o c (i ∷ is)) ≡ (not (ltb (c + 64) o) && not (outnumbered (o + one (opens (kind i))) (c + one (closes (kind i))) is))
+unfolding outnumbered
+shallow-law o c i is = not-or (ltb (c + 64) o) _
+
+abbrev pub shallow : Sweep
+shallow =
+    record {
+      State = ℕ × ℕ;
+      all = λ s is. not (outnumbered (s .0) (s .1) is);
+      fits = λ s i. not (ltb (s .1 + 64) (s .0));
+      after = λ s i. (s .0 + one (opens (kind i)), s .1 + one (closes (kind i)));
+      law = λ s i is. shallow-law (s .0) (s .1) i is;
+    }
+
+-- 5, with what is open and the kind before
+pub nesting-law : (os : List ℕ) (k : ℕ) (i : Item) (is : List Item) → (pairsUp os (i ∷ is) && sideBySide k (i ∷ is)) ≡ (mayStand (kind i) os && besideEachOther k (kind i) && (pairsUp (openAfter (kind i) os) is && sideBySide (kind i) is))
+unfolding pairsUp sideBySide
+nesting-law os k i is = and-pairs (mayStand (kind i) os) (pairsUp (openAfter (kind i) os) is) (besideEachOther k (kind i)) (sideBySide (kind i) is)
+
+abbrev pub nesting : Sweep
+nesting =
+    record {
+      State = List ℕ × ℕ;
+      all = λ s is. pairsUp (s .0) is && sideBySide (s .1) is;
+      fits = λ s i. mayStand (kind i) (s .0) && besideEachOther (s .1) (kind i);
+      after = λ s i. (openAfter (kind i) (s .0), kind i);
+      law = λ s i is. nesting-law (s .0) (s .1) i is;
+    }
+
+-- 6, with where the last code ends and the scope ends around
+pub lining-law : (p : ℕ) (ss : List ℕ) (i : Item) (is : List Item) → (inLine p (i ∷ is) && held ss (i ∷ is)) ≡ (lineFits p i && heldHere ss i && (inLine (cond (isCode i) (endOf (i .span)) p) is && held (scopesAfter (kind i) (scopeEndOf (i .word)) ss) is))
+unfolding inLine held
+lining-law p ss i is = and-pairs (lineFits p i) (inLine (cond (isCode i) (endOf (i .span)) p) is) (heldHere ss i) (held (scopesAfter (kind i) (scopeEndOf (i .word)) ss) is)
+
+abbrev pub lining : Sweep
+lining =
+    record {
+      State = ℕ × List ℕ;
+      all = λ s is. inLine (s .0) is && held (s .1) is;
+      fits = λ s i. lineFits (s .0) i && heldHere (s .1) i;
+      after = λ s i. (cond (isCode i) (endOf (i .span)) (s .0), scopesAfter (kind i) (scopeEndOf (i .word)) (s .1));
+      law = λ s i is. lining-law (s .0) (s .1) i is;
+    }
+
+-- 7, with the LOCAL's span and where its last NAME ends
+pub naming-law : (l p : ℕ) (i : Item) (is : List Item) → namesFit l p (i ∷ is) ≡ ((not (eqb (kind i) NAME) || nameFits l p (i .span)) && namesFit (cond (eqb (kind i) LOCAL) (i .span) l) (cond (eqb (kind i) LOCAL) 0 (cond (eqb (kind i) NAME) (endOf (i .span)) p)) is)
+unfolding namesFit
+naming-law l p i is = refl
+
+abbrev pub naming : Sweep
+naming =
+    record {
+      State = ℕ × ℕ;
+      all = λ s is. namesFit (s .0) (s .1) is;
+      fits = λ s i. not (eqb (kind i) NAME) || nameFits (s .0) (s .1) (i .span);
+      after = λ s i. (cond (eqb (kind i) LOCAL) (i .span) (s .0), cond (eqb (kind i) LOCAL) 0 (cond (eqb (kind i) NAME) (endOf (i .span)) (s .1)));
+      law = λ s i is. naming-law (s .0) (s .1) i is;
+    }
+
+-- 8: a use is a word and a span, as an item is
+unfoldable pub allUses : ℕ → List Item → Bool
+allUses n [] = true
+allUses n (i ∷ is) = useFits n (i .word) (i .span) && allUses n is
+
+pub uses-together : (n : ℕ) (ws ss : List ℕ) → length ws ≡ length ss → usesFit n ws ss ≡ allUses n (together ws ss)
+unfolding usesFit allUses
+uses-together n [] ss e = refl
+uses-together n (w ∷ ws) [] e = absurd (omega arith)
+uses-together n (w ∷ ws) (s ∷ ss) e = ap (λ (b : Bool). useFits n w s && b) (uses-together n ws ss (omega arith))
+
+pub using-law : (n : ℕ) (i : Item) (is : List Item) → allUses n (i ∷ is) ≡ (useFits n (i .word) (i .span) && allUses n is)
+unfolding allUses
+using-law n i is = refl
+
+abbrev pub use-sweep : ℕ → Sweep
+use-sweep n = record { State = Unit {0}; all = λ s is. allUses n is; fits = λ s i. useFits n (i .word) (i .span); after = λ s i. s; law = λ s i is. using-law n i is }
+
+-- the names, one by one
+pub count-next : (i : Item) (is : List Item) → nameCount (i ∷ is) ≡ one (eqb (kind i) NAME) + nameCount is
+unfolding nameCount
+count-next i is = refl

@@ -1,0 +1,58 @@
+// Refusal 4, too deep: among some first items the openers outnumber the closers by more than 64.
+ghost use mathlib.Core.Path.{_≡_};
+ghost use Prim.Native.Nat.{_≤_};
+ghost use lib.ListN.{length};
+ghost use Rattle.flow.specs.Sheet.{together};
+ghost use Rattle.flow.specs.Kinds.{opens, closes};
+ghost use Rattle.flow.specs.Refusals.{outnumbered};
+use crate::kind::DO;
+use crate::kind::END;
+use crate::kind::IF;
+use crate::kind::UNTIL;
+
+pub fn is_opener(kind: u64) -> bool
+    ensures { λ r. ⌜ r ≡ opens kind ⌝ }
+{
+    if kind < DO {
+        return false;
+    }
+    kind <= IF
+}
+
+pub fn is_closer(kind: u64) -> bool
+    ensures { λ r. ⌜ r ≡ closes kind ⌝ }
+{
+    if kind == END {
+        return true;
+    }
+    kind == UNTIL
+}
+
+// What a test adds to a count.
+pub fn one(yes: bool) -> u64
+    ensures { λ r. ⌜ r ≡ Rattle.flow.specs.Refusals.one yes ⌝ }
+{
+    if yes {
+        return 1;
+    }
+    0
+}
+
+pub fn too_deep(kinds: &[u64], spans: &[u64]) -> bool
+    requires { ⌜ (length (now kinds) ≡ length (now spans)) × (length (now kinds) ≤ 1024) ⌝ }
+    ensures { λ r. ⌜ r ≡ outnumbered 0 0 (together (now (kinds .entry)) (now (spans .entry))) ⌝ }
+{
+    let mut openers: u64 = 0;
+    let mut closers: u64 = 0;
+    let mut i = 0;
+    while i < kinds.len() {
+        if closers + 64 < openers {
+            return true;
+        }
+        let kind = kinds[i] % 256;
+        openers += one(is_opener(kind));
+        closers += one(is_closer(kind));
+        i += 1;
+    }
+    closers + 64 < openers
+}

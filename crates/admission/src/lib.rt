@@ -1,0 +1,95 @@
+// Admission: for any words the lowest refusal that applies, or that the sheet is admitted.
+ghost use mathlib.Core.Path.{_≡_};
+ghost use mathlib.Core.Bool.{false};
+ghost use mathlib.Core.List.{[]};
+ghost use Rattle.flow.specs.Refusals.{lowest, sheetTests, sheetVerdict, chartVerdict, judgeVerdict};
+use flow::Bench;
+use flow::Refusal;
+use flow::Verdict;
+
+mod depth;
+mod item;
+mod kind;
+mod line;
+mod name;
+mod nest;
+mod room;
+mod uses;
+
+// 3 to 7. The two arrays are handed on as parts that start inside the sheet.
+fn tests_verdict(sheet: &[u64]) -> Verdict
+    requires { ⌜ Rattle.flow.specs.Refusals.miscount (now sheet) ≡ false ⌝ }
+    ensures { λ r. ⌜ r ≡ lowest (sheetTests (now (sheet .entry)) []) ⌝ }
+{
+    let outer = sheet[1];
+    let m = 2 + sheet[0] as usize;
+    let kinds = &sheet[2..m];
+    let spans = &sheet[m..];
+    if item::bad_item(outer, kinds, spans) {
+        return Verdict::Refused(Refusal::BadItem);
+    }
+    if depth::too_deep(kinds, spans) {
+        return Verdict::Refused(Refusal::TooDeep);
+    }
+    if nest::bad_nesting(kinds, spans) {
+        return Verdict::Refused(Refusal::BadNesting);
+    }
+    if line::off_the_line(outer, kinds, spans) {
+        return Verdict::Refused(Refusal::OffTheLine);
+    }
+    if name::bad_name(kinds, spans) {
+        return Verdict::Refused(Refusal::BadName);
+    }
+    Verdict::Admitted
+}
+
+pub fn sheet_verdict(sheet: &[u64]) -> Verdict
+    ensures { λ r. ⌜ r ≡ sheetVerdict (now (sheet .entry)) ⌝ }
+{
+    if room::miscount(sheet) {
+        return Verdict::Refused(Refusal::Miscount);
+    }
+    tests_verdict(sheet)
+}
+
+pub fn chart_verdict(bench: Bench, sheet: &[u64]) -> Verdict
+    ensures { λ r. ⌜ r ≡ chartVerdict bench (now (sheet .entry)) ⌝ }
+{
+    let lengths = room::length_verdict(room::chart_bench_too_small(bench), room::miscount(sheet));
+    if let Verdict::Refused(refusal) = lengths {
+        return Verdict::Refused(refusal);
+    }
+    tests_verdict(sheet)
+}
+
+// 8, for sheets that are counted right.
+fn use_is_bad(sheet: &[u64], uses: &[u64]) -> bool
+    requires { ⌜ Rattle.flow.specs.Refusals.miscount (now sheet) ≡ false ⌝ }
+    requires { ⌜ Rattle.flow.specs.Refusals.useMiscount (now uses) ≡ false ⌝ }
+    ensures { λ r. ⌜ r ≡ Rattle.flow.specs.Refusals.badUse (now (sheet .entry)) (now (uses .entry)) ⌝ }
+{
+    let m = 2 + sheet[0] as usize;
+    let names = uses::name_count(&sheet[2..m], &sheet[m..]);
+    let n = 1 + uses[0] as usize;
+    uses::bad_use(names, &uses[1..n], &uses[n..])
+}
+
+pub fn judge_verdict(bench: Bench, sheet: &[u64], uses: &[u64]) -> Verdict
+    ensures { λ r. ⌜ r ≡ judgeVerdict bench (now (sheet .entry)) (now (uses .entry)) ⌝ }
+{
+    let lengths = room::length_verdict(
+        room::judge_bench_too_small(bench),
+        room::any_miscount(sheet, uses),
+    );
+    if let Verdict::Refused(refusal) = lengths {
+        return Verdict::Refused(refusal);
+    }
+    let tests = tests_verdict(sheet);
+    if let Verdict::Refused(refusal) = tests {
+        return Verdict::Refused(refusal);
+    }
+    if use_is_bad(sheet, uses) {
+        return Verdict::Refused(Refusal::BadUse);
+    }
+    Verdict::Admitted
+}

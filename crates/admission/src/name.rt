@@ -1,0 +1,50 @@
+// Refusal 7, bad name: a NAME span empty, outside its LOCAL, or starting before the previous NAME of that LOCAL ends.
+ghost use mathlib.Core.Path.{_≡_};
+ghost use mathlib.Core.Bool.{not};
+ghost use Prim.Native.Nat.{_≤_};
+ghost use lib.ListN.{length};
+ghost use Rattle.flow.specs.Sheet.{together};
+ghost use Rattle.flow.specs.Refusals.{nameFits, namesFit};
+use crate::kind::LOCAL;
+use crate::kind::NAME;
+
+fn name_fits(local: u64, line: u64, span: u64) -> bool
+    ensures { λ r. ⌜ r ≡ nameFits local line span ⌝ }
+{
+    let start = span % 4294967296;
+    let end = span / 4294967296;
+    if start >= end {
+        return false;
+    }
+    if start < local % 4294967296 {
+        return false;
+    }
+    if end > local / 4294967296 {
+        return false;
+    }
+    line <= start
+}
+
+pub fn bad_name(kinds: &[u64], spans: &[u64]) -> bool
+    requires { ⌜ (length (now kinds) ≡ length (now spans)) × (length (now kinds) ≤ 1024) ⌝ }
+    ensures { λ r. ⌜ r ≡ not (namesFit 0 0 (together (now (kinds .entry)) (now (spans .entry)))) ⌝ }
+{
+    let mut local = 0;
+    let mut line = 0;
+    let mut i = 0;
+    while i < kinds.len() {
+        let kind = kinds[i] % 256;
+        let span = spans[i];
+        if kind == LOCAL {
+            local = span;
+            line = 0;
+        } else if kind == NAME {
+            if !name_fits(local, line, span) {
+                return true;
+            }
+            line = span / 4294967296;
+        }
+        i += 1;
+    }
+    false
+}
