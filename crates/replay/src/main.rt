@@ -95,4 +95,5 @@ fn replay(name: &[u8]) {
 fn main() {
     replay(b"pieces.bin");
     replay(b"small.bin");
+    replay(b"large.bin");
 }

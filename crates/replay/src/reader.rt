@@ -21,8 +21,8 @@ fn word(bytes: &[u8], at: usize) -> u64
     w
 }
 
-fn decode(bytes: &[u8; 16384], words: &mut [u64], n: usize)
-    requires { ⌜ (n ≤ 2048) × (n ≤ length (now words)) ⌝ }
+fn decode(bytes: &[u8; 98304], words: &mut [u64], n: usize)
+    requires { ⌜ (n ≤ 12288) × (n ≤ length (now words)) ⌝ }
 {
     let mut i: usize = 0;
     while i < n {
@@ -31,16 +31,16 @@ fn decode(bytes: &[u8; 16384], words: &mut [u64], n: usize)
     }
 }
 
-// Reads the n words of a case. The longest stored one has 947.
+// Reads the n words of a case. The longest stored one has 11,182.
 fn read_words(fd: i32, n: usize) -> Outcome
-    requires { ⌜ n ≤ 2048 ⌝ }
+    requires { ⌜ n ≤ 12288 ⌝ }
 {
-    let mut bytes = [0u8; 16384];
+    let mut bytes = [0u8; 98304];
     let got = io::read_full(fd, &mut bytes[..8 * n]);
     if got < 8 * n {
         return Outcome::Unread;
     }
-    let mut words = [0u64; 2048];
+    let mut words = [0u64; 12288];
     decode(&bytes, &mut words, n);
     compare(&words[..n])
 }
@@ -55,7 +55,7 @@ pub fn next(fd: i32) -> Outcome {
         return Outcome::Unread;
     }
     let n = word(&head, 0);
-    if n > 2048 {
+    if n > 12288 {
         return Outcome::Unread;
     }
     read_words(fd, n as usize)
