@@ -1,27 +1,26 @@
 -- Blocks: from what the steps do to what a block's builder gives.
 -- Assumes nothing.
-use mathlib.Core.Path.{_≡_, refl, sym, ap, _∙_, subst}
+use mathlib.Core.Path.{_≡_, refl, sym, ap, _∙_}
 use mathlib.Core.List.{List, [], _∷_, _++_}
 use mathlib.Core.Bool.{Bool, true, false, cond, not}
 use native.Mathlib.Decide.{ℕ-discrete, decLt}
 use lib.Dec.{eqb}
 use borrow.Author.Tests.{ne-eqb}
-use Prim.Native.Nat.{ℕ, zero, suc, _+_, _≤_, _<_, _^_}
+use Prim.Native.Nat.{ℕ, _+_, _≤_, _<_}
 use native.Mathlib.Omega.{arith}
-use lib.ListN.{length, take, getD, length-append}
-use lib.Seq.{take-take}
+use lib.ListN.{length, getD, length-append}
 use Rattle.flow.specs.Sheet.{kindOf, argumentOf}
 use Rattle.flow.specs.Kinds.{LABEL, closes}
-use Rattle.flow.specs.Tree.{Stmt, Block, Arms, Frame, Open, simple, do-block, while-loop, repeat-loop, for-loop, if-stmt, done, then, no-more, inFront, opened, read, outer, labelName, labelsOf}
-use Rattle.flow.specs.Size.{stmtNodes, blockNodes, armNodes, simpleNodes}
-use Rattle.flow.specs.Graph.{Graph, Settings, Label, nodeCount, buildStmt, buildBlock, buildArms, inside, inLoop, entered, closeInto, newNodes, withLabels}
-use Rattle.flow.proofs.NodeCount.{stmt-count, block-count, built-count}
+use Rattle.flow.specs.Tree.{Stmt, Block, Arms, Open, simple, do-block, while-loop, repeat-loop, for-loop, if-stmt, done, then, no-more, inFront, opened, read, outer, labelName, labelsOf}
+use Rattle.flow.specs.Size.{stmtNodes, blockNodes}
+use Rattle.flow.specs.Graph.{Graph, Settings, nodeCount, buildStmt, buildBlock}
+use Rattle.flow.proofs.NodeCount.{stmt-count}
 use Rattle.blocks.specs.Open.{itemAt, openAt, Ender}
 use Rattle.blocks.proofs.Parse.{read-at, read-end, read-close, read-elseif, read-else}
 use Rattle.blocks.proofs.Scan.{ender-closes}
 use Rattle.cfg_steps.specs.declared.GraphBuilder.{GraphBuilder}
-use Rattle.cfg_steps.specs.Columns.{Cols, graphOf, settingsOf, labelList, Good, Grown, Did, Entered}
-use Rattle.cfg_steps.proofs.Ops.{count-of, grown-same, grown-trans, same-labels, take-less}
+use Rattle.cfg_steps.specs.Columns.{Cols, graphOf, settingsOf, Good, Did}
+use Rattle.cfg_steps.proofs.Ops.{count-of, grown-same, grown-trans}
 use Rattle.cfg.specs.Steps.{bare, Moved, Stepped, Finished}
 
 -- ---- moves

@@ -1,25 +1,22 @@
 -- The arms of an IF, and which statement an item begins.
 -- Assumes nothing.
-use mathlib.Core.Path.{_≡_, refl, sym, ap, _∙_, subst}
-use mathlib.Core.List.{List, [], _∷_, _++_}
+use mathlib.Core.Path.{_≡_, refl, sym, ap, _∙_}
+use mathlib.Core.List.{List}
 use mathlib.Core.Bool.{Bool, true, false, cond}
-use mathlib.Core.Logic.{inl}
-use Prim.Native.Nat.{ℕ, _+_, _≤_, _<_, _^_}
+use Prim.Native.Nat.{ℕ, _+_, _≤_, _<_}
 use native.Mathlib.Omega.{arith}
-use lib.ListN.{length, take, getD}
+use lib.ListN.{length, getD}
 use Rattle.flow.specs.Sheet.{kindOf, argumentOf, scopeEndOf}
 use Rattle.flow.specs.Kinds.{closes}
-use Rattle.flow.specs.Tree.{Stmt, Block, Arms, Open, simple, do-block, no-more, elseif, otherwise, inFront, opened, outer}
-use Rattle.flow.specs.Size.{stmtNodes, blockNodes, armNodes}
+use Rattle.flow.specs.Tree.{Arms, Open, simple, do-block, no-more, elseif, otherwise, inFront, opened, outer}
 use Rattle.flow.specs.Graph.{Graph, Settings, nodeCount, code, moveTo, connect, simpleStmt, buildStmt, buildBlock, buildArms, inside, entered, closeInto}
-use Rattle.flow.proofs.NodeCount.{arms-count}
 use Rattle.blocks.specs.Open.{itemAt, openAt}
 use Rattle.blocks.proofs.Parse.{read-at, read-end, read-do, read-elseif, read-else, read-close, read-simple}
 use Rattle.cfg_steps.specs.declared.GraphBuilder.{GraphBuilder}
-use Rattle.cfg_steps.specs.Columns.{Cols, cols, graphOf, settingsOf, Good, Grown, Did}
+use Rattle.cfg_steps.specs.Columns.{Cols, graphOf, settingsOf, Good, Did}
 use Rattle.cfg.specs.Steps.{bare, Moved, Stepped, Opened, Scoped, Chosen}
-use Rattle.cfg.proofs.Blocks.{nodes-of, moved-none, moved-trans, moved-did, past-close, end-done}
-use Rattle.cfg.proofs.Statements.{withItem, good-item, moved-item, graph-item, withCursor, moved-cursor, graph-cursor}
+use Rattle.cfg.proofs.Blocks.{nodes-of, moved-none, moved-trans, moved-did, past-close}
+use Rattle.cfg.proofs.Statements.{withItem, moved-item, graph-item}
 
 module _ (ks ss : List ℕ) (e : length ss ≡ length ks) (few : length ks ≤ 1024) where
   -- past all arms

@@ -1,22 +1,22 @@
 -- Room: what a statement's nodes leave for its parts; and what the steps ask.
 -- Assumes nothing.
-use mathlib.Core.Path.{_≡_, refl, sym, ap, _∙_, subst}
-use mathlib.Core.List.{List, []}
+use mathlib.Core.Path.{_≡_, sym, ap, _∙_, subst}
+use mathlib.Core.List.{List}
 use mathlib.Core.Bool.{true, false, false≢true}
 use native.Mathlib.Decide.{ℕ-discrete}
-use Prim.Native.Nat.{ℕ, zero, suc, _+_, _≤_, _<_, _^_}
+use Prim.Native.Nat.{ℕ, zero, suc, _+_, _≤_, _<_}
 use native.Mathlib.Omega.{arith}
 use lib.ListN.{length, getD}
 use Rattle.flow.specs.Sheet.{kindOf}
 use Rattle.flow.specs.Kinds.{closes}
-use Rattle.flow.specs.Tree.{Stmt, Open, simple, do-block, while-loop, repeat-loop, for-loop, if-stmt, elseif, otherwise, inFront, opened, outer, labelName}
+use Rattle.flow.specs.Tree.{Open, simple, do-block, while-loop, repeat-loop, for-loop, if-stmt, opened, outer, labelName}
 use Rattle.flow.specs.Size.{stmtNodes, blockNodes, armNodes}
 use Rattle.flow.specs.Graph.{Graph}
 use Rattle.flow.proofs.NodeCount.{built-count}
 use Rattle.blocks.specs.Open.{itemAt, openAt, Ender}
 use Rattle.blocks.proofs.Parse.{read-at, read-do, read-while, read-repeat, read-for, read-if, read-elseif, read-else, read-simple}
 use Rattle.cfg_steps.specs.declared.GraphBuilder.{GraphBuilder}
-use Rattle.cfg_steps.specs.Columns.{Cols, graphOf, settingsOf, hasStart, simpleMade, Good, Did}
+use Rattle.cfg_steps.specs.Columns.{Cols, hasStart, simpleMade, Good}
 use Rattle.cfg_steps.proofs.Simple.{starts}
 use borrow.Author.Tests.{ne-eqb}
 use Rattle.cfg.specs.Steps.{Scoped, StmtRoom, ArmRoom, BlockRoom}

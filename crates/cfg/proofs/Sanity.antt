@@ -1,20 +1,19 @@
 -- What the builders ask of a sheet holds of every sheet that is admitted.
 -- Assumes nothing.
-use mathlib.Core.Path.{_≡_, refl, sym, ap, _∙_, subst}
-use mathlib.Core.Bool.{Bool, true, false, cond, _&&_}
+use mathlib.Core.Path.{_≡_, refl, sym, _∙_, subst}
+use mathlib.Core.Bool.{true, _&&_}
 use mathlib.Core.List.{List, [], _∷_}
-use Prim.Native.Nat.{ℕ, zero, suc, _+_, _/_, _%_, _^_, _≤_, _<_}
+use Prim.Native.Nat.{ℕ, zero, suc, _/_, _%_, _^_, _≤_, _<_}
 use native.Mathlib.Omega.{arith}
 use lib.ListN.{length, getD}
-use lib.Dec.{eqb, leb, ltb}
+use lib.Dec.{leb, ltb}
 use borrow.Author.Tests.{leb-true, ltb-true}
 use Rattle.flow.specs.Sheet.{Item, kind, kindOf, argumentOf, scopeEndOf, together, kindWords, spanWords, items}
 use Rattle.flow.specs.Tree.{tree}
-use Rattle.flow.specs.Kinds.{itemFits, argumentFits, scoped}
+use Rattle.flow.specs.Kinds.{itemFits, argumentFits}
 use Rattle.flow.specs.Admitted.{AdmittedSheet, anItem}
 use Rattle.flow.proofs.Members.{and-both}
 use Rattle.blocks.specs.Open.{openAt}
-use Rattle.cfg_steps.specs.Columns.{LabelsFit}
 use Rattle.cfg.specs.Steps.{Sane, WholeRoom}
 
 word-at : (ks ss : List ℕ) → length ss ≡ length ks → (i : ℕ) → i < length ks → getD (together ks ss) i anItem .word ≡ getD ks i 0

@@ -1,19 +1,19 @@
 -- A block inside its scope, and a loop's body: the settings that hold inside, and those that return.
 -- Assumes nothing.
 use mathlib.Core.Path.{_≡_, refl, sym, ap, _∙_, subst}
-use mathlib.Core.List.{List, [], _∷_, _++_}
+use mathlib.Core.List.{List}
 use Prim.Native.Nat.{ℕ, _+_, _≤_, _<_, _^_}
 use native.Mathlib.Omega.{arith}
 use lib.ListN.{length, take, getD}
 use Rattle.flow.specs.Sheet.{kindOf}
 use Rattle.flow.specs.Tree.{Block, labelsOf}
 use Rattle.flow.specs.Size.{blockNodes}
-use Rattle.flow.specs.Graph.{Graph, Settings, Label, nodeCount, buildBlock, inside, inLoop, entered, closeInto, newNodes, withLabels}
+use Rattle.flow.specs.Graph.{Settings, Label, buildBlock, inside, inLoop, entered, closeInto, withLabels}
 use Rattle.blocks.specs.Open.{openAt, Ender}
 use Rattle.cfg_steps.specs.declared.GraphBuilder.{GraphBuilder}
-use Rattle.cfg_steps.specs.Columns.{Cols, cols, graphOf, settingsOf, labelList, Good, Grown, Did, Entered}
+use Rattle.cfg_steps.specs.Columns.{Cols, cols, graphOf, settingsOf, labelList, Good, Did, Entered}
 use Rattle.cfg_steps.proofs.Ops.{grown-trans, same-labels, take-less}
-use Rattle.cfg.specs.Steps.{bare, Moved, Finished, Scoped, Looped}
+use Rattle.cfg.specs.Steps.{bare, Finished, Scoped, Looped}
 use Rattle.cfg.proofs.Blocks.{nodes-of}
 
 -- other settings with the same place, counts and current node

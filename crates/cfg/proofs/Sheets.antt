@@ -1,22 +1,20 @@
 -- A whole sheet.
 -- Assumes nothing.
-use mathlib.Core.Path.{_≡_, refl, sym, ap, _∙_}
+use mathlib.Core.Path.{_≡_, refl, ap, _∙_}
 use mathlib.Core.Logic.{inl}
-use mathlib.Core.List.{List, [], _∷_, map}
-use Prim.Native.Nat.{ℕ, _+_, _≤_, _<_, _^_}
+use mathlib.Core.List.{List, [], _∷_}
+use Prim.Native.Nat.{ℕ, _≤_}
 use native.Mathlib.Omega.{arith}
-use lib.ListN.{length, take, drop, set, replicate, length-set}
+use lib.ListN.{length, set}
 use lib.Dec.{lit<, lit≤}
-use lib.Seq.{drop-set-lt}
 use Rattle.flow.specs.Sheet.{kindWords, spanWords, items, outerEnd}
 use Rattle.flow.specs.Tree.{Block, tree}
-use Rattle.flow.specs.Size.{blockNodes}
-use Rattle.flow.specs.Graph.{Graph, Nodes, Settings, End, outside, start, inside, entered, buildBlock, closeInto, graph}
+use Rattle.flow.specs.Graph.{Graph, Settings, outside, start, inside, entered, buildBlock, closeInto, graph}
 use Rattle.cfg_steps.specs.declared.GraphBuilder.{GraphBuilder}
 use Rattle.blocks.specs.Open.{openAt}
-use Rattle.cfg_steps.specs.Columns.{Cols, cols, lo, hi, graphOf, settingsOf, labelList, painted, Good, Did}
+use Rattle.cfg_steps.specs.Columns.{Cols, cols, graphOf, settingsOf, labelList, painted, Good, Did}
 use Rattle.cfg_steps.proofs.Ops.{drop-more}
-use Rattle.cfg.specs.Steps.{free, Started, Wide, WholeRoom, Whole, Scoped}
+use Rattle.cfg.specs.Steps.{free, Started, Wide, Whole, Scoped}
 
 pub six : (es : List ℕ) → 6 ≤ length es → Started es (set (set (set (set (set (set es 0 free) 1 free) 2 free) 3 free) 4 free) 5 free)
 six [] h = absurd (omega arith)

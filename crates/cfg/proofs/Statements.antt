@@ -1,24 +1,23 @@
 -- Statements that hold blocks: from what their parts give to what they give.
 -- Assumes nothing.
-use mathlib.Core.Path.{_≡_, refl, sym, ap, _∙_, subst}
-use mathlib.Core.List.{List, [], _∷_, _++_}
-use mathlib.Core.Bool.{Bool, true, false, cond}
+use mathlib.Core.Path.{_≡_, refl, sym, ap, _∙_}
+use mathlib.Core.List.{List}
+use mathlib.Core.Bool.{true}
 use mathlib.Core.Logic.{inl}
-use Prim.Native.Nat.{ℕ, _+_, _≤_, _<_, _^_}
+use Prim.Native.Nat.{ℕ, _+_, _≤_, _<_}
 use native.Mathlib.Omega.{arith}
-use lib.ListN.{length, take, getD}
+use lib.ListN.{length, getD}
 use Rattle.flow.specs.declared.Truth.{Truth}
-use Rattle.flow.specs.declared.Truth.the-variants.{False, True, Unknown}
-use Rattle.flow.specs.Sheet.{kindOf, argumentOf, conditionOf, scopeEndOf}
+use Rattle.flow.specs.declared.Truth.the-variants.{Unknown}
+use Rattle.flow.specs.Sheet.{kindOf, conditionOf, scopeEndOf}
 use Rattle.flow.specs.Kinds.{literalTruth}
-use Rattle.flow.specs.Tree.{Stmt, Block, Arms, Open, simple, do-block, while-loop, repeat-loop, for-loop, if-stmt, no-more, elseif, otherwise, inFront, opened, outer}
+use Rattle.flow.specs.Tree.{Stmt, Block, Open, while-loop, repeat-loop, for-loop, if-stmt, no-more, inFront, outer}
 use Rattle.flow.specs.Graph.{Graph, Settings, nodeCount, newNode, code, advanceTo, moveTo, connect, recordCode, enterWhen, unlessTrue, unlessFalse, buildStmt, buildBlock, buildArms, inside, inLoop, entered, closeInto}
 use Rattle.blocks.specs.Open.{itemAt, openAt}
 use Rattle.blocks.proofs.Parse.{read-at, read-while, read-repeat, read-for, read-if}
 use Rattle.cfg_steps.specs.declared.GraphBuilder.{GraphBuilder}
-use Rattle.cfg_steps.specs.Columns.{Cols, cols, graphOf, settingsOf, Good, Grown, Did}
-use Rattle.cfg_steps.proofs.Ops.{current-of}
-use Rattle.cfg.specs.Steps.{bare, Moved, Stepped, Opened, Scoped, Looped, Chosen}
+use Rattle.cfg_steps.specs.Columns.{Cols, graphOf, settingsOf, Good, Grown, Did}
+use Rattle.cfg.specs.Steps.{bare, Moved, Opened, Scoped, Looped, Chosen}
 use Rattle.cfg.proofs.Blocks.{nodes-of, moved-trans, moved-did, past-close}
 
 -- ---- another place in the sheet

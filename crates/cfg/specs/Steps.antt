@@ -6,9 +6,9 @@ use mathlib.Core.List.{List, [], _∷_}
 use Prim.Native.Nat.{ℕ, _+_, _≤_, _<_, _^_}
 use lib.ListN.{length, getD, take, drop}
 use Rattle.flow.specs.Sheet.{kindOf, scopeEndOf}
-use Rattle.flow.specs.Tree.{Stmt, Block, Open, done, no-more, inFront, outer, labelName, labelsOf}
+use Rattle.flow.specs.Tree.{Stmt, Open, done, no-more, inFront, outer, labelName, labelsOf}
 use Rattle.flow.specs.Size.{stmtNodes, blockNodes, armNodes}
-use Rattle.flow.specs.Graph.{Graph, Settings, buildStmt, buildBlock, buildArms, inside, inLoop, entered, closeInto, End, outside, start}
+use Rattle.flow.specs.Graph.{buildStmt, buildBlock, buildArms, inside, inLoop, entered, closeInto, End, outside, start}
 use Rattle.blocks.specs.Open.{openAt, Ender}
 use Rattle.cfg_steps.specs.declared.GraphBuilder.{GraphBuilder}
 use Rattle.cfg_steps.specs.Columns.{Cols, graphOf, settingsOf, Good, Grown, LabelsFit}

@@ -1,19 +1,18 @@
 -- Where loops begin and end.
 -- Assumes nothing.
-use mathlib.Core.Path.{_≡_, refl, sym, ap, _∙_}
-use mathlib.Core.Logic.{_⊎_, inl, inr}
-use mathlib.Core.List.{List, [], _∷_}
+use mathlib.Core.Path.{_≡_, refl, ap, _∙_}
+use mathlib.Core.Logic.{_⊎_, inl}
+use mathlib.Core.List.{List}
 use mathlib.Core.Bool.{Bool, true, false, cond}
-use Prim.Native.Nat.{ℕ, zero, suc, _+_, _≤_, _<_}
+use Prim.Native.Nat.{ℕ, _+_, _<_}
 use native.Mathlib.Omega.{arith}
-use lib.ListN.{length, getD}
 use Rattle.flow.specs.declared.Truth.{Truth}
 use Rattle.flow.specs.declared.Truth.the-variants.{False, True, Unknown}
 use Rattle.flow.specs.Graph.{Graph, absent, connect, moveTo, enterWhen, unlessTrue, unlessFalse}
 use Rattle.cfg_steps.specs.declared.GraphBuilder.{GraphBuilder}
 use Rattle.cfg_steps.specs.Columns.{Cols, cols, joined, graphOf, settingsOf, mayFail, mayHold, Good, Did}
 use Rattle.cfg_steps.proofs.Ops.{edge-did, withCursor, did-trans, current-of}
-use Rattle.cfg_steps.proofs.Simple.{did-as, did-none}
+use Rattle.cfg_steps.proofs.Simple.{did-as}
 
 -- another node is current
 pub move-did : (ks : List ℕ) (b : GraphBuilder) (e c n l : List ℕ) (ok : Good b (cols e c n l)) (v : ℕ) → (v < b .nodes) ⊎ (v ≡ absent) → Did ks (λ ss. moveTo v) 0 b (cols e c n l) (withCursor ks b e c n l ok v) (cols e c n l)

@@ -1,21 +1,20 @@
 -- Laws of the columns, and what each operation does to the graph that they stand for.
 -- Assumes nothing.
-use mathlib.Core.Path.{_≡_, refl, sym, ap, ap₂, _∙_, subst}
-use mathlib.Core.Logic.{_⊎_, inl, inr, ⊎-elim}
+use mathlib.Core.Path.{_≡_, refl, sym, ap, _∙_, subst}
+use mathlib.Core.Logic.{_⊎_, inl, inr}
 use mathlib.Core.List.{List, [], _∷_, _++_, map, map-append}
 use mathlib.Core.Bool.{Bool, true, false, cond}
-use Prim.Native.Nat.{ℕ, zero, suc, _+_, _-_, _*_, _/_, _%_, _^_, _≤_, _<_}
+use Prim.Native.Nat.{ℕ, zero, suc, _+_, _-_, _*_, _%_, _^_, _≤_, _<_}
 use native.Mathlib.Numerals.{add-one, sub-one}
 use native.Mathlib.Omega.{arith}
 use native.Mathlib.Decide.{ℕ-discrete}
 use lib.ListN.{length, take, drop, getD, set, replicate, length-set, length-map, length-replicate, replicate-append-replicate, List·getD-map}
-use lib.Seq.{take-suc-set, drop-set-lt, take-set-lt, getD-take, getD-set-same, getD-set-other, take-set-le, drop-drop, take-take, length-take-le, map-set-same, set-append-left}
+use lib.Seq.{take-suc-set, drop-set-lt, take-set-lt, getD-take, getD-set-same, getD-set-other, drop-drop, take-take, length-take-le, map-set-same, set-append-left}
 use lib.Dec.{eqb}
 use borrow.Author.Tests.{eqb-false, ne-eqb}
-use Rattle.flow.specs.declared.Found.{Found}
 use Rattle.flow.specs.declared.Found.the-variants.{At, Nothing}
 use Rattle.flow.specs.Sheet.{startOf}
-use Rattle.flow.specs.Graph.{Graph, Nodes, Codes, Names, Settings, Label, absent, nodeCount, newNode, connect, moveTo, advanceTo, closeInto, recordCode, setStart, code, jump, declare, labelNode}
+use Rattle.flow.specs.Graph.{Graph, Nodes, Codes, Names, absent, nodeCount, newNode, connect, moveTo, advanceTo, closeInto, recordCode, setStart, code, jump, declare, labelNode}
 use Rattle.cfg_steps.specs.declared.GraphBuilder.{GraphBuilder}
 use Rattle.cfg_steps.specs.Columns.{Cols, cols, lo, hi, joined, labelList, hasStart, painted, nameNode, nameItem, graphOf, settingsOf, Good, Standing, Grown, Did}
 

@@ -1,22 +1,20 @@
 -- Statements of one item.
 -- Assumes nothing.
-use mathlib.Core.Path.{_≡_, refl, sym, ap, _∙_}
+use mathlib.Core.Path.{_≡_, refl, _∙_}
 use mathlib.Core.Logic.{_⊎_, inl, inr}
-use mathlib.Core.List.{List, [], _∷_}
-use mathlib.Core.Bool.{Bool, true, false, cond, _&&_}
-use Prim.Native.Nat.{ℕ, zero, suc, _+_, _≤_, _<_}
+use mathlib.Core.List.{List}
+use mathlib.Core.Bool.{Bool, true, false, cond}
+use Prim.Native.Nat.{ℕ, zero, suc, _<_}
 use native.Mathlib.Omega.{arith}
 use lib.ListN.{length, getD}
 use lib.Dec.{eqb}
 use borrow.Author.Tests.{eq-eqb, ne-eqb}
-use Rattle.flow.specs.declared.Found.{Found}
 use Rattle.flow.specs.declared.Found.the-variants.{At, Nothing}
-use Rattle.flow.specs.Sheet.{kindOf, argumentOf, oneOf}
-use Rattle.flow.specs.Kinds.{NAME, LABEL, EMPTY, UNTIL, raises}
-use Rattle.flow.specs.Graph.{Graph, Settings, Label, labelNode, standAt, orBreak, jump, code, declare, simpleStmt, advanceTo, recordCode}
+use Rattle.flow.specs.Sheet.{kindOf}
+use Rattle.flow.specs.Graph.{Graph, Label, labelNode, orBreak, jump, code, declare, simpleStmt, advanceTo, recordCode}
 use Rattle.cfg_steps.specs.declared.GraphBuilder.{GraphBuilder}
 use Rattle.cfg_steps.specs.Columns.{Cols, cols, hi, labelList, hasStart, settingsOf, labelled, coded, simpleMade, Good, Standing, Did}
-use Rattle.cfg_steps.proofs.Ops.{grown-same, did-trans}
+use Rattle.cfg_steps.proofs.Ops.{grown-same}
 
 pub did-none : (ks : List ℕ) (b : GraphBuilder) (x : Cols) → Good b x → Did ks (λ ss g. g) 0 b x b x
 did-none ks b x ok = record {

@@ -11,7 +11,7 @@ use Rattle.flow.specs.declared.Truth.{Truth}
 use Rattle.flow.specs.declared.Truth.the-variants.{False, True, Unknown}
 use Rattle.flow.specs.Sheet.{kindOf, argumentOf, startOf, oneOf}
 use Rattle.flow.specs.Kinds.{END, UNTIL, NAME, LABEL, BREAK, CONTINUE, RETURN, CALL, EMPTY, raises}
-use Rattle.flow.specs.Graph.{newNodes, withLabels, standAt, labelNode, jump, code, ReturnValue, ReturnEmpty, Error, Graph, Nodes, Codes, Names, Settings, Label, absent}
+use Rattle.flow.specs.Graph.{newNodes, withLabels, standAt, labelNode, jump, code, ReturnValue, ReturnEmpty, Error, Graph, Settings, Label, absent}
 use Rattle.blocks.specs.Open.{Scanned}
 use Rattle.cfg_steps.specs.declared.GraphBuilder.{GraphBuilder}
 

@@ -1,16 +1,15 @@
 -- A local's lost values: what a live path from after one meets, and which of its writes are overwritten, as `Demand.antt` states them.
 -- Assumes `kinds`, that each use is a read, a write or both, which admission gives; and `all`, that the local's uses all find a node.
-use Prim.Native.Nat.{ℕ, suc, _<_}
-use mathlib.Core.Path.{_≡_, refl, sym, ap, _∙_, subst}
+use Prim.Native.Nat.{ℕ, suc}
+use mathlib.Core.Path.{_≡_, refl, sym, ap, subst}
 use mathlib.Core.Logic.{_⊎_, inl, inr, ⊎-elim, _↔_, Iff·trans}
-use mathlib.Core.Bool.{Bool, true, false, _&&_, false≢true}
+use mathlib.Core.Bool.{Bool, true, _&&_, false≢true}
 use mathlib.Core.List.{List, [], _∷_, List·Memᴰ, List·Memᴰ·not-nil}
 use native.Mathlib.Omega.{arith}
-use borrow.Author.Tests.{ltb-true}
-use lib.Dec.{eqb, ltb}
+use lib.Dec.{eqb}
 use lib.ListN.{getD}
-use Rattle.search.specs.Search.{In, cons-if, keep}
-use Rattle.flow.specs.Graph.{Graph, graph, nodeCount}
+use Rattle.search.specs.Search.{In}
+use Rattle.flow.specs.Graph.{Graph, graph}
 use Rattle.flow.specs.Reachable.{successors}
 use Rattle.flow.specs.Findings.{Use, Declaration, declaration, nodeOf, Meeting, usesOf, meets, ahead, anyFlag, isOverwrittenUnread, isOverwritten, overwrittenAt, orElse, firstAt}
 use Rattle.flow.specs.Paths.{Meets, met, past}

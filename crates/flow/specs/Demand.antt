@@ -10,7 +10,7 @@ use Rattle.flow.specs.declared.Place.the-variants.{Node}
 use Rattle.flow.specs.Sheet.{useWords, useSpans, localOf, useKindOf, startOf}
 use Rattle.flow.specs.Graph.{graph}
 use Rattle.flow.specs.Reachable.{nodeAt}
-use Rattle.flow.specs.Findings.{Declaration, declaration, locals, localAt, tracked, noValue, writesJudged, isInClosure, nodeOf}
+use Rattle.flow.specs.Findings.{declaration, locals, localAt, tracked, noValue, writesJudged, isInClosure, nodeOf}
 use Rattle.flow.specs.Paths.{Edge, After, Meets}
 
 abbrev pub useWord : List ℕ → ℕ → ℕ

@@ -1,6 +1,6 @@
 -- 01, "From items to edges (cfg.rs)": the graph by the statement rules, in their order. Operations bear the names of the Rust's methods.
 -- Assumes nothing: these are definitions.
-use mathlib.Core.Bool.{Bool, true, false, cond, _&&_, not}
+use mathlib.Core.Bool.{Bool, true, false, cond, _&&_}
 use mathlib.Core.List.{List, [], _∷_, _++_}
 use Prim.Native.Nat.{ℕ, _+_}
 use lib.ListN.{length, getD, set}

@@ -1,7 +1,7 @@
 -- 01, "The sheet", the table of kinds: what each kind's argument and span may be, which kinds are code, what a condition is known to be, and which call raises.
 -- Assumes nothing: these are definitions.
 use mathlib.Core.Bool.{Bool, true, false, cond, _&&_, _||_, not}
-use mathlib.Core.List.{List, [], _∷_}
+use mathlib.Core.List.{[], _∷_}
 use Prim.Native.Nat.{ℕ, _/_, _%_, _^_}
 use lib.Dec.{eqb, leb, ltb}
 use Rattle.flow.specs.declared.Truth.{Truth}
@@ -65,7 +65,7 @@ PLAIN = 18
 abbrev pub EMPTY : ℕ
 EMPTY = 19
 
--- "S: argument = condition + 32 × scope end, condition 0 unless stated, scope end below 2^32": c says whether a condition is stated
+-- The mark S: "argument = condition + 32 × scope end, condition 0 unless stated, scope end below 2^32". c says whether a condition is stated.
 abbrev pub scoped : Bool → ℕ → Bool
 scoped c a = ltb (a % 32) (cond c 19 1) && ltb (a / 32) (2 ^ 32)
 
@@ -84,7 +84,7 @@ argumentFits k a =
 abbrev pub spanless : ℕ → Bool
 spanless k = oneOf k (DO ∷ REPEAT ∷ ELSE ∷ END ∷ EMPTY ∷ [])
 
--- "kind, argument or span not as above, or start past end"
+-- "kind, argument, word 1 or span not as above, or start past end", of an item: word 1 is tested with the sheet
 unfoldable pub itemFits : Item → Bool
 itemFits i =
     leb 1 (kind i) && leb (kind i) 19 && argumentFits (kind i) (argumentOf (i .word))

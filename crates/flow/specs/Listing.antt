@@ -1,6 +1,6 @@
 -- 01, "The printed sheet": what flowlist prints, as bytes.
 -- Assumes nothing: these are definitions.
-use mathlib.Core.Bool.{Bool, true, false, cond}
+use mathlib.Core.Bool.{cond}
 use mathlib.Core.List.{List, [], _∷_, _++_}
 use Prim.Native.Nat.{ℕ, zero, suc, _+_, _*_, _-_, _/_, _%_, _^_}
 use Prim.Native.String.{String, len, charAt}

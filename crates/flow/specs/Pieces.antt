@@ -1,7 +1,7 @@
 -- 01, "Bench pieces": the starred ones as one list that one evaluation checks, and three more that show a slip which no starred piece shows.
 -- Assumes nothing.
 use mathlib.Core.Path.{_≡_, refl}
-use mathlib.Core.Bool.{Bool, true, false, cond, _&&_, not}
+use mathlib.Core.Bool.{Bool, true, false, _&&_, not}
 use mathlib.Core.List.{List, [], _∷_, _++_, map}
 use Prim.Native.Nat.{ℕ, _+_, _*_, _^_}
 use Prim.Native.String.{String}

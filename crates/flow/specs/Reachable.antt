@@ -18,7 +18,7 @@ use Rattle.flow.specs.declared.RunAnswer.{RunAnswer}
 use Rattle.flow.specs.declared.RunAnswer.the-variants.{Ran, Refused as RunRefused}
 use Rattle.flow.specs.Sheet.{endOf}
 use Rattle.flow.specs.Refusals.{sheetVerdict, chartVerdict}
-use Rattle.flow.specs.Graph.{Graph, Codes, nodeCount, entry, graph}
+use Rattle.flow.specs.Graph.{Graph, nodeCount, entry, graph}
 
 -- the edges of a node: its successors that are nodes, which `absent` is not
 abbrev pub successors : Graph → ℕ → List ℕ

@@ -1,6 +1,6 @@
 -- 01, "The sheet": its words, items, kinds, arguments and spans, and the use sheet.
 -- Assumes nothing: these are definitions.
-use mathlib.Core.Bool.{Bool, true, false, _||_}
+use mathlib.Core.Bool.{Bool, false, _||_}
 use mathlib.Core.List.{List, [], _∷_}
 use Prim.Native.Nat.{ℕ, _+_, _/_, _%_, _^_}
 use lib.ListN.{take, drop, getD}
@@ -11,7 +11,7 @@ abbrev pub oneOf : ℕ → List ℕ → Bool
 oneOf k [] = false
 oneOf k (x ∷ xs) = eqb k x || oneOf k xs
 
--- "Word 0 is n, the item count. Word 1 is the outer block's scope end."
+-- "Word 0 is n, the item count, 0 to 1,024. Word 1 is the outer block's scope end, below 2^32."
 abbrev pub count : List ℕ → ℕ
 count ws = getD ws 0 0
 
@@ -39,7 +39,7 @@ startOf s = s % 2 ^ 32
 abbrev pub endOf : ℕ → ℕ
 endOf s = s / 2 ^ 32
 
--- "S: argument = condition + 32 × scope end"
+-- The mark S: "argument = condition + 32 × scope end".
 abbrev pub conditionOf : ℕ → ℕ
 conditionOf w = argumentOf w % 32
 
@@ -62,14 +62,14 @@ together (w ∷ ws) (s ∷ ss) = record { word = w; span = s } ∷ together ws s
 abbrev pub items : List ℕ → List Item
 items ws = together (kindWords ws) (spanWords ws)
 
--- The use sheet: "word 0 = m, then two parallel arrays".
+-- "A use sheet has word 0 = m, 0 to 1,024, then two parallel arrays"
 abbrev pub useWords : List ℕ → List ℕ
 useWords us = take (count us) (drop 1 us)
 
 abbrev pub useSpans : List ℕ → List ℕ
 useSpans us = take (count us) (drop (1 + count us) us)
 
--- "local number + 65,536 × (kind + 4 × crossing)"
+-- "local number (order of NAME items) + 65,536 × (kind + 4 × crossing)"
 abbrev pub localOf : ℕ → ℕ
 localOf w = w % 65536
 

@@ -72,7 +72,7 @@ parse (i ∷ is) = read i (parse is)
 unfoldable pub tree : List Item → Block
 tree is = parse is .top .body
 
--- the named LABELs standing directly in a block, in order: "name number 0 has no identifier"
+-- "each named LABEL standing directly in it gets a node, in order"; "name number 0 to 65,535; 0 has no identifier"
 abbrev pub labelName : Stmt → List ℕ
 labelName (simple w s) = cond (eqb (kindOf w) LABEL && not (eqb (argumentOf w) 0)) (argumentOf w ∷ []) []
 labelName (do-block w b) = []

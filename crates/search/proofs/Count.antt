@@ -1,11 +1,11 @@
 -- How many of a list's first n numbers are 0, and what a 1 written there does to the count.
 -- Assumes nothing.
 use Prim.Native.Nat.{ℕ, zero, suc, _+_, _≤_, _<_}
-use mathlib.Core.Path.{_≡_, refl, sym, ap, _∙_}
+use mathlib.Core.Path.{_≡_, refl}
 use mathlib.Core.List.{List, [], _∷_}
 use native.Mathlib.Omega.{arith}
 use native.Mathlib.Nat.{le-of-suc-le-suc, not-suc-le-zero}
-use lib.ListN.{length, getD, set, replicate}
+use lib.ListN.{length, getD, set}
 use Rattle.search.specs.Search.{isZero, zeros}
 
 isZero-at : (x : ℕ) → x ≡ 0 → isZero x ≡ 1

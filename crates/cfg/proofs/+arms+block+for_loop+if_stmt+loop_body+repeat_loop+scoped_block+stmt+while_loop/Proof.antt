@@ -1,11 +1,11 @@
 use Rattle.cfg_steps.proofs.Loops.{move-did}
 use mathlib.Core.Logic.{inl}
 use lib.Dec.{lit≤}
-use Rattle.cfg.proofs.Rooms.{scoped-nodes, do-room, while-room, repeat-room, for-room, if-room, simple-room, elseif-room, else-room, code-starts, close-starts, simple-kind, ended-on, arms-left, at-item}
+use Rattle.cfg.proofs.Rooms.{do-room, while-room, repeat-room, for-room, if-room, simple-room, elseif-room, else-room, code-starts, close-starts, simple-kind, ended-on, arms-left, at-item}
 use Rattle.cfg.proofs.Choices.{chosen-over, chosen-end, chosen-elseif, chosen-else, opened-stepped, do-stepped, simple-stepped}
 use Rattle.cfg.proofs.Statements.{withItem, good-item, withCursor, good-cursor, while-opened, repeat-opened, for-opened, if-opened}
 use Rattle.cfg.proofs.Scopes.{good-within, entered-room, scoped, looped}
-use Rattle.cfg.proofs.Blocks.{nodes-of, labels-inside, Going, going-none, going-room, going-more, going-ended, ender-done, end-done, closed-at}
+use Rattle.cfg.proofs.Blocks.{labels-inside, Going, going-none, going-room, going-more, going-ended, ender-done, end-done, closed-at}
 use Rattle.cfg.specs.Steps.{bare}
 use Rattle.cfg_steps.proofs.Simple.{stands}
 use Rattle.cfg_steps.specs.Columns.{cols}
@@ -14,11 +14,10 @@ use Rattle.blocks.proofs.Scan.{ends, ends-not, ender-closes}
 use lib.ListN.{length, getD}
 use native.Mathlib.Nat.{le-refl}
 use native.Mathlib.Omega.{arith}
-use mathlib.Core.Bool.{true, false}
-use mathlib.Core.List.{List, []}
+use mathlib.Core.List.{List}
 use mathlib.Core.Path.{_≡_, refl, sym, ap, _∙_}
 use borrow.Author.Needs.{needs}
-use Prim.Native.Nat.{ℕ, _<_, _≤_, _+_, _-_, _*_}
+use Prim.Native.Nat.{ℕ, _<_, _+_, _-_, _*_}
 use borrow.Fn.Kinds.{In}
 use borrow.Fn.PlainCycle.{Measures, is, falls, and}
 use Rattle.cfg.proofs.arms.Reads as arms

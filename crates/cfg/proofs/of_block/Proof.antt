@@ -5,41 +5,28 @@ use Rattle.cfg_steps.proofs.Simple.{stands}
 use Rattle.cfg.proofs.Sheets.{first-good, whole}
 use Rattle.cfg.proofs.of_block.Statement.{statement}
 use Rattle.cfg.proofs.of_block.Tie as tie
-use Rattle.cfg.proofs.of_block.Reads as reads
-use Rattle.cfg.proofs.of_block.Lts as lts
-use Rattle.cfg.proofs.scoped_block.Reads as scoped-block-reads
-use Rattle.cfg.proofs.start_nodes.Reads as start-nodes-reads
-use Rattle.cfg_steps.proofs.GraphBuilder.close_into.Reads as close-into-reads
 
--- src/lib.rt:318:5
 start-nodes-requires : tie.Need-start-nodes-requires
 start-nodes-requires c κs = search needs
 
--- src/lib.rt:319:9
 scoped-block-requires : tie.Need-scoped-block-requires
 scoped-block-requires c κs = (c .before .before .before .before .before .before .before .before .before .before .before .before .before .pre .0, first-good _ _ _ _ _ (c .before .before .before .before .before .before .before .before .before .before .before .before .before .pre .1) (c .before .before .before .before .before .before .start-nodes .ensures), omega arith, c .before .before .before .before .before .before .before .before .before .before .before .before .before .pre .3, c .before .before .before .before .before .before .before .before .before .before .before .before .before .pre .2)
 
--- src/lib.rt:338:5
 close-into-requires : tie.Need-close-into-requires
 close-into-requires c κs = let s = c .before .before .before .before .before .before .before .before .before .scoped-block .ensures (c .before .before .before .before .before .before .before .before .before .before .before .before .before .before .before .before .before .before .before .before .before .before .before .args .kinds .now) refl .moved in (stands (s .good), omega (arith, s .good .exits))
 
--- src/lib.rt:314:1
 same-length : tie.Need-same-length
 same-length c = search needs
 
--- src/lib.rt:314:1
 same-length-2 : tie.Need-same-length-2
 same-length-2 c = search needs
 
--- src/lib.rt:314:1
 same-length-3 : tie.Need-same-length-3
 same-length-3 c = search needs
 
--- src/lib.rt:314:1
 same-length-4 : tie.Need-same-length-4
 same-length-4 c = search needs
 
--- src/lib.rt:314:1
 returns : tie.Need-returns
 returns c = λ ss e. let sc = c .before .before .before .before .before .before .before .before .before .before .before .before .scoped-block .ensures ss e in whole _ _ _ _ _ (c .before .before .before .before .before .before .before .before .before .before .before .before .before .before .before .before .before .before .before .before .before .before .before .before .before .before .pre .1) (c .before .before .before .before .before .before .before .before .before .before .before .before .before .before .before .before .before .before .before .start-nodes .ensures) _ ss _ sc (c .before .before .close-into .ensures (c .before .before .before .before .before .before .before .before .before .before .before .before .before .before .before .before .before .before .before .before .before .before .before .before .before .before .args .kinds .now) _ _ _ (sc .moved .good))
 

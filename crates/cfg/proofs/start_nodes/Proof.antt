@@ -4,38 +4,28 @@ use lib.ListN.{length-set}
 use Rattle.cfg.proofs.Sheets.{six}
 use Rattle.cfg.proofs.start_nodes.Statement.{statement}
 use Rattle.cfg.proofs.start_nodes.Tie as tie
-use Rattle.cfg.proofs.start_nodes.Reads as reads
-use Rattle.cfg.proofs.start_nodes.Lts as lts
 
--- src/lib.rt:305:5
 slice-write-edges : tie.Need-slice-write-edges
 slice-write-edges c = search needs
 
--- src/lib.rt:306:5
 slice-write-edges-2 : tie.Need-slice-write-edges-2
 slice-write-edges-2 c = simp length-set (omega (arith, c .pre))
 
--- src/lib.rt:307:5
 slice-write-edges-3 : tie.Need-slice-write-edges-3
 slice-write-edges-3 c = simp length-set (omega (arith, c .pre))
 
--- src/lib.rt:308:5
 slice-write-edges-4 : tie.Need-slice-write-edges-4
 slice-write-edges-4 c = simp length-set (omega (arith, c .pre))
 
--- src/lib.rt:309:5
 slice-write-edges-5 : tie.Need-slice-write-edges-5
 slice-write-edges-5 c = simp length-set (omega (arith, c .pre))
 
--- src/lib.rt:310:5
 slice-write-edges-6 : tie.Need-slice-write-edges-6
 slice-write-edges-6 c = search needs
 
--- src/lib.rt:301:1
 same-length : tie.Need-same-length
 same-length c = search needs
 
--- src/lib.rt:301:1
 returns : tie.Need-returns
 returns c = six _ (c .pre)
 

@@ -7,77 +7,59 @@ use Rattle.cfg_steps.specs.Columns.{joined}
 use Rattle.cfg_steps.proofs.Ops.{is-node}
 use Rattle.cfg_steps.proofs.connect.Statement.{statement}
 use Rattle.cfg_steps.proofs.connect.Tie as tie
-use Rattle.cfg_steps.proofs.connect.Reads as reads
-use Rattle.cfg_steps.proofs.connect.Lts as lts
 
 -- past the first test the node is one of the column's
 inside : (c : tie.Else1) → c .before .args .from < length (c .before .args .edges .now)
 inside c = is-node (c .before .pre .0) (c .if1 .left)
 
--- src/lib.rt:50:9
 returns : tie.Need-returns
 unfolding joined
 returns c = simp (eq-eqb _ _ (c .if1 .taken))
 
--- src/lib.rt:52:13
 mul-w : tie.Need-mul-w
 mul-w c = omega (arith, inside (c))
 
--- src/lib.rt:52:13
 slice-read-w : tie.Need-slice-read-w
 slice-read-w c = omega (arith, inside (c .before))
 
--- src/lib.rt:56:35
 mul-edges : tie.Need-mul-edges
 mul-edges c = omega (arith, c .before .slice-known .given (c .before .before .before .args .from))
 
--- src/lib.rt:56:23
 add-edges : tie.Need-add-edges
 add-edges c = omega (arith, c .before .slice-known .given (c .before .before .before .args .from))
 
--- src/lib.rt:56:9
 mul-edges-2 : tie.Need-mul-edges-2
 mul-edges-2 c = omega (arith, inside (c .before .before))
 
--- src/lib.rt:56:9
 slice-write-edges : tie.Need-slice-write-edges
 slice-write-edges c = omega (arith, inside (c .before .before))
 
--- src/lib.rt:58:31
 mul-edges-3 : tie.Need-mul-edges-3
 mul-edges-3 c = search needs
 
--- src/lib.rt:58:23
 add-edges-2 : tie.Need-add-edges-2
 add-edges-2 c = search needs
 
--- src/lib.rt:58:9
 mul-edges-4 : tie.Need-mul-edges-4
 mul-edges-4 c = omega (arith, inside (c .before .before .before))
 
--- src/lib.rt:58:9
 slice-write-edges-2 : tie.Need-slice-write-edges-2
 slice-write-edges-2 c = omega (arith, inside (c .before .before .before))
 
--- src/lib.rt:44:1
 same-length : tie.Need-same-length
 same-length c = search needs
 
--- src/lib.rt:44:1
 returns-2 : tie.Need-returns-2
 unfolding joined
 returns-2 c = simp (ne-eqb _ _ (c .before .before .if1 .left), eq-eqb _ _ (c .if2 .taken))
 
--- src/lib.rt:44:1
 same-length-2 : tie.Need-same-length-2
 same-length-2 c = search needs
 
--- src/lib.rt:44:1
 returns-3 : tie.Need-returns-3
 unfolding joined
 returns-3 c = simp (ne-eqb _ _ (c .before .before .before .if1 .left), ne-eqb _ _ (c .before .if2 .left), eq-eqb _ _ (c .if3 .taken))
 
--- src/lib.rt:44:1
 returns-4 : tie.Need-returns-4
 unfolding joined
 returns-4 c = simp (ne-eqb _ _ (c .before .before .before .if1 .left), ne-eqb _ _ (c .before .if2 .left), ne-eqb _ _ (c .if3 .left))

@@ -1,25 +1,17 @@
 use borrow.Author.Needs.{needs}
-use mathlib.Core.Path.{refl, sym, ap, _∙_}
-use mathlib.Core.Logic.{inl, ⊎-elim}
+use mathlib.Core.Logic.{inl}
 use Rattle.cfg_steps.proofs.connect_if.Statement.{statement}
 use Rattle.cfg_steps.proofs.connect_if.Tie as tie
-use Rattle.cfg_steps.proofs.connect_if.Reads as reads
-use Rattle.cfg_steps.proofs.connect_if.Lts as lts
-use Rattle.cfg_steps.proofs.connect.Reads as connect-reads
 
--- src/lib.rt:427:9
 connect-requires : tie.Need-connect-requires
 connect-requires c κs = (inl (c .before .before .before .pre .0), c .before .before .before .pre .1)
 
--- src/lib.rt:422:1
 same-length : tie.Need-same-length
 same-length c = search needs
 
--- src/lib.rt:422:1
 returns : tie.Need-returns
 returns c = rw (c .before .before .before .before .if1 .taken) (c .before .before .connect .ensures)
 
--- src/lib.rt:422:1
 returns-2 : tie.Need-returns-2
 returns-2 c = search needs
 

@@ -1,4 +1,4 @@
-use Prim.Native.Nat.{_≤_, _<_}
+use Prim.Native.Nat.{_≤_}
 use mathlib.Core.Path.{_≡_, refl, sym, ap, _∙_}
 use native.Mathlib.Omega.{arith}
 use borrow.Author.Tests.{eq-eqb, ne-eqb}
@@ -7,8 +7,6 @@ use Rattle.cfg_steps.specs.Columns.{labelList}
 use Rattle.cfg_steps.proofs.Ops.{look-step, look-none}
 use Rattle.cfg_steps.proofs.label_node.Statement.{statement}
 use Rattle.cfg_steps.proofs.label_node.Tie as tie
-use Rattle.cfg_steps.proofs.label_node.Reads as reads
-use Rattle.cfg_steps.proofs.label_node.Lts as lts
 
 abbrev Inv-loop : tie.InvT-loop
 Inv-loop labels count name k₀ k = (k ≤ count) × (labelNode name (labelList count labels) ≡ labelNode name (labelList k labels))
@@ -16,35 +14,27 @@ Inv-loop labels count name k₀ k = (k ≤ count) × (labelNode name (labelList 
 abbrev μ-loop : tie.MeasureT-loop
 μ-loop labels count name k₀ k = k
 
--- src/lib.rt:68:5
 loop-holds : tie.Need-loop-holds Inv-loop μ-loop
 loop-holds c = (omega arith, refl)
 
--- src/lib.rt:69:9
 sub-k : tie.Need-sub-k Inv-loop μ-loop
 sub-k c = omega arith
 
--- src/lib.rt:70:17
 mul-w : tie.Need-mul-w Inv-loop μ-loop
 mul-w c = omega arith
 
--- src/lib.rt:70:17
 shared-slice-read-w : tie.Need-shared-slice-read-w Inv-loop μ-loop
 shared-slice-read-w c = omega arith
 
--- src/lib.rt:72:13
 returns : tie.Need-returns Inv-loop μ-loop
 returns c = sym (c .before .before .before .loop .inv .1 ∙ look-step _ _ _ (c .before .before .loop-test .taken) ∙ simp (eq-eqb _ _ (c .if1 .taken)))
 
--- src/lib.rt:68:5
 loop-less : tie.Need-loop-less Inv-loop μ-loop
 loop-less c = omega arith
 
--- src/lib.rt:68:5
 loop-again : tie.Need-loop-again Inv-loop μ-loop
 loop-again c = (omega arith, c .before .before .before .loop .inv .1 ∙ look-step _ _ _ (c .before .before .loop-test .taken) ∙ simp (ne-eqb _ _ (c .if1 .left)))
 
--- src/lib.rt:63:1
 returns-2 : tie.Need-returns-2 Inv-loop μ-loop
 returns-2 c = let z : c .before .loop .k ≡ 0 = omega arith in sym (c .before .loop .inv .1 ∙ ap (λ k. labelNode (c .before .before .args .name) (labelList k (c .before .before .args .labels .now))) z ∙ look-none _ _)
 

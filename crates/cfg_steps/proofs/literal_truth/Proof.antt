@@ -2,20 +2,15 @@ use borrow.Author.Tests.{le-leb, lt-leb}
 use Rattle.flow.specs.Kinds.{literalTruth}
 use Rattle.cfg_steps.proofs.literal_truth.Statement.{statement}
 use Rattle.cfg_steps.proofs.literal_truth.Tie as tie
-use Rattle.cfg_steps.proofs.literal_truth.Reads as reads
-use Rattle.cfg_steps.proofs.literal_truth.Lts as lts
 
--- src/lib.rt:35:9
 returns : tie.Need-returns
 unfolding literalTruth
 returns c = simp (le-leb _ _ (c .if1 .taken))
 
--- src/lib.rt:38:9
 returns-2 : tie.Need-returns-2
 unfolding literalTruth
 returns-2 c = simp (lt-leb _ _ (c .before .if1 .left), le-leb _ _ (c .if2 .taken))
 
--- src/lib.rt:31:1
 returns-3 : tie.Need-returns-3
 unfolding literalTruth
 returns-3 c = simp (lt-leb _ _ (c .before .if1 .left), lt-leb _ _ (c .if2 .left))

@@ -3,19 +3,13 @@ use native.Mathlib.Omega.{arith}
 use Rattle.cfg_steps.proofs.Ops.{advance-did, standing}
 use Rattle.cfg_steps.proofs.GraphBuilder.advance_to.Statement.{statement}
 use Rattle.cfg_steps.proofs.GraphBuilder.advance_to.Tie as tie
-use Rattle.cfg_steps.proofs.GraphBuilder.advance_to.Reads as reads
-use Rattle.cfg_steps.proofs.GraphBuilder.advance_to.Lts as lts
-use Rattle.cfg_steps.proofs.connect.Reads as connect-reads
 
--- src/lib.rt:97:9
 connect-requires : tie.Need-connect-requires
 connect-requires c κs = (standing (c .before .before .pre .0), omega arith)
 
--- src/lib.rt:91:5
 same-length : tie.Need-same-length
 same-length c = search needs
 
--- src/lib.rt:91:5
 returns : tie.Need-returns
 returns c = λ ks k n l ok. advance-did ks _ _ k n l ok _ _ (c .before .before .connect .ensures) (c .before .before .before .before .before .pre .1)
 

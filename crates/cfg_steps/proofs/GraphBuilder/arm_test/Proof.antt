@@ -1,5 +1,4 @@
 use borrow.Author.Needs.{needs}
-use mathlib.Core.Path.{refl}
 use mathlib.Core.List.{[]}
 use mathlib.Core.Logic.{inl}
 use Rattle.cfg_steps.proofs.Ops.{did-trans}
@@ -7,23 +6,16 @@ use Rattle.cfg_steps.proofs.Simple.{may-code}
 use Rattle.cfg_steps.proofs.Loops.{move-did}
 use Rattle.cfg_steps.proofs.GraphBuilder.arm_test.Statement.{statement}
 use Rattle.cfg_steps.proofs.GraphBuilder.arm_test.Tie as tie
-use Rattle.cfg_steps.proofs.GraphBuilder.arm_test.Reads as reads
-use Rattle.cfg_steps.proofs.GraphBuilder.arm_test.Lts as lts
-use Rattle.cfg_steps.proofs.GraphBuilder.code.Reads as code-reads
 
--- src/lib.rt:534:9
 code-requires : tie.Need-code-requires
 code-requires c κs = may-code _ (move-did [] _ _ _ _ _ (c .before .before .before .before .pre .0 .2) _ (inl (c .before .before .before .before .pre .1 .3)) .good) (c .before .before .before .before .pre .1 .0) (c .before .before .before .before .pre .1 .1) (c .before .before .before .before .pre .1 .2)
 
--- src/lib.rt:522:5
 same-length : tie.Need-same-length
 same-length c = search needs
 
--- src/lib.rt:522:5
 same-length-2 : tie.Need-same-length-2
 same-length-2 c = search needs
 
--- src/lib.rt:522:5
 returns : tie.Need-returns
 returns c = λ ks n l ok q. let d = move-did ks _ _ _ n l ok _ (inl (c .before .before .before .before .before .before .before .before .before .pre .1 .3)) in did-trans d (c .before .before .before .before .code .ensures .0 ks n l (d .good) q)
 

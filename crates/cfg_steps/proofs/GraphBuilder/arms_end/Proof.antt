@@ -2,19 +2,13 @@ use borrow.Author.Needs.{needs}
 use Rattle.cfg_steps.proofs.Loops.{arms-end-did}
 use Rattle.cfg_steps.proofs.GraphBuilder.arms_end.Statement.{statement}
 use Rattle.cfg_steps.proofs.GraphBuilder.arms_end.Tie as tie
-use Rattle.cfg_steps.proofs.GraphBuilder.arms_end.Reads as reads
-use Rattle.cfg_steps.proofs.GraphBuilder.arms_end.Lts as lts
-use Rattle.cfg_steps.proofs.connect_if.Reads as connect-if-reads
 
--- src/lib.rt:543:9
 connect-if-requires : tie.Need-connect-if-requires
 connect-if-requires c κs = search needs
 
--- src/lib.rt:538:5
 same-length : tie.Need-same-length
 same-length c = search needs
 
--- src/lib.rt:538:5
 returns : tie.Need-returns
 returns c = λ ks k n l ok. arms-end-did ks _ _ k n l ok (c .before .before .before .before .before .args .test) (c .before .before .before .before .before .args .join) (c .before .before .before .before .before .args .falls) _ (c .before .before .connect-if .ensures) (c .before .before .before .before .before .pre .1 .0) (c .before .before .before .before .before .pre .1 .1)
 

@@ -3,19 +3,13 @@ use native.Mathlib.Omega.{arith}
 use Rattle.cfg_steps.proofs.Ops.{close-did, standing}
 use Rattle.cfg_steps.proofs.GraphBuilder.close_into.Statement.{statement}
 use Rattle.cfg_steps.proofs.GraphBuilder.close_into.Tie as tie
-use Rattle.cfg_steps.proofs.GraphBuilder.close_into.Reads as reads
-use Rattle.cfg_steps.proofs.GraphBuilder.close_into.Lts as lts
-use Rattle.cfg_steps.proofs.connect.Reads as connect-reads
 
--- src/lib.rt:109:9
 connect-requires : tie.Need-connect-requires
 connect-requires c κs = (standing (c .before .before .pre .0), omega arith)
 
--- src/lib.rt:103:5
 same-length : tie.Need-same-length
 same-length c = search needs
 
--- src/lib.rt:103:5
 returns : tie.Need-returns
 returns c = λ ks k n l ok. close-did ks _ _ k n l ok _ _ (c .before .before .connect .ensures) (c .before .before .before .before .before .pre .1)
 

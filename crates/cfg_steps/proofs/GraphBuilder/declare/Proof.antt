@@ -2,42 +2,31 @@ use borrow.Author.Needs.{needs}
 use Rattle.cfg_steps.proofs.Ops.{declare-did}
 use Rattle.cfg_steps.proofs.GraphBuilder.declare.Statement.{statement}
 use Rattle.cfg_steps.proofs.GraphBuilder.declare.Tie as tie
-use Rattle.cfg_steps.proofs.GraphBuilder.declare.Reads as reads
-use Rattle.cfg_steps.proofs.GraphBuilder.declare.Lts as lts
 
--- src/lib.rt:167:34
 mul-names : tie.Need-mul-names
 mul-names c = search needs
 
--- src/lib.rt:167:20
 add-names : tie.Need-add-names
 add-names c = search needs
 
--- src/lib.rt:167:53
 mul-names-2 : tie.Need-mul-names-2
 mul-names-2 c = search needs
 
--- src/lib.rt:167:20
 add-names-2 : tie.Need-add-names-2
 add-names-2 c = search needs
 
--- src/lib.rt:167:9
 mul-names-3 : tie.Need-mul-names-3
 mul-names-3 c = search needs
 
--- src/lib.rt:167:9
 slice-write-names : tie.Need-slice-write-names
 slice-write-names c = search needs
 
--- src/lib.rt:168:22
 add-self : tie.Need-add-self
 add-self c = search needs
 
--- src/lib.rt:160:5
 same-length : tie.Need-same-length
 same-length c = search needs
 
--- src/lib.rt:160:5
 returns : tie.Need-returns
 returns c = λ ks e k l ok. declare-did ks _ e k _ l ok _ (c .before .before .pre .1 .0) (c .before .before .pre .0 .1)
 

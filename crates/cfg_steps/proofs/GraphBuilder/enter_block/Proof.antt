@@ -10,11 +10,6 @@ use Rattle.cfg_steps.specs.Columns.{cols, Good, Scanning}
 use Rattle.cfg_steps.proofs.Scan.{scan-start, scan-more, scan-ended, scan-over, scan-room}
 use Rattle.cfg_steps.proofs.GraphBuilder.enter_block.Statement.{statement}
 use Rattle.cfg_steps.proofs.GraphBuilder.enter_block.Tie as tie
-use Rattle.cfg_steps.proofs.GraphBuilder.enter_block.Reads as reads
-use Rattle.cfg_steps.proofs.GraphBuilder.enter_block.Lts as lts
-use Rattle.cfg_steps.proofs.GraphBuilder.label_here.Reads as label-here-reads
-use Rattle.blocks.proofs.depth_after.Reads as depth-after-reads
-use Rattle.blocks.proofs.ends_at.Reads as ends-at-reads
 
 abbrev Inv-loop : tie.InvT-loop
 Inv-loop kinds edges₀ labels₀ b₀ depth₀ j₀ edges labels b depth j = (j ≤ length kinds) × (depth ≤ j) × ((ss k n : List ℕ) → length ss ≡ length kinds → Good b₀ (cols edges₀ k n labels₀) → Scanning kinds ss b₀ (cols edges₀ k n labels₀) depth j b (cols edges k n labels))
@@ -26,54 +21,42 @@ abbrev μ-loop : tie.MeasureT-loop
 scanned : (c : tie.At-loop Inv-loop μ-loop) → Scanning (c .before .before .before .before .args .kinds .now) (c .before .before .before .before .args .kinds .now) (c .before .before .before .before .args .self) (cols (c .before .before .before .before .args .edges .now) (c .before .before .before .before .pre .1 .0 .0) (c .before .before .before .before .pre .1 .0 .1) (c .before .before .before .before .args .labels .now)) (c .loop .depth) (c .loop .j) (c .loop .b) (cols (c .loop .edges) (c .before .before .before .before .pre .1 .0 .0) (c .before .before .before .before .pre .1 .0 .1) (c .loop .labels))
 scanned c = c .loop .inv .2 _ _ _ refl (c .before .before .before .before .pre .1 .0 .2)
 
--- src/lib.rt:263:9
 loop-holds : tie.Need-loop-holds Inv-loop μ-loop
 loop-holds c = (omega arith, omega arith, λ ss k n e ok. scan-start _ ss _ _ ok)
 
--- src/lib.rt:264:21
 mul-w : tie.Need-mul-w Inv-loop μ-loop
 mul-w c = omega arith
 
--- src/lib.rt:264:21
 shared-slice-read-w : tie.Need-shared-slice-read-w Inv-loop μ-loop
 shared-slice-read-w c = omega arith
 
--- src/lib.rt:266:16
 ends-at-requires : tie.Need-ends-at-requires Inv-loop μ-loop
 ends-at-requires c κs = search needs
 
--- src/lib.rt:267:17
 same-length : tie.Need-same-length Inv-loop μ-loop
 same-length c = scanned (c .before .before .before .before) .entered .grown .edgesLength
 
--- src/lib.rt:267:17
 same-length-2 : tie.Need-same-length-2 Inv-loop μ-loop
 same-length-2 c = scanned (c .before .before .before .before) .entered .grown .labelsLength
 
--- src/lib.rt:267:17
 returns : tie.Need-returns Inv-loop μ-loop
 returns c = λ ss k n e ok. scan-ended e (c .before .before .before .before .loop .inv .2 ss k n e ok) (c .before .before .before .loop-test .taken) (sym (c .before .ends-at .ensures) ∙ c .if1 .taken)
 
--- src/lib.rt:269:13
 label-here-requires : tie.Need-label-here-requires Inv-loop μ-loop
 label-here-requires c κs = (
   (_, _, scanned (c .before .before .before .before .before .before) .entered .good),
   (scan-room refl (scanned (c .before .before .before .before .before .before)) (c .before .before .before .before .before .loop-test .taken) (sym (c .before .before .before .ends-at .ensures) ∙ c .before .before .if1 .left) (c .before .before .before .before .before .before .before .before .before .before .pre .1 .1 _ refl), c .before .before .before .before .before .before .before .before .before .before .pre .0 .2 _ (c .before .before .before .before .before .loop-test .taken)),
 )
 
--- src/lib.rt:270:13
 depth-after-requires : tie.Need-depth-after-requires Inv-loop μ-loop
 depth-after-requires c κs = omega arith
 
--- src/lib.rt:271:13
 add-j : tie.Need-add-j Inv-loop μ-loop
 add-j c = omega arith
 
--- src/lib.rt:263:9
 loop-less : tie.Need-loop-less Inv-loop μ-loop
 loop-less c = omega arith
 
--- src/lib.rt:263:9
 loop-again : tie.Need-loop-again Inv-loop μ-loop
 loop-again c = (
   omega arith,
@@ -81,15 +64,12 @@ loop-again c = (
   λ ss k n e ok. rw (c .depth-after .ensures) (scan-more e (c .before .before .before .before .before .before .before .before .before .before .before .before .loop .inv .2 ss k n e ok) (c .before .before .before .before .before .before .before .before .before .before .before .loop-test .taken) (sym (c .before .before .before .before .before .before .before .before .before .ends-at .ensures) ∙ c .before .before .before .before .before .before .before .before .if1 .left) (c .before .before .before .before .before .label-here .ensures _ k n (c .before .before .before .before .before .before .before .before .before .before .before .before .loop .inv .2 ss k n e ok .entered .good))),
 )
 
--- src/lib.rt:254:5
 same-length-3 : tie.Need-same-length-3 Inv-loop μ-loop
 same-length-3 c = scanned (c .before) .entered .grown .edgesLength
 
--- src/lib.rt:254:5
 same-length-4 : tie.Need-same-length-4 Inv-loop μ-loop
 same-length-4 c = scanned (c .before) .entered .grown .labelsLength
 
--- src/lib.rt:254:5
 returns-2 : tie.Need-returns-2 Inv-loop μ-loop
 returns-2 c = λ ss k n e ok. scan-over e (c .before .loop .inv .2 ss k n e ok) (c .loop-test .left)
 

@@ -1,42 +1,30 @@
 use borrow.Author.Needs.{needs}
-use mathlib.Core.Path.{refl, sym, ap, _∙_}
+use mathlib.Core.Path.{refl}
 use native.Mathlib.Omega.{arith}
 use mathlib.Core.List.{[]}
 use Rattle.cfg_steps.proofs.Ops.{did-trans}
 use Rattle.cfg_steps.proofs.Simple.{stands}
 use Rattle.cfg_steps.proofs.GraphBuilder.for_head.Statement.{statement}
 use Rattle.cfg_steps.proofs.GraphBuilder.for_head.Tie as tie
-use Rattle.cfg_steps.proofs.GraphBuilder.for_head.Reads as reads
-use Rattle.cfg_steps.proofs.GraphBuilder.for_head.Lts as lts
-use Rattle.cfg_steps.proofs.GraphBuilder.advance_to.Reads as advance-to-reads
-use Rattle.cfg_steps.proofs.GraphBuilder.code_and_after.Reads as code-and-after-reads
-use Rattle.cfg_steps.proofs.GraphBuilder.new_node.Reads as new-node-reads
 
--- src/lib.rt:475:20
 add-head : tie.Need-add-head
 add-head c = search needs
 
--- src/lib.rt:476:13
 code-and-after-requires : tie.Need-code-and-after-requires
 code-and-after-requires c κs = search needs
 
--- src/lib.rt:477:13
 advance-to-requires : tie.Need-advance-to-requires
 advance-to-requires c κs = let d = c .before .before .before .before .before .code-and-after .ensures [] _ _ (c .before .before .before .before .before .before .before .before .before .before .before .pre .0 .2) refl in (stands (d .good), omega (arith, d .nodes))
 
--- src/lib.rt:478:9
 new-node-requires : tie.Need-new-node-requires
 new-node-requires c κs = let d = c .before .before .before .before .before .before .before .before .before .code-and-after .ensures [] _ _ (c .before .before .before .before .before .before .before .before .before .before .before .before .before .before .before .pre .0 .2) refl in let e = c .before .before .before .advance-to .ensures [] _ _ _ (d .good) in (omega (arith, e .good .wideEdges, d .nodes, e .nodes), omega (arith, d .nodes, e .nodes))
 
--- src/lib.rt:470:5
 same-length : tie.Need-same-length
 same-length c = search needs
 
--- src/lib.rt:470:5
 same-length-2 : tie.Need-same-length-2
 same-length-2 c = search needs
 
--- src/lib.rt:470:5
 returns : tie.Need-returns
 returns c = λ ks n l ok q.
     let d = c .before .before .before .before .before .before .before .before .before .before .before .before .code-and-after .ensures ks n l ok q in

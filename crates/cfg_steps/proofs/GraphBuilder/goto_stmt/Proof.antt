@@ -2,55 +2,40 @@ use borrow.Author.Needs.{needs}
 use mathlib.Core.Path.{refl, sym, ap, _∙_}
 use lib.ListN.{getD}
 use Rattle.flow.specs.Graph.{jump, orBreak}
-use Rattle.cfg_steps.proofs.Simple.{did-none, did-as, stands, may-jump, may-code, label-below, labelled-none, labelled-lost, labelled-at}
+use Rattle.cfg_steps.proofs.Simple.{did-as, may-jump, label-below}
 use Rattle.cfg_steps.proofs.GraphBuilder.goto_stmt.Statement.{statement}
 use Rattle.cfg_steps.proofs.GraphBuilder.goto_stmt.Tie as tie
-use Rattle.cfg_steps.proofs.GraphBuilder.goto_stmt.Reads as reads
-use Rattle.cfg_steps.proofs.GraphBuilder.goto_stmt.Lts as lts
-use Rattle.cfg_steps.proofs.GraphBuilder.jump.Reads as jump-reads
-use Rattle.cfg_steps.proofs.label_node.Reads as label-node-reads
 
--- src/lib.rt:303:31
 label-node-requires : tie.Need-label-node-requires
 label-node-requires c κs = search needs
 
--- src/lib.rt:303:23
 enum-known-node : tie.Need-enum-known-node
 enum-known-node c = search needs
 
--- src/lib.rt:304:30
 enum-told : tie.Need-enum-told
 enum-told c = search needs
 
--- src/lib.rt:304:13
 jump-requires : tie.Need-jump-requires
 jump-requires c κs = search needs
 
--- src/lib.rt:304:13
 same-length : tie.Need-same-length
 same-length c = search needs
 
--- src/lib.rt:304:13
 same-length-2 : tie.Need-same-length-2
 same-length-2 c = search needs
 
--- src/lib.rt:304:13
 returns : tie.Need-returns
 returns c = λ ks n ok q. did-as refl (λ ss g. ap (λ f. jump (getD ss (c .before .before .before .before .before .before .before .before .before .before .before .before .before .args .i) 0) (orBreak f) g) (sym (sym (c .before .before .before .before .before .before .before .before .before .label-node .ensures) ∙ c .before .before .before .before .before .before .before .enum-told .given .1))) (c .before .before .before .before .jump .ensures ks n _ ok q)
 
--- src/lib.rt:306:9
 jump-requires-2 : tie.Need-jump-requires-2
 jump-requires-2 c κs = may-jump _ _ (c .before .before .before .before .before .before .before .before .before .pre .0 .1) (c .before .before .before .before .before .before .before .before .before .pre .1 .0) (c .before .before .before .before .before .before .before .before .before .pre .1 .1) (c .before .before .before .before .before .before .before .before .before .pre .1 .2) (label-below (c .before .before .before .before .before .before .before .before .before .args .name) (c .before .before .before .before .before .before .before .before .before .pre .0 .1) (sym (c .before .before .before .before .before .label-node .ensures) ∙ c .before .before .before .node .given .1))
 
--- src/lib.rt:297:5
 same-length-3 : tie.Need-same-length-3
 same-length-3 c = search needs
 
--- src/lib.rt:297:5
 same-length-4 : tie.Need-same-length-4
 same-length-4 c = search needs
 
--- src/lib.rt:297:5
 returns-2 : tie.Need-returns-2
 returns-2 c = λ ks n ok q. did-as refl (λ ss g. ap (λ f. jump (getD ss (c .before .before .before .before .before .before .before .before .before .before .before .before .before .before .args .i) 0) (orBreak f) g) (sym (sym (c .before .before .before .before .before .before .before .before .before .before .label-node .ensures) ∙ c .before .before .before .before .before .before .before .before .node .given .1))) (c .before .before .before .before .jump2 .ensures ks n _ ok q)
 

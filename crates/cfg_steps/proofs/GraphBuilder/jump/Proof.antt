@@ -3,28 +3,19 @@ use native.Mathlib.Omega.{arith}
 use Rattle.cfg_steps.proofs.Ops.{jump-did}
 use Rattle.cfg_steps.proofs.GraphBuilder.jump.Statement.{statement}
 use Rattle.cfg_steps.proofs.GraphBuilder.jump.Tie as tie
-use Rattle.cfg_steps.proofs.GraphBuilder.jump.Reads as reads
-use Rattle.cfg_steps.proofs.GraphBuilder.jump.Lts as lts
-use Rattle.cfg_steps.proofs.GraphBuilder.close_into.Reads as close-into-reads
-use Rattle.cfg_steps.proofs.GraphBuilder.code.Reads as code-reads
 
--- src/lib.rt:153:13
 code-requires : tie.Need-code-requires
 code-requires c κs = search needs
 
--- src/lib.rt:154:9
 close-into-requires : tie.Need-close-into-requires
 close-into-requires c κs = (c .before .before .before .before .before .code .ensures .1 .0, omega (arith, c .before .before .before .before .before .code .ensures .1 .1))
 
--- src/lib.rt:147:5
 same-length : tie.Need-same-length
 same-length c = search needs
 
--- src/lib.rt:147:5
 same-length-2 : tie.Need-same-length-2
 same-length-2 c = search needs
 
--- src/lib.rt:147:5
 returns : tie.Need-returns
 returns c = λ ks n l ok q. let d = c .before .before .before .before .before .before .before .before .code .ensures .0 ks n l ok q in jump-did _ _ n l _ _ d (c .before .before .close-into .ensures ks _ n l (d .good))
 

@@ -1,54 +1,39 @@
 use borrow.Author.Needs.{needs}
-use mathlib.Core.Path.{refl, sym, ap, _∙_}
+use mathlib.Core.Path.{refl, sym, _∙_}
 use native.Mathlib.Omega.{arith}
 use Rattle.cfg_steps.proofs.Simple.{stands-as}
-use Rattle.cfg_steps.proofs.Simple.{did-none, did-as, stands, may-jump, may-code, label-below, labelled-none, labelled-lost, labelled-at}
+use Rattle.cfg_steps.proofs.Simple.{did-none, did-as, stands, label-below, labelled-none, labelled-lost, labelled-at}
 use Rattle.cfg_steps.proofs.Ops.{did-trans}
 use Rattle.cfg_steps.proofs.GraphBuilder.label_stmt.Statement.{statement}
 use Rattle.cfg_steps.proofs.GraphBuilder.label_stmt.Tie as tie
-use Rattle.cfg_steps.proofs.GraphBuilder.label_stmt.Reads as reads
-use Rattle.cfg_steps.proofs.GraphBuilder.label_stmt.Lts as lts
-use Rattle.cfg_steps.proofs.GraphBuilder.advance_to.Reads as advance-to-reads
-use Rattle.cfg_steps.proofs.GraphBuilder.record_code.Reads as record-code-reads
-use Rattle.cfg_steps.proofs.label_node.Reads as label-node-reads
 
--- src/lib.rt:286:13
 returns : tie.Need-returns
 returns c = λ ks n ok q. did-as refl (λ ss g. labelled-none _ _ _ g (c .if1 .taken)) (did-none ks _ _ ok)
 
--- src/lib.rt:289:31
 label-node-requires : tie.Need-label-node-requires
 label-node-requires c κs = search needs
 
--- src/lib.rt:289:23
 enum-known-node : tie.Need-enum-known-node
 enum-known-node c = search needs
 
--- src/lib.rt:290:13
 enum-told : tie.Need-enum-told
 enum-told c = search needs
 
--- src/lib.rt:290:13
 returns-2 : tie.Need-returns-2
 returns-2 c = λ ks n ok q. did-as refl (λ ss g. labelled-lost _ _ _ g (sym (c .before .before .label-node .ensures) ∙ c .enum-told .given .1)) (did-none ks _ _ ok)
 
--- src/lib.rt:292:13
 record-code-requires : tie.Need-record-code-requires
 record-code-requires c κs = let ok = c .before .before .before .before .before .before .before .before .before .pre .0 .1 in ((omega (arith, ok .wideCodes, ok .items), c .before .before .before .before .before .before .before .before .before .pre .1 .0), (c .before .before .before .before .before .before .before .before .before .pre .1 .1, label-below (c .before .before .before .before .before .before .before .before .before .args .name) (c .before .before .before .before .before .before .before .before .before .pre .0 .1) (sym (c .before .before .before .before .label-node .ensures) ∙ c .before .before .node .given .1), ok .nodes))
 
--- src/lib.rt:293:9
 advance-to-requires : tie.Need-advance-to-requires
 advance-to-requires c κs = (stands-as (c .before .before .before .record-code .ensures .1 .0) (c .before .before .before .record-code .ensures .1 .1) (stands (c .before .before .before .before .before .before .before .before .before .before .before .before .before .pre .0 .1)), rw (c .before .before .before .record-code .ensures .1 .0) (label-below (c .before .before .before .before .before .before .before .before .before .before .before .before .before .args .name) (c .before .before .before .before .before .before .before .before .before .before .before .before .before .pre .0 .1) (sym (c .before .before .before .before .before .before .before .before .label-node .ensures) ∙ c .before .before .before .before .before .before .node .given .1)))
 
--- src/lib.rt:280:5
 same-length : tie.Need-same-length
 same-length c = search needs
 
--- src/lib.rt:280:5
 same-length-2 : tie.Need-same-length-2
 same-length-2 c = search needs
 
--- src/lib.rt:280:5
 returns-3 : tie.Need-returns-3
 returns-3 c = λ ks n ok q.
     let d = c .before .before .before .before .before .before .record-code .ensures .0 ks _ n _ ok q in

@@ -1,5 +1,5 @@
 use borrow.Author.Needs.{needs}
-use mathlib.Core.Path.{refl, sym, ap, _∙_}
+use mathlib.Core.Path.{refl, ap, _∙_}
 use native.Mathlib.Omega.{arith}
 use mathlib.Core.Logic.{inl}
 use Prim.Native.Nat.{_+_}
@@ -9,32 +9,22 @@ use Rattle.cfg_steps.proofs.Simple.{did-as}
 use Rattle.cfg_steps.proofs.Loops.{if-did, fails-edge}
 use Rattle.cfg_steps.proofs.GraphBuilder.loop_end.Statement.{statement}
 use Rattle.cfg_steps.proofs.GraphBuilder.loop_end.Tie as tie
-use Rattle.cfg_steps.proofs.GraphBuilder.loop_end.Reads as reads
-use Rattle.cfg_steps.proofs.GraphBuilder.loop_end.Lts as lts
-use Rattle.cfg_steps.proofs.connect_if.Reads as connect-if-reads
-use Rattle.cfg_steps.proofs.may_fail.Reads as may-fail-reads
 
--- src/lib.rt:487:13
 may-fail-requires : tie.Need-may-fail-requires
 may-fail-requires c κs = search needs
 
--- src/lib.rt:488:33
 add-connect-if : tie.Need-add-connect-if
 add-connect-if c = search needs
 
--- src/lib.rt:488:9
 connect-if-requires : tie.Need-connect-if-requires
 connect-if-requires c κs = search needs
 
--- src/lib.rt:489:23
 add-self : tie.Need-add-self
 add-self c = search needs
 
--- src/lib.rt:482:5
 same-length : tie.Need-same-length
 same-length c = search needs
 
--- src/lib.rt:482:5
 returns : tie.Need-returns
 returns c = λ ks k n l ok.
     did-as refl (λ ss g. ap (moveTo (c .before .before .before .before .before .before .args .head + 1)) (ap (λ b. cond b (connect (c .before .before .before .before .before .before .args .head) (c .before .before .before .before .before .before .args .head + 1) g) g) (c .before .before .before .before .may-fail .ensures) ∙ fails-edge (c .before .before .before .before .before .before .args .truth) (c .before .before .before .before .before .before .args .head) (c .before .before .before .before .before .before .args .head + 1) g))

@@ -1,52 +1,38 @@
 use borrow.Author.Needs.{needs}
-use native.Mathlib.Omega.{arith}
 use Rattle.cfg_steps.proofs.Scan.{label-entered}
 use Rattle.cfg_steps.proofs.GraphBuilder.new_label.Statement.{statement}
 use Rattle.cfg_steps.proofs.GraphBuilder.new_label.Tie as tie
-use Rattle.cfg_steps.proofs.GraphBuilder.new_label.Reads as reads
-use Rattle.cfg_steps.proofs.GraphBuilder.new_label.Lts as lts
 
--- src/lib.rt:225:28
 mul-labels : tie.Need-mul-labels
 mul-labels c = search needs
 
--- src/lib.rt:225:21
 add-labels : tie.Need-add-labels
 add-labels c = search needs
 
--- src/lib.rt:225:9
 mul-labels-2 : tie.Need-mul-labels-2
 mul-labels-2 c = search needs
 
--- src/lib.rt:225:9
 slice-write-labels : tie.Need-slice-write-labels
 slice-write-labels c = search needs
 
--- src/lib.rt:226:9
 mul-edges : tie.Need-mul-edges
 mul-edges c = search needs
 
--- src/lib.rt:226:9
 slice-write-edges : tie.Need-slice-write-edges
 slice-write-edges c = search needs
 
--- src/lib.rt:227:23
 add-self : tie.Need-add-self
 add-self c = search needs
 
--- src/lib.rt:228:22
 add-self-2 : tie.Need-add-self-2
 add-self-2 c = search needs
 
--- src/lib.rt:218:5
 same-length : tie.Need-same-length
 same-length c = search needs
 
--- src/lib.rt:218:5
 same-length-2 : tie.Need-same-length-2
 same-length-2 c = search needs
 
--- src/lib.rt:218:5
 returns : tie.Need-returns
 returns c = λ ks k n ok. label-entered ks _ _ k n _ _ ok (c .pre .1 .0) (c .pre .1 .1)
 

@@ -2,26 +2,19 @@ use borrow.Author.Needs.{needs}
 use Rattle.cfg_steps.proofs.Ops.{new-did}
 use Rattle.cfg_steps.proofs.GraphBuilder.new_node.Statement.{statement}
 use Rattle.cfg_steps.proofs.GraphBuilder.new_node.Tie as tie
-use Rattle.cfg_steps.proofs.GraphBuilder.new_node.Reads as reads
-use Rattle.cfg_steps.proofs.GraphBuilder.new_node.Lts as lts
 
--- src/lib.rt:85:9
 mul-edges : tie.Need-mul-edges
 mul-edges c = search needs
 
--- src/lib.rt:85:9
 slice-write-edges : tie.Need-slice-write-edges
 slice-write-edges c = search needs
 
--- src/lib.rt:86:22
 add-self : tie.Need-add-self
 add-self c = search needs
 
--- src/lib.rt:80:5
 same-length : tie.Need-same-length
 same-length c = search needs
 
--- src/lib.rt:80:5
 returns : tie.Need-returns
 returns c = λ ks k n l ok. new-did ks _ _ k n l ok (c .pre .1)
 

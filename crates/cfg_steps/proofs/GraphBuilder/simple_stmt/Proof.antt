@@ -1,79 +1,56 @@
 use borrow.Author.Needs.{needs}
-use mathlib.Core.Path.{refl, sym, ap, _∙_}
 use mathlib.Core.Logic.{inl, inr}
 use native.Mathlib.Omega.{arith}
 use Prim.Native.Nat.{_%_}
 use Rattle.cfg_steps.proofs.Simple.{did-none, did-as, starts, starts-not, simple-name, simple-label, simple-goto, simple-empty, simple-code, made-none, made-one}
 use Rattle.cfg_steps.proofs.GraphBuilder.simple_stmt.Statement.{statement}
 use Rattle.cfg_steps.proofs.GraphBuilder.simple_stmt.Tie as tie
-use Rattle.cfg_steps.proofs.GraphBuilder.simple_stmt.Reads as reads
-use Rattle.cfg_steps.proofs.GraphBuilder.simple_stmt.Lts as lts
-use Rattle.cfg_steps.proofs.GraphBuilder.code_stmt.Reads as code-stmt-reads
-use Rattle.cfg_steps.proofs.GraphBuilder.declare.Reads as declare-reads
-use Rattle.cfg_steps.proofs.GraphBuilder.goto_stmt.Reads as goto-stmt-reads
-use Rattle.cfg_steps.proofs.GraphBuilder.label_stmt.Reads as label-stmt-reads
 
--- src/lib.rt:344:13
 declare-requires : tie.Need-declare-requires
 declare-requires c κs = search needs
 
--- src/lib.rt:344:13
 same-length : tie.Need-same-length
 same-length c = search needs
 
--- src/lib.rt:344:13
 returns : tie.Need-returns
 returns c = λ ks e. did-as (made-none _ (inl (c .before .before .before .before .if1 .taken))) (λ ss g. simple-name _ _ _ _ _ g (c .before .before .before .before .if1 .taken)) (c .before .before .declare .ensures ks _ _ _ (c .before .before .before .before .before .before .before .before .before .pre .0))
 
--- src/lib.rt:347:13
 label-stmt-requires : tie.Need-label-stmt-requires
 label-stmt-requires c κs = search needs
 
--- src/lib.rt:347:13
 same-length-2 : tie.Need-same-length-2
 same-length-2 c = search needs
 
--- src/lib.rt:347:13
 same-length-3 : tie.Need-same-length-3
 same-length-3 c = search needs
 
--- src/lib.rt:347:13
 returns-2 : tie.Need-returns-2
 returns-2 c = λ ks e. did-as (made-none _ (inr (inl (c .before .before .before .before .before .before .before .if2 .taken)))) (λ ss g. simple-label _ _ _ _ _ g (c .before .before .before .before .before .before .before .if2 .taken)) (c .before .before .before .before .label-stmt .ensures ks _ (c .before .before .before .before .before .before .before .before .before .before .before .before .before .pre .0) (rw e (starts-not (c .before .before .before .before .before .before .before .before .before .before .before .before .before .args .w) (c .before .before .before .before .before .before .before .if2 .taken))))
 
--- src/lib.rt:350:13
 goto-stmt-requires : tie.Need-goto-stmt-requires
 goto-stmt-requires c κs = ((_, c .before .before .before .before .before .before .before .before .before .pre .0), (omega (arith, c .before .before .before .before .before .before .before .before .before .pre .1 .0, made-one ((c .before .before .before .before .before .before .before .before .before .args .w) % 256) (c .before .before .before .before .if1 .left) (c .before .before .before .if2 .left) (λ z. omega (arith, c .before .before .if3 .taken))), c .before .before .before .before .before .before .before .before .before .pre .1 .1, c .before .before .before .before .before .before .before .before .before .pre .1 .3))
 
--- src/lib.rt:350:13
 same-length-4 : tie.Need-same-length-4
 same-length-4 c = search needs
 
--- src/lib.rt:350:13
 same-length-5 : tie.Need-same-length-5
 same-length-5 c = search needs
 
--- src/lib.rt:350:13
 returns-3 : tie.Need-returns-3
 returns-3 c = λ ks e. did-as (made-one _ (c .before .before .before .before .before .before .before .before .before .if1 .left) (c .before .before .before .before .before .before .before .before .if2 .left) (λ z. omega (arith, c .before .before .before .before .before .before .before .if3 .taken))) (λ ss g. simple-goto _ _ _ _ _ g (c .before .before .before .before .before .before .before .if3 .taken)) (c .before .before .before .before .goto-stmt .ensures ks _ (c .before .before .before .before .before .before .before .before .before .before .before .before .before .before .pre .0) (rw e (starts (c .before .before .before .before .before .before .before .before .before .before .before .before .before .before .args .w) (c .before .before .before .before .before .before .before .before .before .before .before .before .before .before .pre .1 .4) (c .before .before .before .before .before .before .before .before .before .before .before .before .before .before .pre .1 .5) (c .before .before .before .before .before .before .before .before .if2 .left))))
 
--- src/lib.rt:353:13
 returns-4 : tie.Need-returns-4
 returns-4 c = λ ks e. did-as (made-none _ (inr (inr (c .if4 .taken)))) (λ ss g. simple-empty _ _ _ _ _ g (c .if4 .taken)) (did-none ks _ _ (c .before .before .before .before .before .before .before .before .pre .0))
 
--- src/lib.rt:355:9
 code-stmt-requires : tie.Need-code-stmt-requires
 code-stmt-requires c κs = ((_, _, c .before .before .before .before .before .before .before .before .before .before .pre .0), (omega (arith, c .before .before .before .before .before .before .before .before .before .before .pre .1 .0, made-one ((c .before .before .before .before .before .before .before .before .before .before .args .w) % 256) (c .before .before .before .before .before .if1 .left) (c .before .before .before .before .if2 .left) (c .before .before .if4 .left)), c .before .before .before .before .before .before .before .before .before .before .pre .1 .1, c .before .before .before .before .before .before .before .before .before .before .pre .1 .3))
 
--- src/lib.rt:336:5
 same-length-6 : tie.Need-same-length-6
 same-length-6 c = search needs
 
--- src/lib.rt:336:5
 same-length-7 : tie.Need-same-length-7
 same-length-7 c = search needs
 
--- src/lib.rt:336:5
 returns-5 : tie.Need-returns-5
 returns-5 c = λ ks e. did-as (made-one _ (c .before .before .before .before .before .before .before .before .before .before .if1 .left) (c .before .before .before .before .before .before .before .before .before .if2 .left) (c .before .before .before .before .before .before .before .if4 .left)) (λ ss g. simple-code _ _ _ _ _ g (c .before .before .before .before .before .before .before .before .before .before .if1 .left) (c .before .before .before .before .before .before .before .before .before .if2 .left) (c .before .before .before .before .before .before .before .before .if3 .left) (c .before .before .before .before .before .before .before .if4 .left)) (c .before .before .before .before .code-stmt .ensures ks _ _ (c .before .before .before .before .before .before .before .before .before .before .before .before .before .before .before .pre .0) (rw e (starts (c .before .before .before .before .before .before .before .before .before .before .before .before .before .before .before .args .w) (c .before .before .before .before .before .before .before .before .before .before .before .before .before .before .before .pre .1 .4) (c .before .before .before .before .before .before .before .before .before .before .before .before .before .before .before .pre .1 .5) (c .before .before .before .before .before .before .before .before .before .if2 .left))))
 

@@ -1,46 +1,33 @@
 use borrow.Author.Needs.{needs}
-use mathlib.Core.Path.{refl, sym, ap, _∙_}
-use native.Mathlib.Omega.{arith}
+use mathlib.Core.Path.{refl, sym, _∙_}
 use mathlib.Core.Logic.{inr}
 use Rattle.cfg_steps.proofs.Ops.{did-trans}
 use Rattle.cfg_steps.proofs.Simple.{did-as}
 use Rattle.cfg_steps.proofs.Loops.{move-did, enter-held, enter-never}
 use Rattle.cfg_steps.proofs.GraphBuilder.while_head.Statement.{statement}
 use Rattle.cfg_steps.proofs.GraphBuilder.while_head.Tie as tie
-use Rattle.cfg_steps.proofs.GraphBuilder.while_head.Reads as reads
-use Rattle.cfg_steps.proofs.GraphBuilder.while_head.Lts as lts
-use Rattle.cfg_steps.proofs.GraphBuilder.code_and_after.Reads as code-and-after-reads
-use Rattle.cfg_steps.proofs.may_hold.Reads as may-hold-reads
 
--- src/lib.rt:448:13
 code-and-after-requires : tie.Need-code-and-after-requires
 code-and-after-requires c κs = search needs
 
--- src/lib.rt:449:12
 may-hold-requires : tie.Need-may-hold-requires
 may-hold-requires c κs = search needs
 
--- src/lib.rt:450:13
 same-length : tie.Need-same-length
 same-length c = search needs
 
--- src/lib.rt:450:13
 same-length-2 : tie.Need-same-length-2
 same-length-2 c = search needs
 
--- src/lib.rt:450:13
 returns : tie.Need-returns
 returns c = λ ks n l ok q. did-as refl (λ ss g. enter-held (c .before .before .before .before .before .before .before .before .before .before .before .args .truth) _ (sym (c .before .may-hold .ensures) ∙ c .if1 .taken)) (c .before .before .before .before .before .before .code-and-after .ensures ks n l ok q)
 
--- src/lib.rt:443:5
 same-length-3 : tie.Need-same-length-3
 same-length-3 c = search needs
 
--- src/lib.rt:443:5
 same-length-4 : tie.Need-same-length-4
 same-length-4 c = search needs
 
--- src/lib.rt:443:5
 returns-2 : tie.Need-returns-2
 returns-2 c = λ ks n l ok q. let d = c .before .before .before .before .before .before .code-and-after .ensures ks n l ok q in did-as refl (λ ss g. enter-never (c .before .before .before .before .before .before .before .before .before .before .before .args .truth) _ (sym (c .before .may-hold .ensures) ∙ c .if1 .left)) (did-trans d (move-did ks _ _ _ n l (d .good) _ (inr refl)))
 
