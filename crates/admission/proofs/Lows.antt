@@ -8,8 +8,7 @@ use lib.Dec.{eqb, leb}
 use lib.ListN.{getD, set, length-set}
 use borrow.Author.Tests.{le-leb, lt-leb, leb-true, leb-false, eqb-true}
 use Rattle.flow.specs.Kinds.{isCode}
-use Rattle.flow.specs.Refusals.{within}
-use Rattle.flow.specs.Sheet.{Item, kind}
+use Rattle.flow.specs.Sheet.{Item, all, kind}
 use Rattle.admission.specs.Stack.{stackOf, least, lowsOf}
 use Rattle.admission.specs.Turn.{Scopes}
 use Rattle.admission.proofs.Bools.{and-true}
@@ -23,8 +22,8 @@ leb-min e s m = go (leb e s) (leb e m) refl refl
     go true false p q = sym (lt-leb e (min s m) (omega (arith, leb-false e m q)))
     go false b p q = sym (lt-leb e (min s m) (omega (arith, leb-false e s p)))
 
-within-least : (e s : ℕ) (ss : List ℕ) → within e (s ∷ ss) ≡ leb e (least s ss)
-unfolding within
+within-least : (e s : ℕ) (ss : List ℕ) → all (leb e) (s ∷ ss) ≡ leb e (least s ss)
+unfolding all
 within-least e s [] = and-true (leb e s)
 within-least e s (t ∷ ts) = ap (λ (b : Bool). leb e s && b) (within-least e t ts) ∙ leb-min e s (least t ts)
 
@@ -32,8 +31,8 @@ module _ (count : ℕ) (ends lows : List ℕ) (some : 0 < count) (s : Scopes cou
   low-is : getD lows (count - 1) 0 ≡ least (getD ends (count - 1) 0) (stackOf (count - 1) ends)
   low-is = sym (top count lows some) ∙ ap (λ (l : List ℕ). getD l 0 0) (s .lowest ∙ ap lowsOf (stack-cons count ends some))
 
-  pub within-low : (e : ℕ) → within e (stackOf count ends) ≡ leb e (getD lows (count - 1) 0)
-  within-low e = ap (within e) (stack-cons count ends some) ∙ within-least e (getD ends (count - 1) 0) (stackOf (count - 1) ends) ∙ ap (leb e) (sym low-is)
+  pub within-low : (e : ℕ) → all (leb e) (stackOf count ends) ≡ leb e (getD lows (count - 1) 0)
+  within-low e = ap (all (leb e)) (stack-cons count ends some) ∙ within-least e (getD ends (count - 1) 0) (stackOf (count - 1) ends) ∙ ap (leb e) (sym low-is)
 
   least-low : (e : ℕ) → least e (stackOf count ends) ≡ min e (getD lows (count - 1) 0)
   least-low e = ap (least e) (stack-cons count ends some) ∙ ap (min e) (sym low-is)

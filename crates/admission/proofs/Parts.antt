@@ -8,9 +8,8 @@ use lib.Dec.{ltb, eqb}
 use lib.ListN.{length, getD, take, drop, length-drop}
 use lib.Seq.{length-take-le}
 use borrow.Author.Tests.{ltb-false, eqb-true, not-false}
-use Rattle.flow.specs.Refusals.{miscount, useMiscount}
+use Rattle.flow.specs.Refusals.{miscount}
 use Rattle.flow.specs.Sheet.{Item, together, count, items}
-use Rattle.admission.specs.Lengths.{miscountedAt}
 use Rattle.admission.proofs.Bools.{or-parts}
 
 -- the parts as the code takes them
@@ -24,19 +23,12 @@ pub record Counted (h : ℕ) (ws : List ℕ) : Type 0 where
   pub few : count ws ≤ 1024
   pub long : length ws ≡ 2 * count ws + h
 
-counted : (h : ℕ) (ws : List ℕ) → miscountedAt h ws ≡ false → Counted h ws
+pub counted : (h : ℕ) (ws : List ℕ) → miscount h ws ≡ false → Counted h ws
+unfolding miscount
 counted h ws e =
     let p = or-parts (ltb (length ws) h || ltb 1024 (count ws)) (not (eqb (length ws) (2 * count ws + h))) e in
     let q = or-parts (ltb (length ws) h) (ltb 1024 (count ws)) (p .0) in
     record { few = ltb-false 1024 (count ws) (q .1); long = eqb-true (length ws) (2 * count ws + h) (not-false _ (p .1)) }
-
-pub sheet-counted : (ws : List ℕ) → miscount ws ≡ false → Counted 2 ws
-unfolding miscount
-sheet-counted ws e = counted 2 ws e
-
-pub use-counted : (us : List ℕ) → useMiscount us ≡ false → Counted 1 us
-unfolding useMiscount
-use-counted us e = counted 1 us e
 
 module _ (h : ℕ) (ws : List ℕ) (c : Counted h ws) where
   pub first-is : firstPart h ws ≡ take (count ws) (drop h ws)

@@ -6,20 +6,21 @@ use mathlib.Core.Path.{_≡_, refl, ap}
 use native.Mathlib.Omega.{arith}
 use lib.Dec.{eqb, ltb}
 use lib.ListN.{length}
-use Rattle.flow.specs.Kinds.{LOCAL, NAME, itemFits, opens, closes, isCode}
-use Rattle.flow.specs.Refusals.{one, allFit, outnumbered, mayStand, openAfter, pairsUp, besideEachOther, sideBySide, inLine, scopesAfter, held, nameFits, namesFit, nameCount, useFits, usesFit}
-use Rattle.flow.specs.Sheet.{Item, kind, endOf, scopeEndOf, together}
+use Rattle.flow.specs.Kinds.{kinds, itemFits, opens, closes, isCode}
+use Rattle.flow.specs.Refusals.{one, outnumbered, mayStand, openAfter, pairsUp, besideEachOther, sideBySide, inLine, scopesAfter, held, nameFits, namesFit, nameCount, useFits, usesFit}
+use Rattle.flow.specs.Sheet.{Item, all, kind, endOf, scopeEndOf, together}
 use Rattle.admission.specs.Turn.{lineFits, heldHere}
 use Rattle.admission.proofs.Bools.{and-pairs, not-or}
 use Rattle.admission.proofs.Sweep.{Sweep}
+open record kinds using (LOCAL, NAME)
 
 -- 3
-pub fitting-law : (i : Item) (is : List Item) → allFit (i ∷ is) ≡ (itemFits i && allFit is)
-unfolding allFit
+pub fitting-law : (i : Item) (is : List Item) → all itemFits (i ∷ is) ≡ (itemFits i && all itemFits is)
+unfolding all
 fitting-law i is = refl
 
 abbrev pub fitting : Sweep
-fitting = record { State = Unit {0}; all = λ s is. allFit is; fits = λ s i. itemFits i; after = λ s i. s; law = λ s i is. fitting-law i is }
+fitting = record { State = Unit {0}; all = λ s is. all itemFits is; fits = λ s i. itemFits i; after = λ s i. s; law = λ s i is. fitting-law i is }
 
 -- 4, with the openers and the closers so far
 pub shallow-law : (o c : ℕ) (i : Item) (is : List Item) → not (outnumbered o c (i ∷ is)) ≡ (not (ltb (c + 64) o) && not (outnumbered (o + one (opens (kind i))) (c + one (closes (kind i))) is))

@@ -18,7 +18,7 @@ pick false r u v w e = e
 behind : (xs ts : List Test) → lowest (xs ++ ts) ≡ orElse (lowest xs) (lowest ts)
 unfolding lowest
 behind [] ts = refl
-behind (x ∷ xs) ts = pick (x .applies) (x .refusal) (lowest (xs ++ ts)) (lowest xs) (lowest ts) (behind xs ts)
+behind (x ∷ xs) ts = pick (x .1) (x .0) (lowest (xs ++ ts)) (lowest xs) (lowest ts) (behind xs ts)
 
 pub refused-first : (xs ts : List Test) (r : Refusal) → lowest xs ≡ Refused r → lowest (xs ++ ts) ≡ Refused r
 refused-first xs ts r e = behind xs ts ∙ ap (λ (v : Verdict). orElse v (lowest ts)) e
@@ -31,13 +31,13 @@ abbrev Taken : Verdict → Type 0
 Taken Admitted = Unit {0}
 Taken (Refused r) = ⊥
 
-none-applies : (t : Test) (ts : List Test) → lowest (t ∷ ts) ≡ Admitted → (t .applies ≡ false) × (lowest ts ≡ Admitted)
+none-applies : (t : Test) (ts : List Test) → lowest (t ∷ ts) ≡ Admitted → (t .1 ≡ false) × (lowest ts ≡ Admitted)
 unfolding lowest
-none-applies t ts e = go (t .applies) refl e
+none-applies t ts e = go (t .1) refl e
   where
-    go : (b : Bool) → t .applies ≡ b → cond b (Refused (t .refusal)) (lowest ts) ≡ Admitted → (t .applies ≡ false) × (lowest ts ≡ Admitted)
+    go : (b : Bool) → t .1 ≡ b → cond b (Refused (t .0)) (lowest ts) ≡ Admitted → (t .1 ≡ false) × (lowest ts ≡ Admitted)
     go true p q = absurd (subst Taken (sym q) tt)
     go false p q = (p, q)
 
-pub second-passes : (t u : Test) → lowest (t ∷ u ∷ []) ≡ Admitted → u .applies ≡ false
+pub second-passes : (t u : Test) → lowest (t ∷ u ∷ []) ≡ Admitted → u .1 ≡ false
 second-passes t u e = none-applies u [] (none-applies t (u ∷ []) e .1) .0

@@ -6,10 +6,11 @@ use Prim.Native.Nat.{ℕ, _+_, _≤_, _<_}
 use mathlib.Core.Path.{_≡_}
 use lib.ListN.{length, getD}
 use lib.Dec.{eqb, leb}
-use Rattle.flow.specs.Sheet.{Item, kind, oneOf, startOf, endOf}
-use Rattle.flow.specs.Kinds.{ELSEIF, ELSE, UNTIL, opens, closes, isCode}
-use Rattle.flow.specs.Refusals.{one, within}
+use Rattle.flow.specs.Sheet.{Item, all, kind, oneOf, startOf, endOf}
+use Rattle.flow.specs.Kinds.{kinds, opens, closes, isCode}
+use Rattle.flow.specs.Refusals.{one}
 use Rattle.admission.specs.Stack.{stackOf, lowsOf}
+open record kinds using (ELSEIF, ELSE, UNTIL)
 
 -- its code starts at or past the line
 abbrev pub lineFits : ℕ → Item → Bool
@@ -18,7 +19,7 @@ lineFits p i = not (isCode i) || leb p (startOf (i .span))
 -- its code ends within the scopes around, and a REPEAT's scope end is its UNTIL's end
 abbrev pub heldHere : List ℕ → Item → Bool
 heldHere ss i =
-    (not (isCode i) || within (endOf (i .span)) (cond (eqb (kind i) ELSEIF) (tail ss) ss))
+    (not (isCode i) || all (leb (endOf (i .span))) (cond (eqb (kind i) ELSEIF) (tail ss) ss))
     && (not (eqb (kind i) UNTIL) || eqb (endOf (i .span)) (getD ss 0 0))
 
 -- of count scopes around an item of kind k: one more has room, a closer and an arm have one to take away, and one is left

@@ -16,9 +16,25 @@ mod nest;
 mod room;
 mod uses;
 
+// The table's number of a refusal.
+pub fn number(refusal: Refusal) -> u64
+    ensures { λ r. ⌜ r ≡ Rattle.flow.specs.Refusals.number refusal ⌝ }
+{
+    match refusal {
+        Refusal::BenchTooSmall => 1,
+        Refusal::Miscount => 2,
+        Refusal::BadItem => 3,
+        Refusal::TooDeep => 4,
+        Refusal::BadNesting => 5,
+        Refusal::OffTheLine => 6,
+        Refusal::BadName => 7,
+        Refusal::BadUse => 8,
+    }
+}
+
 // 3 to 7. The two arrays are handed on as parts that start inside the sheet.
 fn tests_verdict(sheet: &[u64]) -> Verdict
-    requires { ⌜ Rattle.flow.specs.Refusals.miscount (now sheet) ≡ false ⌝ }
+    requires { ⌜ Rattle.flow.specs.Refusals.miscount 2 (now sheet) ≡ false ⌝ }
     ensures { λ r. ⌜ r ≡ lowest (sheetTests (now (sheet .entry)) []) ⌝ }
 {
     let outer = sheet[1];
@@ -64,8 +80,8 @@ pub fn chart_verdict(bench: Bench, sheet: &[u64]) -> Verdict
 
 // 8, for sheets that are counted right.
 fn use_is_bad(sheet: &[u64], uses: &[u64]) -> bool
-    requires { ⌜ Rattle.flow.specs.Refusals.miscount (now sheet) ≡ false ⌝ }
-    requires { ⌜ Rattle.flow.specs.Refusals.useMiscount (now uses) ≡ false ⌝ }
+    requires { ⌜ Rattle.flow.specs.Refusals.miscount 2 (now sheet) ≡ false ⌝ }
+    requires { ⌜ Rattle.flow.specs.Refusals.miscount 1 (now uses) ≡ false ⌝ }
     ensures { λ r. ⌜ r ≡ Rattle.flow.specs.Refusals.badUse (now (sheet .entry)) (now (uses .entry)) ⌝ }
 {
     let m = 2 + sheet[0] as usize;

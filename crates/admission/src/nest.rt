@@ -5,7 +5,7 @@ ghost use mathlib.Core.List.{[], _∷_};
 ghost use Prim.Native.Nat.{_+_, _≤_};
 ghost use lib.ListN.{length};
 ghost use Rattle.flow.specs.Sheet.{oneOf, together};
-ghost use Rattle.flow.specs.Kinds.{opens, ELSEIF, ELSE, END, UNTIL};
+ghost use Rattle.flow.specs.Kinds.{kinds, opens};
 ghost use Rattle.flow.specs.Refusals.{one, innermost, mayStand, openAfter, besideEachOther, outnumbered, pairsUp, sideBySide};
 ghost use Rattle.admission.specs.Stack.{stackOf};
 use crate::depth::is_closer;
@@ -77,7 +77,7 @@ fn open_after(opened: &mut [u64; 64], depth: usize, kind: u64) -> usize
 
 // What may follow RETURN and CONTINUE: what ends their block.
 fn ends_block(kind: u64) -> bool
-    ensures { λ r. ⌜ r ≡ oneOf kind (0 ∷ END ∷ UNTIL ∷ ELSEIF ∷ ELSE ∷ []) ⌝ }
+    ensures { λ r. ⌜ r ≡ oneOf kind (0 ∷ kinds .END ∷ kinds .UNTIL ∷ kinds .ELSEIF ∷ kinds .ELSE ∷ []) ⌝ }
 {
     match kind {
         0 => true,

@@ -2,8 +2,8 @@
 ghost use mathlib.Core.Path.{_≡_};
 ghost use mathlib.Core.Bool.{_||_};
 ghost use Prim.Native.Nat.{_≤_};
-ghost use Rattle.flow.specs.Refusals.{chartBenchTooSmall, judgeBenchTooSmall, useMiscount, lowest};
-ghost use Rattle.admission.specs.Lengths.{miscountedAt, lengthTests};
+ghost use Rattle.flow.specs.Refusals.{chartBenchTooSmall, judgeBenchTooSmall, lowest};
+ghost use Rattle.admission.specs.Lengths.{lengthTests};
 use flow::Bench;
 use flow::Refusal;
 use flow::Verdict;
@@ -32,7 +32,7 @@ pub fn judge_bench_too_small(bench: Bench) -> bool
 // A sheet with `head` words before its two arrays. The limit on n comes first, so that the product cannot wrap.
 fn miscounts(words: &[u64], head: usize) -> bool
     requires { ⌜ (1 ≤ head) × (head ≤ 2) ⌝ }
-    ensures { λ r. ⌜ r ≡ miscountedAt head (now (words .entry)) ⌝ }
+    ensures { λ r. ⌜ r ≡ Rattle.flow.specs.Refusals.miscount head (now (words .entry)) ⌝ }
 {
     if words.len() < head {
         return true;
@@ -45,19 +45,19 @@ fn miscounts(words: &[u64], head: usize) -> bool
 }
 
 pub fn miscount(sheet: &[u64]) -> bool
-    ensures { λ r. ⌜ r ≡ Rattle.flow.specs.Refusals.miscount (now (sheet .entry)) ⌝ }
+    ensures { λ r. ⌜ r ≡ Rattle.flow.specs.Refusals.miscount 2 (now (sheet .entry)) ⌝ }
 {
     miscounts(sheet, 2)
 }
 
 pub fn use_miscount(uses: &[u64]) -> bool
-    ensures { λ r. ⌜ r ≡ useMiscount (now (uses .entry)) ⌝ }
+    ensures { λ r. ⌜ r ≡ Rattle.flow.specs.Refusals.miscount 1 (now (uses .entry)) ⌝ }
 {
     miscounts(uses, 1)
 }
 
 pub fn any_miscount(sheet: &[u64], uses: &[u64]) -> bool
-    ensures { λ r. ⌜ r ≡ (Rattle.flow.specs.Refusals.miscount (now (sheet .entry)) || useMiscount (now (uses .entry))) ⌝ }
+    ensures { λ r. ⌜ r ≡ (Rattle.flow.specs.Refusals.miscount 2 (now (sheet .entry)) || Rattle.flow.specs.Refusals.miscount 1 (now (uses .entry))) ⌝ }
 {
     if miscount(sheet) {
         return true;

@@ -7,9 +7,10 @@ use Prim.Native.Nat.{ℕ, zero, suc, _+_, _-_, _≤_}
 use lib.ListN.{drop, getD}
 use lib.Dec.{eqb, leb}
 use Rattle.flow.specs.Sheet.{Item, together, kindOf, argumentOf}
-use Rattle.flow.specs.Kinds.{LABEL, opens, closes}
+use Rattle.flow.specs.Kinds.{kinds, opens, closes}
 use Rattle.flow.specs.Tree.{Frame, Open, nothingRead, parse, labelsOf}
 use Rattle.flow.specs.Findings.{onlyIf}
+open record kinds using (LABEL)
 
 -- ---- the open blocks
 

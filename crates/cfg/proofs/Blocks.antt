@@ -10,7 +10,7 @@ use Prim.Native.Nat.{ℕ, _+_, _≤_, _<_}
 use native.Mathlib.Omega.{arith}
 use lib.ListN.{length, getD, length-append}
 use Rattle.flow.specs.Sheet.{kindOf, argumentOf}
-use Rattle.flow.specs.Kinds.{LABEL, closes}
+use Rattle.flow.specs.Kinds.{kinds, closes}
 use Rattle.flow.specs.Tree.{Stmt, Block, Arms, Open, simple, do-block, while-loop, repeat-loop, for-loop, if-stmt, done, then, no-more, inFront, opened, read, outer, labelName, labelsOf}
 use Rattle.flow.specs.Size.{stmtNodes, blockNodes}
 use Rattle.flow.specs.Graph.{Graph, Settings, nodeCount, buildStmt, buildBlock}
@@ -22,6 +22,7 @@ use Rattle.cfg_steps.specs.declared.GraphBuilder.{GraphBuilder}
 use Rattle.cfg_steps.specs.Columns.{Cols, graphOf, settingsOf, Good, Did}
 use Rattle.cfg_steps.proofs.Ops.{count-of, grown-same, grown-trans}
 use Rattle.cfg.specs.Steps.{bare, Moved, Stepped, Finished}
+open record kinds using (LABEL)
 
 -- ---- moves
 

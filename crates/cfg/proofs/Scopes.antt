@@ -47,6 +47,8 @@ good-within labels scope breaks continues hl hs hb hc ok = record {
   continueTarget = hc;
   scopeEnd = hs;
   codeNodes = ok .codeNodes;
+  codeItems = ok .codeItems;
+  nameItems = ok .nameItems;
   labelNodes = λ k q. ok .labelNodes k (omega arith);
 }
 

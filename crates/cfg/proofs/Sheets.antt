@@ -9,7 +9,7 @@ use lib.ListN.{length, set}
 use lib.Dec.{lit<, lit≤}
 use Rattle.flow.specs.Sheet.{kindWords, spanWords, items, outerEnd}
 use Rattle.flow.specs.Tree.{Block, tree}
-use Rattle.flow.specs.Graph.{Graph, Settings, outside, start, inside, entered, buildBlock, closeInto, graph}
+use Rattle.flow.specs.Graph.{Graph, Settings, newNode, outside, start, inside, entered, buildBlock, closeInto, graph}
 use Rattle.cfg_steps.specs.declared.GraphBuilder.{GraphBuilder}
 use Rattle.blocks.specs.Open.{openAt}
 use Rattle.cfg_steps.specs.Columns.{Cols, cols, graphOf, settingsOf, labelList, painted, Good, Did}
@@ -47,11 +47,13 @@ module _ (e c n l e' : List ℕ) (w : Wide (cols e c n l)) (s : Started e e') wh
     continueTarget = lit< tt;
     scopeEnd = lit< tt;
     codeNodes = λ k h. absurd (omega arith);
+    codeItems = λ k h. absurd (omega arith);
+    nameItems = λ k h. absurd (omega arith);
     labelNodes = λ k h. absurd (omega arith);
   }
 
   first-graph : (ks ss : List ℕ) → graphOf ks ss first (cols e' c n l) ≡ start
-  unfolding graphOf painted start
+  unfolding graphOf painted start newNode
   first-graph ks ss = rw (s .nodes)
 
   first-settings : settingsOf first (cols e' c n l) ≡ outside
@@ -65,6 +67,7 @@ module _ (e c n l e' : List ℕ) (w : Wide (cols e c n l)) (s : Started e e') wh
       let six' : 6 ≤ r .nodes = omega (arith, d .good .exits) in
       record {
         good = d .good;
+        within = omega (arith, d .item, sc .moved .within);
         edgesPast = k .edgesPast ∙ drop-more {n = t .nodes} {m = r .nodes} (y .edges) e' (k .nodes) (g .edgesPast) ∙ drop-more {n = 6} {m = r .nodes} e' e six' (s .past);
         codesPast = k .codesPast ∙ drop-more {n = t .codes} {m = r .codes} (y .codes) c (k .codes) (g .codesPast);
         namesPast = k .namesPast ∙ drop-more {n = t .names} {m = r .names} (y .names) n (k .names) (g .namesPast);

@@ -52,6 +52,8 @@ good-item j h k ok = record {
   continueTarget = ok .continueTarget;
   scopeEnd = ok .scopeEnd;
   codeNodes = ok .codeNodes;
+  codeItems = λ m q. omega (arith, ok .codeItems m q);
+  nameItems = λ m q. omega (arith, ok .nameItems m q);
   labelNodes = ok .labelNodes;
 }
 
@@ -141,6 +143,8 @@ good-cursor v h ok = record {
   continueTarget = ok .continueTarget;
   scopeEnd = ok .scopeEnd;
   codeNodes = ok .codeNodes;
+  codeItems = ok .codeItems;
+  nameItems = ok .nameItems;
   labelNodes = ok .labelNodes;
 }
 

@@ -8,10 +8,11 @@ use lib.ListN.{length, getD, take, drop}
 use Rattle.flow.specs.Sheet.{kindOf, scopeEndOf}
 use Rattle.flow.specs.Tree.{Stmt, Open, done, no-more, inFront, outer, labelName, labelsOf}
 use Rattle.flow.specs.Size.{stmtNodes, blockNodes, armNodes}
-use Rattle.flow.specs.Graph.{buildStmt, buildBlock, buildArms, inside, inLoop, entered, closeInto, End, outside, start}
+use Rattle.flow.specs.Graph.{exits, buildStmt, buildBlock, buildArms, inside, inLoop, entered, closeInto, outside, start}
 use Rattle.blocks.specs.Open.{openAt, Ender}
 use Rattle.cfg_steps.specs.declared.GraphBuilder.{GraphBuilder}
 use Rattle.cfg_steps.specs.Columns.{Cols, graphOf, settingsOf, Good, Grown, LabelsFit}
+open record exits using (End)
 
 -- what admission shows of the kinds alone
 pub record Sane (ks : List ℕ) : Type 0 where
@@ -114,6 +115,7 @@ WholeRoom ks = (ss : List ℕ) → length ss ≡ length ks → 6 + blockNodes (o
 -- the graph of the statement rules; lengths, and what lies past the counts, are as they were
 pub record Whole (ks ss : List ℕ) (e : ℕ) (x : Cols) (r : GraphBuilder) (y : Cols) : Type 0 where
   pub good : Good r y
+  pub within : r .item ≤ length ks
   pub edgesPast : drop (r .nodes) (y .edges) ≡ drop (r .nodes) (x .edges)
   pub codesPast : drop (r .codes) (y .codes) ≡ drop (r .codes) (x .codes)
   pub namesPast : drop (r .names) (y .names) ≡ drop (r .names) (x .names)

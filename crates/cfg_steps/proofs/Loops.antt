@@ -34,6 +34,8 @@ move-did ks b e c n l ok v hv = record {
     continueTarget = ok .continueTarget;
     scopeEnd = ok .scopeEnd;
     codeNodes = ok .codeNodes;
+    codeItems = ok .codeItems;
+    nameItems = ok .nameItems;
     labelNodes = ok .labelNodes;
   };
   grown = record {

@@ -203,7 +203,7 @@ did-trans {g = g} p q = record {
 
 -- ---- code starts
 
-painted-length : (ks ss cs ps : List ℕ) → length (painted ks ss cs ps) ≡ length ps
+pub painted-length : (ks ss cs ps : List ℕ) → length (painted ks ss cs ps) ≡ length ps
 unfolding painted
 painted-length ks ss [] ps = refl
 painted-length ks ss (c ∷ cs) ps = painted-length ks ss cs _ ∙ go (hasStart (getD ks (hi c) 0))
@@ -284,6 +284,8 @@ module _ (ks : List ℕ) (b : GraphBuilder) (e c n l : List ℕ) (ok : Good b (c
           continueTarget = ok .continueTarget;
           scopeEnd = ok .scopeEnd;
           codeNodes = ok .codeNodes;
+          codeItems = ok .codeItems;
+          nameItems = ok .nameItems;
           labelNodes = ok .labelNodes;
         };
         grown = record {
@@ -377,6 +379,8 @@ module _ (ks : List ℕ) (b : GraphBuilder) (e c n l : List ℕ) (ok : Good b (c
           continueTarget = omega (arith, ok .continueTarget);
           scopeEnd = ok .scopeEnd;
           codeNodes = λ k q. omega (arith, ok .codeNodes k q);
+          codeItems = ok .codeItems;
+          nameItems = ok .nameItems;
           labelNodes = λ k q. omega (arith, ok .labelNodes k q);
         };
         grown = record {
@@ -408,8 +412,8 @@ module _ (ks : List ℕ) (b : GraphBuilder) (e c n l : List ℕ) (ok : Good b (c
   abbrev pub codeWord : ℕ → ℕ → ℕ
   codeWord i v = v + i * 2 ^ 32
 
-  good-code : (i v : ℕ) → b .codes < b .item → v < b .nodes → Good (withCounts (b .nodes) (b .codes + 1) (b .names) (b .cursor)) (cols e (set c (b .codes) (codeWord i v)) n l)
-  good-code i v h hv =
+  good-code : (i v : ℕ) → i < b .item → b .codes < b .item → v < b .nodes → Good (withCounts (b .nodes) (b .codes + 1) (b .names) (b .cursor)) (cols e (set c (b .codes) (codeWord i v)) n l)
+  good-code i v hi' h hv =
       let long : b .codes < length c = omega (arith, ok .wideCodes, ok .items) in
       record {
         wideEdges = ok .wideEdges;
@@ -430,6 +434,11 @@ module _ (ks : List ℕ) (b : GraphBuilder) (e c n l : List ℕ) (ok : Good b (c
           | yes p ↦ rw (p, getD-set-same c (b .codes) (codeWord i v) 0 long, lo-of v i (omega (arith, ok .nodes))) hv
           | no p ↦ rw (getD-set-other c (b .codes) k (codeWord i v) 0 p) (ok .codeNodes k (omega arith))
         ];
+        codeItems = λ k q. elim (ℕ-discrete k (b .codes)) [
+          | yes p ↦ rw (p, getD-set-same c (b .codes) (codeWord i v) 0 long, hi-of v i (omega (arith, ok .nodes))) hi'
+          | no p ↦ rw (getD-set-other c (b .codes) k (codeWord i v) 0 p) (ok .codeItems k (omega arith))
+        ];
+        nameItems = ok .nameItems;
         labelNodes = ok .labelNodes;
       }
 
@@ -437,12 +446,12 @@ module _ (ks : List ℕ) (b : GraphBuilder) (e c n l : List ℕ) (ok : Good b (c
   abbrev startIf : Bool → ℕ → ℕ → Graph → Graph
   startIf t v s g = cond t (setStart v (startOf s) g) g
 
-  code-did : (i v : ℕ) (t : Bool) → b .codes < b .item → v < b .nodes → hasStart (getD ks i 0) ≡ t
+  code-did : (i v : ℕ) (t : Bool) → i < b .item → b .codes < b .item → v < b .nodes → hasStart (getD ks i 0) ≡ t
       → Did ks (λ ss g. recordCode (getD ss i 0) v (startIf t v (getD ss i 0) g)) 0 b (cols e c n l) (withCounts (b .nodes) (b .codes + 1) (b .names) (b .cursor)) (cols e (set c (b .codes) (codeWord i v)) n l)
   unfolding graphOf settingsOf recordCode setStart painted
-  code-did i v t h hv q =
+  code-did i v t hi' h hv q =
       record {
-        good = good-code i v h hv;
+        good = good-code i v hi' h hv;
         grown = record {
           nodes = omega arith;
           codes = omega arith;
@@ -482,9 +491,9 @@ module _ (ks : List ℕ) (b : GraphBuilder) (e c n l : List ℕ) (ok : Good b (c
       made ss true q = same-graph (same-columns refl refl (painted-last ks ss c _ (b .codes) (codeWord i v) i v true long (hi-of v i small) (lo-of v i small) q)) (codes-more ss) refl refl
       made ss false q = same-graph (same-columns refl refl (painted-last ks ss c _ (b .codes) (codeWord i v) i v false long (hi-of v i small) (lo-of v i small) q)) (codes-more ss) refl refl
 
-  pub record-did : (i v : ℕ) → b .codes < b .item → v < b .nodes → hasStart (getD ks i 0) ≡ false
+  pub record-did : (i v : ℕ) → i < b .item → b .codes < b .item → v < b .nodes → hasStart (getD ks i 0) ≡ false
       → Did ks (λ ss. recordCode (getD ss i 0) v) 0 b (cols e c n l) (withCounts (b .nodes) (b .codes + 1) (b .names) (b .cursor)) (cols e (set c (b .codes) (codeWord i v)) n l)
-  record-did i v h hv q = code-did i v false h hv q
+  record-did i v hi' h hv q = code-did i v false hi' h hv q
 
   -- a name's word at its place
   abbrev pub nameWord : ℕ → ℕ
@@ -502,10 +511,10 @@ module _ (ks : List ℕ) (b : GraphBuilder) (e c n l : List ℕ) (ok : Good b (c
           rw (low, same, ne-eqb (b .cursor) 65535 (λ z. omega (arith, ok .nodes)))
       go (inr q) = rw (low, q)
 
-  pub declare-did : (i : ℕ) → i < 1024 → b .names < b .item
+  pub declare-did : (i : ℕ) → i < 1024 → i < b .item → b .names < b .item
       → Did ks (λ ss. declare (getD ss i 0) (settingsOf b (cols e c n l))) 0 b (cols e c n l) (withCounts (b .nodes) (b .codes) (b .names + 1) (b .cursor)) (cols e c (set n (b .names) (nameWord i)) l)
   unfolding graphOf settingsOf declare
-  declare-did i hi' h =
+  declare-did i hi' below h =
       let long : b .names < length n = omega (arith, ok .wideNames, ok .items) in
       let an-item : nameItem (nameWord i) ≡ i = omega (arith, ok .scopeEnd) in
       let an-end : hi (nameWord i) ≡ b .«scope_end» = omega arith in
@@ -526,6 +535,11 @@ module _ (ks : List ℕ) (b : GraphBuilder) (e c n l : List ℕ) (ok : Good b (c
           continueTarget = ok .continueTarget;
           scopeEnd = ok .scopeEnd;
           codeNodes = ok .codeNodes;
+          codeItems = ok .codeItems;
+          nameItems = λ k q. elim (ℕ-discrete k (b .names)) [
+            | yes p ↦ rw (p, getD-set-same n (b .names) (nameWord i) 0 long, an-item) below
+            | no p ↦ rw (getD-set-other n (b .names) k (nameWord i) 0 p) (ok .nameItems k (omega arith))
+          ];
           labelNodes = ok .labelNodes;
         };
         grown = record {
@@ -555,7 +569,7 @@ module _ (ks : List ℕ) (b : GraphBuilder) (e c n l : List ℕ) (ok : Good b (c
       }
 
 -- a new node for the code of item i
-pub full-code-did : (ks : List ℕ) (b : GraphBuilder) (e c n l e' : List ℕ) → Good b (cols e c n l) → (i : ℕ) → b .nodes < 1600 → b .codes < b .item → hasStart (getD ks i 0) ≡ true
+pub full-code-did : (ks : List ℕ) (b : GraphBuilder) (e c n l e' : List ℕ) → Good b (cols e c n l) → (i : ℕ) → i < b .item → b .nodes < 1600 → b .codes < b .item → hasStart (getD ks i 0) ≡ true
     → e' ≡ joined (b .cursor) (b .nodes) (set e (b .nodes) 18446744073709551615)
     → Did ks (λ ss. code (getD ss i 0)) 1 b (cols e c n l) (record {
       item = b .item;
@@ -569,9 +583,9 @@ pub full-code-did : (ks : List ℕ) (b : GraphBuilder) (e c n l e' : List ℕ) �
       «continue_target» = b .«continue_target»;
     }) (cols e' (set c (b .codes) (b .nodes + i * 2 ^ 32)) n l)
 unfolding code
-full-code-did ks b e c n l e' ok i hn hc hs q =
+full-code-did ks b e c n l e' ok i below hn hc hs q =
     let p1 = new-did ks b e c n l ok hn in
-    let p2 = code-did ks _ (set e (b .nodes) 18446744073709551615) c n l (p1 .good) i (b .nodes) true hc (omega arith) hs in
+    let p2 = code-did ks _ (set e (b .nodes) 18446744073709551615) c n l (p1 .good) i (b .nodes) true below hc (omega arith) hs in
     let p3 = advance-did ks _ (set e (b .nodes) 18446744073709551615) (set c (b .codes) (b .nodes + i * 2 ^ 32)) n l (p2 .good) (b .nodes) e' q (omega arith) in
     let p = did-trans (did-trans p1 p2) p3 in
     record {

@@ -106,6 +106,8 @@ label-entered ks b e c n l a ok hn ha =
         continueTarget = g .continueTarget;
         scopeEnd = g .scopeEnd;
         codeNodes = g .codeNodes;
+        codeItems = g .codeItems;
+        nameItems = g .nameItems;
         labelNodes = λ k q. elim (ℕ-discrete k (b .labels)) [
           | yes p ↦ rw (p, getD-set-same l (b .labels) (a + b .nodes * 2 ^ 32) 0 long, hi-of a (b .nodes) ha) (omega arith)
           | no p ↦ rw (getD-set-other l (b .labels) k (a + b .nodes * 2 ^ 32) 0 p) (omega (arith, ok .labelNodes k (omega arith)))

@@ -4,7 +4,7 @@ use mathlib.Core.Path.{_≡_, refl, _∙_}
 use mathlib.Core.Logic.{_⊎_, inl, inr}
 use mathlib.Core.List.{List}
 use mathlib.Core.Bool.{Bool, true, false, cond}
-use Prim.Native.Nat.{ℕ, zero, suc, _<_}
+use Prim.Native.Nat.{ℕ, zero, suc, _≤_, _<_}
 use native.Mathlib.Omega.{arith}
 use lib.ListN.{length, getD}
 use lib.Dec.{eqb}
@@ -44,13 +44,13 @@ did-as q e d = record {
 pub stands : {b : GraphBuilder} {e c n l : List ℕ} → Good b (cols e c n l) → Standing b e
 stands ok = record { cursor = ok .cursor; nodes = omega (arith, ok .wideEdges, ok .nodes); few = ok .nodes }
 
-pub may-code : {b : GraphBuilder} {e c n l : List ℕ} (i : ℕ) → Good b (cols e c n l) → b .nodes < 1600 → b .codes < b .item → i < 1024
-    → Standing b e × (((b .nodes < length e) × (b .nodes < 1600)) × ((b .codes < length c) × (b .codes < b .item) × (i < 1024)))
-may-code i ok hn hc hi' = (stands ok, ((omega (arith, ok .wideEdges), hn), (omega (arith, ok .wideCodes, ok .items), hc, hi')))
+pub may-code : {b : GraphBuilder} {e c n l : List ℕ} (i : ℕ) → Good b (cols e c n l) → b .nodes < 1600 → b .codes < b .item → i < b .item
+    → Standing b e × (((b .nodes < length e) × (b .nodes < 1600)) × ((b .codes < length c) × (b .codes < b .item) × (i < b .item) × (b .item ≤ 1024)))
+may-code i ok hn hc hi' = (stands ok, ((omega (arith, ok .wideEdges), hn), (omega (arith, ok .wideCodes, ok .items), hc, hi', ok .items)))
 
-pub may-jump : {b : GraphBuilder} {e c n l : List ℕ} (i t : ℕ) → Good b (cols e c n l) → b .nodes < 1600 → b .codes < b .item → i < 1024 → t < b .nodes
-    → Standing b e × (((b .nodes < length e) × (b .nodes < 1600) × (t < b .nodes)) × ((b .codes < length c) × (b .codes < b .item) × (i < 1024)))
-may-jump i t ok hn hc hi' ht = (stands ok, ((omega (arith, ok .wideEdges), hn, ht), (omega (arith, ok .wideCodes, ok .items), hc, hi')))
+pub may-jump : {b : GraphBuilder} {e c n l : List ℕ} (i t : ℕ) → Good b (cols e c n l) → b .nodes < 1600 → b .codes < b .item → i < b .item → t < b .nodes
+    → Standing b e × (((b .nodes < length e) × (b .nodes < 1600) × (t < b .nodes)) × ((b .codes < length c) × (b .codes < b .item) × (i < b .item) × (b .item ≤ 1024)))
+may-jump i t ok hn hc hi' ht = (stands ok, ((omega (arith, ok .wideEdges), hn, ht), (omega (arith, ok .wideCodes, ok .items), hc, hi', ok .items)))
 
 -- ---- labels
 

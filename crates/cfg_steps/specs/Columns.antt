@@ -10,10 +10,12 @@ use lib.Dec.{eqb}
 use Rattle.flow.specs.declared.Truth.{Truth}
 use Rattle.flow.specs.declared.Truth.the-variants.{False, True, Unknown}
 use Rattle.flow.specs.Sheet.{kindOf, argumentOf, startOf, oneOf}
-use Rattle.flow.specs.Kinds.{END, UNTIL, NAME, LABEL, BREAK, CONTINUE, RETURN, CALL, EMPTY, raises}
-use Rattle.flow.specs.Graph.{newNodes, withLabels, standAt, labelNode, jump, code, ReturnValue, ReturnEmpty, Error, Graph, Settings, Label, absent}
+use Rattle.flow.specs.Kinds.{kinds, raises}
+use Rattle.flow.specs.Graph.{exits, newNodes, withLabels, standAt, labelNode, jump, code, Graph, Settings, Label, absent}
 use Rattle.blocks.specs.Open.{Scanned}
 use Rattle.cfg_steps.specs.declared.GraphBuilder.{GraphBuilder}
+open record exits using (ReturnValue, ReturnEmpty, Error)
+open record kinds using (END, UNTIL, NAME, LABEL, BREAK, CONTINUE, RETURN, CALL, EMPTY)
 
 pub record Cols : Type 0 where
   pub edges : List ℕ
@@ -81,7 +83,7 @@ graphOf ks ss b x = record {
 unfoldable pub settingsOf : GraphBuilder → Cols → Settings
 settingsOf b x = record { breakTo = b .«break_target»; continueTo = b .«continue_target»; scopeEnd = b .«scope_end»; labels = labelList (b .labels) (x .labels) }
 
--- the columns are wide enough, and all that they hold are nodes
+-- the columns are wide enough, and all that they hold are nodes and items that were read
 pub record Good (b : GraphBuilder) (x : Cols) : Type 0 where
   pub wideEdges : 1600 ≤ length (x .edges)
   pub wideCodes : 1024 ≤ length (x .codes)
@@ -98,6 +100,8 @@ pub record Good (b : GraphBuilder) (x : Cols) : Type 0 where
   pub continueTarget : b .«continue_target» < b .nodes
   pub scopeEnd : b .«scope_end» < 2 ^ 32
   pub codeNodes : (k : ℕ) → k < b .codes → lo (getD (x .codes) k 0) < b .nodes
+  pub codeItems : (k : ℕ) → k < b .codes → hi (getD (x .codes) k 0) < b .item
+  pub nameItems : (k : ℕ) → k < b .names → nameItem (getD (x .names) k 0) < b .item
   pub labelNodes : (k : ℕ) → k < b .labels → hi (getD (x .labels) k 0) < b .nodes
 
 -- the current node, if there is one, has its place among the edges

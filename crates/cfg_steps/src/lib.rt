@@ -120,7 +120,7 @@ impl GraphBuilder {
     // The span of item i recorded at a node.
     pub fn record_code(mut self, codes: &mut [u64], i: usize, node: usize) -> GraphBuilder
         requires { ⌜ (self .codes < length (now codes)) × (self .codes < self .item) ⌝ }
-        requires { ⌜ (i < 1024) × (node < self .nodes) × (self .nodes ≤ 1600) ⌝ }
+        requires { ⌜ (i < self .item) × (node < self .nodes) × (self .nodes ≤ 1600) × (self .item ≤ 1024) ⌝ }
         ensures { λ r. ⌜ ((ks e n l : List ℕ) → Good self (cols e (now (codes .entry)) n l) → hasStart (getD ks i 0) ≡ false → Did ks (λ ss. recordCode (getD ss i 0) node) 0 self (cols e (now (codes .entry)) n l) r (cols e (now (codes .exit)) n l)) ⌝ }
         ensures { λ r. ⌜ (r .nodes ≡ self .nodes) × (r .cursor ≡ self .cursor) ⌝ }
     {
@@ -134,7 +134,7 @@ impl GraphBuilder {
     pub fn code(mut self, edges: &mut [u64], codes: &mut [u64], i: usize) -> GraphBuilder
         requires { ⌜ Standing self (now edges) ⌝ }
         requires { ⌜ (self .nodes < length (now edges)) × (self .nodes < 1600) ⌝ }
-        requires { ⌜ (self .codes < length (now codes)) × (self .codes < self .item) × (i < 1024) ⌝ }
+        requires { ⌜ (self .codes < length (now codes)) × (self .codes < self .item) × (i < self .item) × (self .item ≤ 1024) ⌝ }
         ensures { λ r. ⌜ ((ks n l : List ℕ) → Good self (cols (now (edges .entry)) (now (codes .entry)) n l) → hasStart (getD ks i 0) ≡ true → Did ks (λ ss. code (getD ss i 0)) 1 self (cols (now (edges .entry)) (now (codes .entry)) n l) r (cols (now (edges .exit)) (now (codes .exit)) n l)) ⌝ }
         ensures { λ r. ⌜ Standing r (now (edges .exit)) × (r .nodes ≡ self .nodes + 1) ⌝ }
     {
@@ -154,7 +154,7 @@ impl GraphBuilder {
     pub fn jump(self, edges: &mut [u64], codes: &mut [u64], i: usize, target: usize) -> GraphBuilder
         requires { ⌜ Standing self (now edges) ⌝ }
         requires { ⌜ (self .nodes < length (now edges)) × (self .nodes < 1600) × (target < self .nodes) ⌝ }
-        requires { ⌜ (self .codes < length (now codes)) × (self .codes < self .item) × (i < 1024) ⌝ }
+        requires { ⌜ (self .codes < length (now codes)) × (self .codes < self .item) × (i < self .item) × (self .item ≤ 1024) ⌝ }
         ensures { λ r. ⌜ ((ks n l : List ℕ) → Good self (cols (now (edges .entry)) (now (codes .entry)) n l) → hasStart (getD ks i 0) ≡ true → Did ks (λ ss. jump (getD ss i 0) target) 1 self (cols (now (edges .entry)) (now (codes .entry)) n l) r (cols (now (edges .exit)) (now (codes .exit)) n l)) ⌝ }
     {
         let t = self.code(edges, codes, i);
@@ -164,7 +164,7 @@ impl GraphBuilder {
     // The name of item i, declared by the code that is current.
     pub fn declare(mut self, names: &mut [u64], i: usize) -> GraphBuilder
         requires { ⌜ (self .names < length (now names)) × (self .names < self .item) ⌝ }
-        requires { ⌜ (i < 1024) × (self .«scope_end» < 2 ^ 32) ⌝ }
+        requires { ⌜ (i < self .item) × (self .«scope_end» < 2 ^ 32) × (self .item ≤ 1024) ⌝ }
         ensures { λ r. ⌜ ((ks e c l : List ℕ) → Good self (cols e c (now (names .entry)) l) → Did ks (λ ss. declare (getD ss i 0) (settingsOf self (cols e c (now (names .entry)) l))) 0 self (cols e c (now (names .entry)) l) r (cols e c (now (names .exit)) l)) ⌝ }
     {
         let m = self.names;
@@ -243,7 +243,7 @@ impl GraphBuilder {
         i: usize,
     ) -> GraphBuilder
         requires { ⌜ ((n : List ℕ) × Good self (cols (now edges) (now codes) n (now labels))) ⌝ }
-        requires { ⌜ (self .codes < self .item) × (i < 1024) ⌝ }
+        requires { ⌜ (self .codes < self .item) × (i < self .item) ⌝ }
         ensures { λ r. ⌜ ((ks n : List ℕ) → Good self (cols (now (edges .entry)) (now (codes .entry)) n (now (labels .entry))) → hasStart (getD ks i 0) ≡ false → Did ks (λ ss. labelled name (labelList (self .labels) (now (labels .entry))) (getD ss i 0)) 0 self (cols (now (edges .entry)) (now (codes .entry)) n (now (labels .entry))) r (cols (now (edges .exit)) (now (codes .exit)) n (now (labels .entry)))) ⌝ }
     {
         if name == 0 {
@@ -267,7 +267,7 @@ impl GraphBuilder {
         i: usize,
     ) -> GraphBuilder
         requires { ⌜ ((n : List ℕ) × Good self (cols (now edges) (now codes) n (now labels))) ⌝ }
-        requires { ⌜ (self .nodes < 1600) × (self .codes < self .item) × (i < 1024) ⌝ }
+        requires { ⌜ (self .nodes < 1600) × (self .codes < self .item) × (i < self .item) ⌝ }
         ensures { λ r. ⌜ ((ks n : List ℕ) → Good self (cols (now (edges .entry)) (now (codes .entry)) n (now (labels .entry))) → hasStart (getD ks i 0) ≡ true → Did ks (λ ss. jump (getD ss i 0) (orBreak (labelNode name (labelList (self .labels) (now (labels .entry)))))) 1 self (cols (now (edges .entry)) (now (codes .entry)) n (now (labels .entry))) r (cols (now (edges .exit)) (now (codes .exit)) n (now (labels .entry)))) ⌝ }
     {
         let count = self.labels;
@@ -287,7 +287,7 @@ impl GraphBuilder {
         i: usize,
     ) -> GraphBuilder
         requires { ⌜ ((n l : List ℕ) × Good self (cols (now edges) (now codes) n l)) ⌝ }
-        requires { ⌜ (self .nodes < 1600) × (self .codes < self .item) × (i < 1024) ⌝ }
+        requires { ⌜ (self .nodes < 1600) × (self .codes < self .item) × (i < self .item) ⌝ }
         ensures { λ r. ⌜ ((ks n l : List ℕ) → Good self (cols (now (edges .entry)) (now (codes .entry)) n l) → hasStart (getD ks i 0) ≡ true → Did ks (λ ss. coded kind argument (self .«break_target») (self .«continue_target») (getD ss i 0)) 1 self (cols (now (edges .entry)) (now (codes .entry)) n l) r (cols (now (edges .exit)) (now (codes .exit)) n l)) ⌝ }
     {
         if kind == 14 {
@@ -322,7 +322,7 @@ impl GraphBuilder {
         i: usize,
     ) -> GraphBuilder
         requires { ⌜ Good self (cols (now edges) (now codes) (now names) (now labels)) ⌝ }
-        requires { ⌜ (self .nodes + simpleMade (kindOf w) ≤ 1600) × (self .codes < self .item) × (self .names < self .item) × (i < 1024) × (kindOf w ≡ 8 → ⊥) × (kindOf w ≡ 9 → ⊥) ⌝ }
+        requires { ⌜ (self .nodes + simpleMade (kindOf w) ≤ 1600) × (self .codes < self .item) × (self .names < self .item) × (i < self .item) × (kindOf w ≡ 8 → ⊥) × (kindOf w ≡ 9 → ⊥) ⌝ }
         ensures { λ r. ⌜ ((ks : List ℕ) → getD ks i 0 ≡ w → Did ks (λ ss. simpleStmt (kindOf w) (argumentOf w) (getD ss i 0) (settingsOf self (cols (now (edges .entry)) (now (codes .entry)) (now (names .entry)) (now (labels .entry))))) (simpleMade (kindOf w)) self (cols (now (edges .entry)) (now (codes .entry)) (now (names .entry)) (now (labels .entry))) r (cols (now (edges .exit)) (now (codes .exit)) (now (names .exit)) (now (labels .entry)))) ⌝ }
     {
         let kind = w % 256;
@@ -388,7 +388,7 @@ impl GraphBuilder {
     // A code node, and a node past what it opens.
     pub fn code_and_after(self, edges: &mut [u64], codes: &mut [u64], i: usize) -> GraphBuilder
         requires { ⌜ ((n l : List ℕ) × Good self (cols (now edges) (now codes) n l)) ⌝ }
-        requires { ⌜ (self .nodes + 2 ≤ 1600) × (self .codes < self .item) × (i < 1024) ⌝ }
+        requires { ⌜ (self .nodes + 2 ≤ 1600) × (self .codes < self .item) × (i < self .item) ⌝ }
         ensures { λ r. ⌜ ((ks n l : List ℕ) → Good self (cols (now (edges .entry)) (now (codes .entry)) n l) → hasStart (getD ks i 0) ≡ true → Did ks (λ ss g. newNode (code (getD ss i 0) g)) 2 self (cols (now (edges .entry)) (now (codes .entry)) n l) r (cols (now (edges .exit)) (now (codes .exit)) n l)) ⌝ }
     {
         let c = self.code(edges, codes, i);
@@ -404,7 +404,7 @@ impl GraphBuilder {
         truth: Truth,
     ) -> GraphBuilder
         requires { ⌜ ((n l : List ℕ) × Good self (cols (now edges) (now codes) n l)) ⌝ }
-        requires { ⌜ (self .nodes + 2 ≤ 1600) × (self .codes < self .item) × (i < 1024) ⌝ }
+        requires { ⌜ (self .nodes + 2 ≤ 1600) × (self .codes < self .item) × (i < self .item) ⌝ }
         ensures { λ r. ⌜ ((ks n l : List ℕ) → Good self (cols (now (edges .entry)) (now (codes .entry)) n l) → hasStart (getD ks i 0) ≡ true → Did ks (λ ss g. enterWhen truth (newNode (code (getD ss i 0) g))) 2 self (cols (now (edges .entry)) (now (codes .entry)) n l) r (cols (now (edges .exit)) (now (codes .exit)) n l)) ⌝ }
     {
         let mut h = self.code_and_after(edges, codes, i);
@@ -431,7 +431,7 @@ impl GraphBuilder {
     // FOR's code, its head, which is moved to, and the node after it.
     pub fn for_head(self, edges: &mut [u64], codes: &mut [u64], i: usize) -> GraphBuilder
         requires { ⌜ ((n l : List ℕ) × Good self (cols (now edges) (now codes) n l)) ⌝ }
-        requires { ⌜ (self .nodes + 3 ≤ 1600) × (self .codes < self .item) × (i < 1024) ⌝ }
+        requires { ⌜ (self .nodes + 3 ≤ 1600) × (self .codes < self .item) × (i < self .item) ⌝ }
         ensures { λ r. ⌜ ((ks n l : List ℕ) → Good self (cols (now (edges .entry)) (now (codes .entry)) n l) → hasStart (getD ks i 0) ≡ true → Did ks (λ ss g. newNode (advanceTo (self .nodes + 1) (newNode (code (getD ss i 0) g)))) 3 self (cols (now (edges .entry)) (now (codes .entry)) n l) r (cols (now (edges .exit)) (now (codes .exit)) n l)) ⌝ }
     {
         let head = self.nodes + 1;
@@ -462,7 +462,7 @@ impl GraphBuilder {
         truth: Truth,
     ) -> GraphBuilder
         requires { ⌜ ((n l : List ℕ) × Good self (cols (now edges) (now codes) n l)) ⌝ }
-        requires { ⌜ (body + 2 < self .nodes) × (self .codes < self .item) × (j < 1024) ⌝ }
+        requires { ⌜ (body + 2 < self .nodes) × (self .codes < self .item) × (j < self .item) ⌝ }
         ensures { λ r. ⌜ ((ks n l : List ℕ) → Good self (cols (now (edges .entry)) (now (codes .entry)) n l) → hasStart (getD ks j 0) ≡ false → Did ks (λ ss g. moveTo (body + 2) (unlessFalse truth (connect (body + 1) (body + 2)) (unlessTrue truth (connect (body + 1) body) (recordCode (getD ss j 0) (body + 1) g)))) 0 self (cols (now (edges .entry)) (now (codes .entry)) n l) r (cols (now (edges .exit)) (now (codes .exit)) n l)) ⌝ }
     {
         let mut t = self.record_code(codes, j, body + 1);
@@ -483,7 +483,7 @@ impl GraphBuilder {
         test: usize,
     ) -> GraphBuilder
         requires { ⌜ ((n l : List ℕ) × Good self (cols (now edges) (now codes) n l)) ⌝ }
-        requires { ⌜ (self .nodes < 1600) × (self .codes < self .item) × (i < 1024) × (test < self .nodes) ⌝ }
+        requires { ⌜ (self .nodes < 1600) × (self .codes < self .item) × (i < self .item) × (test < self .nodes) ⌝ }
         ensures { λ r. ⌜ ((ks n l : List ℕ) → Good self (cols (now (edges .entry)) (now (codes .entry)) n l) → hasStart (getD ks i 0) ≡ true → Did ks (λ ss g. code (getD ss i 0) (moveTo test g)) 1 self (cols (now (edges .entry)) (now (codes .entry)) n l) r (cols (now (edges .exit)) (now (codes .exit)) n l)) ⌝ }
     {
         self.cursor = test;

@@ -12,7 +12,7 @@ use Rattle.flow.specs.declared.Bench.{Bench}
 use Rattle.flow.specs.declared.Verdict.the-variants.{Admitted}
 use Rattle.flow.specs.Sheet.{count, kindWords, spanWords, items, oneOf, useWords, useSpans, localOf, useKindOf}
 use Rattle.flow.specs.Kinds.{isCode}
-use Rattle.flow.specs.Refusals.{chartBenchTooSmall, judgeBenchTooSmall, miscount, useMiscount, nameCount, useFits, usesFit, badUse, sheetTests, sheetVerdict, chartVerdict, judgeVerdict}
+use Rattle.flow.specs.Refusals.{chartBenchTooSmall, judgeBenchTooSmall, miscount, nameCount, useFits, usesFit, badUse, sheetTests, sheetVerdict, chartVerdict, judgeVerdict}
 use Rattle.flow.specs.Graph.{graph}
 use Rattle.flow.specs.Admitted.{spansWhere, isName, AdmittedSheet, AdmittedChart, AdmittedUses, AdmittedJudge}
 use Rattle.flow.proofs.Members.{and-both, oneOf-in}
@@ -108,17 +108,17 @@ module _ (b : Bench) (S U : List ℕ) (e : judgeVerdict b S U ≡ Admitted) wher
   judge-chart =
       let p = passed _ e in
       let q = p .1 .1 in
-      pass _ (neither (chartBenchTooSmall b) _ (p .0) .0, (neither (miscount S) _ (p .1 .0) .0, (q .0, (q .1 .0, (q .1 .1 .0, (q .1 .1 .1 .0, (q .1 .1 .1 .1 .0, tt)))))))
+      pass _ (neither (chartBenchTooSmall b) _ (p .0) .0, (neither (miscount 2 S) _ (p .1 .0) .0, (q .0, (q .1 .0, (q .1 .1 .0, (q .1 .1 .1 .0, (q .1 .1 .1 .1 .0, tt)))))))
 
   judge-findings : 3072 ≤ b .findings
   unfolding judgeVerdict judgeBenchTooSmall
   judge-findings = ltb-false _ _ (neither (chartBenchTooSmall b) _ (passed _ e .0) .1)
 
   judge-uses : AdmittedUses S U
-  unfolding judgeVerdict sheetTests useMiscount badUse
+  unfolding judgeVerdict sheetTests badUse
   judge-uses =
       let p = passed _ e in
-      let c = counted 1 U (neither (miscount S) _ (p .1 .0) .1) in
+      let c = counted 1 U (neither (miscount 2 S) _ (p .1 .0) .1) in
       let f = uses-at (nameCount (items S)) (useWords U) (useSpans U) (not-false _ (p .1 .1 .1 .1 .1 .1 .1 .0)) in
       let w : length (useWords U) ≡ count U = simp (length-take, length-drop) (omega arith) in
       record {

@@ -12,11 +12,13 @@ use Rattle.flow.specs.declared.Truth.the-variants.{False, True, Unknown}
 use Rattle.flow.specs.declared.Place.{Place}
 use Rattle.flow.specs.declared.Place.the-variants.{Node, Past}
 use Rattle.flow.specs.Sheet.{items, outerEnd, kindOf, argumentOf, scopeEndOf, conditionOf, endOf, startOf}
-use Rattle.flow.specs.Kinds.{NAME, LABEL, GOTO, BREAK, CONTINUE, RETURN, CALL, EMPTY, literalTruth, raises}
+use Rattle.flow.specs.Kinds.{kinds, literalTruth, raises}
 use Rattle.flow.specs.Tree.{Stmt, Block, Arms, simple, do-block, while-loop, repeat-loop, for-loop, if-stmt, done, then, no-more, elseif, otherwise, tree, labelsOf}
-use Rattle.flow.specs.Graph.{Graph, Nodes, Label, Settings, nodeCount, absent, End, ReturnValue, ReturnEmpty, Error, orBreak, newNode, connect, moveTo, advanceTo, recordCode, setStart, code, closeInto, jump, declare, labelNode, standAt, simpleStmt, newNodes, withLabels, entered, inside, inLoop, unlessTrue, unlessFalse, enterWhen, buildStmt, buildBlock, buildArms, start, outside, graph}
+use Rattle.flow.specs.Graph.{exits, Graph, Nodes, Label, Settings, nodeCount, absent, orBreak, newNode, connect, moveTo, advanceTo, recordCode, setStart, code, closeInto, jump, declare, labelNode, standAt, simpleStmt, newNodes, withLabels, entered, inside, inLoop, unlessTrue, unlessFalse, enterWhen, buildStmt, buildBlock, buildArms, start, outside, graph}
 use Rattle.flow.specs.Reachable.{nodeAmong, nodeAt}
 use Rattle.flow.proofs.Laws.{either}
+open record exits using (End, ReturnValue, ReturnEmpty, Error)
+open record kinds using (NAME, LABEL, GOTO, BREAK, CONTINUE, RETURN, CALL, EMPTY)
 
 -- g has n nodes or more, and its codes' nodes are among its nodes
 record Fine (n : ℕ) (g : Graph) : Type 0 where
@@ -65,7 +67,7 @@ unfolding closeInto
 fine-close v g f = fine-move absent (fine-connect (g .current) v g f)
 
 -- one more at the end
-snoc-below : (vs : List ℕ) (v n : ℕ) → v < n → ((i : ℕ) → getD vs i 0 < n) → (i : ℕ) → getD (vs ++ (v ∷ [])) i 0 < n
+pub snoc-below : (vs : List ℕ) (v n : ℕ) → v < n → ((i : ℕ) → getD vs i 0 < n) → (i : ℕ) → getD (vs ++ (v ∷ [])) i 0 < n
 snoc-below [] v n h k zero = h
 snoc-below [] v n h k (suc i) = omega arith
 snoc-below (x ∷ vs) v n h k zero = k zero
@@ -203,7 +205,7 @@ among [] vs o n h = tt
 among (s ∷ ss) vs o n h = either (Within n) (ltb o (endOf s)) (h 0) (among ss (tail vs) o n (tail-below vs n h))
 
 fine-first : Fine 0 start
-unfolding start
+unfolding start newNode
 fine-first = record { many = omega arith; codes = λ i. omega arith }
 
 fine-graph : (S : List ℕ) → Fine 0 (graph S)

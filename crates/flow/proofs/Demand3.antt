@@ -1,16 +1,16 @@
 -- Demand 3: the computed findings are those that `Demand.antt` states.
 -- Assumes `kinds`, that each use is a read, a write or both, and `few`, that there are at most 1024 locals; admission gives both.
-use Prim.Native.Nat.{ℕ, zero, suc, _≤_, _<_}
+use Prim.Native.Nat.{ℕ, zero, suc, _+_, _≤_, _<_}
 use mathlib.Core.Path.{_≡_, refl, sym, ap, _∙_, subst, subst₂, subst₃}
 use mathlib.Core.Logic.{_⊎_, inl, inr, ⊎-elim, _↔_, Iff·trans}
 use mathlib.Core.List.{List, List·Memᴰ, Memᴰ·cast}
 use native.Mathlib.Omega.{arith}
 use lib.ListN.{length, getD, length-map, List·getD-map}
 use Rattle.flow.specs.Sheet.{useWords, useKindOf}
-use Rattle.flow.specs.Findings.{Finding, locals, findings, unassignedOf, overwrittenOf, ofEach, wordsOf, spansOf}
-use Rattle.flow.specs.Demand.{useWord, Listed, Named, Demand3, Before, order, unassignedWord, overwrittenWord, initialWord}
+use Rattle.flow.specs.Findings.{Finding, findingWord, locals, findings, unassignedOf, overwrittenOf, ofEach, wordsOf, spansOf}
+use Rattle.flow.specs.Demand.{useWord, Listed, Named, Demand3, Before, order}
 use Rattle.flow.proofs.Laws.{mem-append, mem-at, mem-place, or-map}
-use Rattle.flow.proofs.Order.{each-findings, mem-each, Rising, rising-append, rising-each, rising-at, word, Coded, same-word, Prior, prior-by}
+use Rattle.flow.proofs.Order.{each-findings, mem-each, Rising, rising-append, rising-each, rising-at, Coded, same-word, Prior, prior-by}
 use Rattle.flow.proofs.Entries.{Claim, spanFor, finding, Told, unassigned-law, overwritten-law, unassigned-rising, overwritten-rising}
 
 abbrev noFinding : Finding
@@ -85,7 +85,7 @@ module _ (S U : List ℕ) (few : length (locals S) ≤ 1024) (kinds : (u : ℕ) 
       (λ x y m k. let p = unassigned-list x .0 m in let q = overwritten-list y .0 k in prior-by S U (coded {list = 0} (omega arith) (p .1) (p .2 .1)) (coded {list = 1} (omega arith) (q .1) (q .2 .1)) (inl (omega arith)))
 
   -- what is listed is what holds
-  told : (list ℓ c : ℕ) → list ≤ 1 → ℓ < n → Listed (wordsOf fs) (spansOf fs) (word list ℓ c) (spanFor S U ℓ c) ↔ Claim S U list ℓ c
+  told : (list ℓ c : ℕ) → list ≤ 1 → ℓ < n → Listed (wordsOf fs) (spansOf fs) (findingWord list ℓ c) (spanFor S U ℓ c) ↔ Claim S U list ℓ c
   told list ℓ c a b = Iff·trans (Iff·trans (listed-law fs (finding S U list ℓ c)) (findings-law (finding S U list ℓ c))) (there, λ k. (list, a, (ℓ, b, (c, refl, k))))
     where
       there : Stated (finding S U list ℓ c) → Claim S U list ℓ c
@@ -95,7 +95,7 @@ module _ (S U : List ℕ) (few : length (locals S) ≤ 1024) (kinds : (u : ℕ) 
           let e = same-word (coded a b refl) (coded (q .1) (r .1) (t .1)) in
           subst₃ (Claim S U) (e .0) (e .1) (e .2) (t .2)
 
-  named : (list ℓ c : ℕ) → list ≤ 1 → ℓ < n → Claim S U list ℓ c → Named S U (word list ℓ c) (spanFor S U ℓ c)
+  named : (list ℓ c : ℕ) → list ≤ 1 → ℓ < n → Claim S U list ℓ c → Named S U (findingWord list ℓ c) (spanFor S U ℓ c)
   named zero ℓ zero a b k = absurd k
   named zero ℓ (suc u) a b k = inl (ℓ, u, b, omega arith, refl)
   named (suc zero) ℓ zero a b k = inr (inr (ℓ, b, omega arith, refl))
@@ -112,9 +112,9 @@ module _ (S U : List ℕ) (few : length (locals S) ≤ 1024) (kinds : (u : ℕ) 
   unfolding Prior
   demand3 =
       record {
-        unassigned = λ ℓ u h. at (word 0 ℓ (suc u)) (unassignedWord ℓ u) (omega arith) (told 0 ℓ (suc u) (omega arith) h);
-        overwritten = λ ℓ w h. at (word 1 ℓ (suc w)) (overwrittenWord ℓ w) (omega arith) (told 1 ℓ (suc w) (omega arith) h);
-        initial = λ ℓ h. at (word 1 ℓ 0) (initialWord ℓ) (omega arith) (told 1 ℓ 0 (omega arith) h);
+        unassigned = λ ℓ u h. at (findingWord 0 ℓ (suc u)) (findingWord 0 ℓ (u + 1)) (omega arith) (told 0 ℓ (suc u) (omega arith) h);
+        overwritten = λ ℓ w h. at (findingWord 1 ℓ (suc w)) (findingWord 1 ℓ (w + 1)) (omega arith) (told 1 ℓ (suc w) (omega arith) h);
+        initial = λ ℓ h. told 1 ℓ 0 (omega arith) h;
         asMany = length-map fs (λ (x : Finding). x .span) ∙ sym (length-map fs (λ (x : Finding). x .word));
         nothingElse = λ i h. subst₂ (Named S U) (sym (word-at fs i)) (sym (span-at fs i)) (stated _ (findings-law _ .0 (mem-at noFinding fs i (omega (arith, words-length fs)))));
         rising = λ i j h k. subst₂ (λ (x y : ℕ). Before (order S U x) (order S U y)) (sym (word-at fs i)) (sym (word-at fs j)) (rising-at noFinding findings-rising i j h (omega (arith, words-length fs)));

@@ -1,6 +1,6 @@
 -- What stands among the findings of one local in one list, and that they rise.
 -- Assumes `kinds`, that each use is a read, a write or both, which admission gives.
-use Prim.Native.Nat.{ℕ, zero, suc, _+_, _*_, _<_}
+use Prim.Native.Nat.{ℕ, zero, suc, _<_}
 use mathlib.Core.Path.{_≡_, refl, sym, ap, _∙_}
 use mathlib.Core.Logic.{_⊎_, inl, inr, ⊎-elim, _↔_, Iff·rfl, Iff·trans}
 use mathlib.Core.Bool.{Bool, true, _&&_}
@@ -9,14 +9,14 @@ use native.Mathlib.Omega.{arith}
 use native.Mathlib.Numerals.{add-one}
 use lib.ListN.{getD}
 use Rattle.flow.specs.Graph.{Graph, graph, nodeCount}
-use Rattle.flow.specs.Findings.{Use, Declaration, declaration, localAt, tracked, noValue, writesJudged, Finding, liveAfterWrites, ofUse, ofInitial, nodeOf, usesOf, allFound, ahead, firstUnassignedUse, initialOverwritten, writesOverwritten, unassignedOf, overwrittenOf, overwrittenAt, overwrittenBelow, isEmptyRead, firstEmptyRead}
+use Rattle.flow.specs.Findings.{Use, Declaration, declaration, localAt, tracked, noValue, writesJudged, Finding, findingWord, liveAfterWrites, ofUse, ofInitial, nodeOf, usesOf, allFound, ahead, firstUnassignedUse, initialOverwritten, writesOverwritten, unassignedOf, overwrittenOf, overwrittenAt, overwrittenBelow, isEmptyRead, firstEmptyRead}
 use Rattle.flow.specs.Demand.{useSpan, AllFound, Judgeable, Unassigned, Overwritten, OverwrittenInitial, Before}
 use Rattle.flow.proofs.Laws.{either, and-then, and-law, not-law, or-map, mem-append, mem-one, mem-only, mem-map}
 use Rattle.flow.proofs.Uses.{nodeNum, entry, all-found, From, end, one, from-all, Kinds, Is, Among}
 use Rattle.flow.proofs.EmptyReads.{empty-read}
 use Rattle.flow.proofs.Losses.{LostWrite, unread-law, lost-law, lost-from}
 use Rattle.flow.proofs.CodeNodes.{code-node}
-use Rattle.flow.proofs.Order.{each-node, mem-each, Rising, nil, rising-append, rising-one, rising-only, rising-each, rising-map, word, Coded, Prior, prior-by}
+use Rattle.flow.proofs.Order.{each-node, mem-each, Rising, nil, rising-append, rising-one, rising-only, rising-each, rising-map, Coded, Prior, prior-by}
 
 -- what a finding of a list, a local and a use number + 1 or 0 says
 abbrev pub Claim : List ℕ → List ℕ → ℕ → ℕ → ℕ → Type 0
@@ -30,7 +30,7 @@ spanFor S U ℓ zero = getD (graph S .names .span) ℓ 0
 spanFor S U ℓ (suc u) = useSpan U u
 
 abbrev pub finding : List ℕ → List ℕ → ℕ → ℕ → ℕ → Finding
-finding S U list ℓ c = record { word = word list ℓ c; span = spanFor S U ℓ c }
+finding S U list ℓ c = record { word = findingWord list ℓ c; span = spanFor S U ℓ c }
 
 -- a finding of such a list and local that holds
 abbrev pub Told : List ℕ → List ℕ → ℕ → ℕ → Finding → Type 0
@@ -114,7 +114,7 @@ module _ (S U : List ℕ) (kinds : Kinds U) (ℓ : ℕ) where
       (λ q. record { judgeable = q .0 .0; valued = q .0 .1; lost = q .1 }, λ o. ((o .judgeable, o .valued), o .lost))
 
   of-initial : ofInitial ℓ (getD (graph S .names .span) ℓ 0) ≡ finding S U 1 ℓ 0
-  of-initial = let e : 1 + 2 * ℓ ≡ word 1 ℓ 0 = omega arith in ap (λ (w : ℕ). record { word = w; span = spanFor S U ℓ 0 }) e
+  of-initial = refl
 
   -- list 1
   pub overwritten-law : (f : Finding) → List·Memᴰ f (overwrittenOf S U ℓ) ↔ Told S U 1 ℓ f

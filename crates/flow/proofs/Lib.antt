@@ -17,3 +17,4 @@ pub mod Sources
 pub mod Spans
 pub mod Admission
 pub mod Judged
+pub mod NameNodes

@@ -14,14 +14,15 @@ use Rattle.flow.specs.declared.Truth.the-variants.{False, True, Unknown}
 use Rattle.flow.specs.declared.Found.{Found}
 use Rattle.flow.specs.declared.Found.the-variants.{At, Nothing}
 use Rattle.flow.specs.Sheet.{items, kindOf, argumentOf}
-use Rattle.flow.specs.Kinds.{NAME, LABEL, EMPTY}
+use Rattle.flow.specs.Kinds.{kinds}
 use Rattle.flow.specs.Tree.{Stmt, Block, Arms, simple, do-block, while-loop, repeat-loop, for-loop, if-stmt, done, then, no-more, elseif, otherwise, tree, labelName, labelsOf}
 use Rattle.flow.specs.Graph.{absent, Nodes, Graph, Settings, nodeCount, newNode, connect, moveTo, advanceTo, recordCode, setStart, code, closeInto, jump, declare, labelNode, standAt, simpleStmt, newNodes, entered, unlessTrue, unlessFalse, enterWhen, buildStmt, buildBlock, buildArms, start, graph}
 use Rattle.flow.specs.Size.{simpleNodes, stmtNodes, blockNodes, armNodes}
+open record kinds using (NAME, LABEL, EMPTY)
 
 -- ---- one operation
 
-new : (g : Graph) → nodeCount (newNode g) ≡ nodeCount g + 1
+pub new : (g : Graph) → nodeCount (newNode g) ≡ nodeCount g + 1
 unfolding newNode
 new g = length-append (g .nodes .first) (absent ∷ [])
 
@@ -34,19 +35,19 @@ same : (b : Bool) (n : ℕ) → cond b n n ≡ n
 same true n = refl
 same false n = refl
 
-connected : (a b : ℕ) (g : Graph) → nodeCount (connect a b g) ≡ nodeCount g
+pub connected : (a b : ℕ) (g : Graph) → nodeCount (connect a b g) ≡ nodeCount g
 unfolding connect
 connected a b g = simp (split (λ (n : Nodes). length (n .first)), length-set, same)
 
-moved : (v : ℕ) (g : Graph) → nodeCount (moveTo v g) ≡ nodeCount g
+pub moved : (v : ℕ) (g : Graph) → nodeCount (moveTo v g) ≡ nodeCount g
 unfolding moveTo
 moved v g = refl
 
-advanced : (v : ℕ) (g : Graph) → nodeCount (advanceTo v g) ≡ nodeCount g
+pub advanced : (v : ℕ) (g : Graph) → nodeCount (advanceTo v g) ≡ nodeCount g
 unfolding advanceTo
 advanced v g = simp (moved, connected)
 
-recorded : (s v : ℕ) (g : Graph) → nodeCount (recordCode s v g) ≡ nodeCount g
+pub recorded : (s v : ℕ) (g : Graph) → nodeCount (recordCode s v g) ≡ nodeCount g
 unfolding recordCode
 recorded s v g = refl
 
@@ -54,11 +55,11 @@ started : (v p : ℕ) (g : Graph) → nodeCount (setStart v p g) ≡ nodeCount g
 unfolding setStart
 started v p g = refl
 
-coded : (s : ℕ) (g : Graph) → nodeCount (code s g) ≡ nodeCount g + 1
+pub coded : (s : ℕ) (g : Graph) → nodeCount (code s g) ≡ nodeCount g + 1
 unfolding code
 coded s g = simp (advanced, recorded, started, new)
 
-closed : (b : ℕ) (g : Graph) → nodeCount (closeInto b g) ≡ nodeCount g
+pub closed : (b : ℕ) (g : Graph) → nodeCount (closeInto b g) ≡ nodeCount g
 unfolding closeInto
 closed b g = simp (moved, connected)
 
@@ -66,7 +67,7 @@ jumped : (s b : ℕ) (g : Graph) → nodeCount (jump s b g) ≡ nodeCount g + 1
 unfolding jump
 jumped s b g = simp (closed, coded)
 
-declared : (s : ℕ) (st : Settings) (g : Graph) → nodeCount (declare s st g) ≡ nodeCount g
+pub declared : (s : ℕ) (st : Settings) (g : Graph) → nodeCount (declare s st g) ≡ nodeCount g
 unfolding declare
 declared s st g = refl
 
@@ -74,17 +75,17 @@ stood : (f : Found) (s : ℕ) (g : Graph) → nodeCount (standAt f s g) ≡ node
 stood (At v) s g = simp (advanced, recorded)
 stood Nothing s g = refl
 
-unless-true : (t : Truth) (a b : ℕ) (g : Graph) → nodeCount (unlessTrue t (connect a b) g) ≡ nodeCount g
+pub unless-true : (t : Truth) (a b : ℕ) (g : Graph) → nodeCount (unlessTrue t (connect a b) g) ≡ nodeCount g
 unless-true False a b g = connected a b g
 unless-true True a b g = refl
 unless-true Unknown a b g = connected a b g
 
-unless-false : (t : Truth) (a b : ℕ) (g : Graph) → nodeCount (unlessFalse t (connect a b) g) ≡ nodeCount g
+pub unless-false : (t : Truth) (a b : ℕ) (g : Graph) → nodeCount (unlessFalse t (connect a b) g) ≡ nodeCount g
 unless-false False a b g = refl
 unless-false True a b g = connected a b g
 unless-false Unknown a b g = connected a b g
 
-enter-when : (t : Truth) (g : Graph) → nodeCount (enterWhen t g) ≡ nodeCount g
+pub enter-when : (t : Truth) (g : Graph) → nodeCount (enterWhen t g) ≡ nodeCount g
 enter-when False g = moved absent g
 enter-when True g = refl
 enter-when Unknown g = refl
@@ -134,7 +135,7 @@ ArmsMake as' = (test join : ℕ) (falls : Bool) (st : Settings) (g : Graph) → 
 inner : (b : Block) → BlockMakes b → (st : Settings) (g : Graph) → nodeCount (buildBlock b st (entered b g)) ≡ nodeCount g + blockNodes b
 inner b f st g = omega (arith, f st (entered b g), entered-count b g)
 
-ruleset step = (moved, connected, advanced, recorded, closed, coded, new, unless-true, unless-false, enter-when)
+pub ruleset step = (moved, connected, advanced, recorded, closed, coded, new, unless-true, unless-false, enter-when)
 
 mutual
   unfolding buildStmt buildBlock buildArms labelsOf
@@ -160,5 +161,5 @@ pub built-count : (b : Block) (st : Settings) (g : Graph) → nodeCount (buildBl
 built-count b = inner b (block-count b)
 
 pub graph-count : (ws : List ℕ) → nodeCount (graph ws) ≡ 6 + blockNodes (tree (items ws))
-unfolding graph start
+unfolding graph start newNode
 graph-count ws = simp (closed, built-count)

@@ -1,6 +1,6 @@
 -- Lists that rise in a relation, and how a finding's word decodes: its list, its local and its use.
 -- Assumes nothing.
-use Prim.Native.Nat.{ℕ, zero, suc, _+_, _-_, _*_, _/_, _%_, _^_, _≤_, _<_, min}
+use Prim.Native.Nat.{ℕ, zero, suc, _-_, _/_, _%_, _^_, _≤_, _<_, min}
 use mathlib.Core.Path.{_≡_, refl, sym, ap, subst, subst₂}
 use mathlib.Core.Logic.{inl, inr, ⊎-elim, _↔_, Iff·trans}
 use mathlib.Core.Bool.{Bool, true, false}
@@ -8,7 +8,7 @@ use mathlib.Core.List.{List, [], _∷_, _++_, map, List·Memᴰ, List·Memᴰ·h
 use native.Mathlib.Omega.{arith}
 use native.Mathlib.Decide.{ℕ-discrete}
 use lib.ListN.{length, getD}
-use Rattle.flow.specs.Findings.{Finding, Use, Ahead, onlyIf, ofEach, overwrittenAt, overwrittenBelow}
+use Rattle.flow.specs.Findings.{Finding, findingWord, Use, Ahead, onlyIf, ofEach, overwrittenAt, overwrittenBelow}
 use Rattle.flow.specs.Graph.{Graph}
 use Rattle.flow.specs.Demand.{order, Before}
 use Rattle.flow.proofs.Laws.{mem-append, mem-map, mem-at}
@@ -81,10 +81,6 @@ rising-map R f (cons {x = x} {l = l} a r) = cons (λ y m. let q = mem-map f l .0
 
 -- ---- words
 
--- list, local, and use number + 1 or 0
-abbrev pub word : ℕ → ℕ → ℕ → ℕ
-word list ℓ c = list + 2 * ℓ + 2 ^ 32 * c
-
 -- what such a word is ordered by
 abbrev pub key : List ℕ → List ℕ → ℕ → List ℕ
 key S U zero = 0 ∷ nodeNum S U 0 ∷ 0 ∷ []
@@ -104,16 +100,16 @@ key-is S U (suc u) = rw (min-one u, pred-suc u)
 pub record Coded (f : Finding) (list ℓ c : ℕ) : Type 0 where
   pub small : list ≤ 1
   pub few : ℓ < 1024
-  pub coded : f .word ≡ word list ℓ c
+  pub coded : f .word ≡ findingWord list ℓ c
 
 module _ (list ℓ c : ℕ) (hl : list ≤ 1) (hℓ : ℓ < 1024) where
-  word-list : word list ℓ c % 2 ≡ list
+  word-list : findingWord list ℓ c % 2 ≡ list
   word-list = omega arith
 
-  word-local : word list ℓ c / 2 % 2 ^ 31 ≡ ℓ
+  word-local : findingWord list ℓ c / 2 % 2 ^ 31 ≡ ℓ
   word-local = omega arith
 
-  word-use : word list ℓ c / 2 ^ 32 ≡ c
+  word-use : findingWord list ℓ c / 2 ^ 32 ≡ c
   word-use = omega arith
 
 order-key : (S U : List ℕ) {f : Finding} {list ℓ c : ℕ} → Coded f list ℓ c → order S U (f .word) ≡ list ∷ ℓ ∷ key S U c

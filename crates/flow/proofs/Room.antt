@@ -8,12 +8,13 @@ use native.Mathlib.Omega.{arith}
 use lib.Dec.{eqb}
 use lib.ListN.{length}
 use Rattle.flow.specs.Sheet.{Item, oneOf, kindOf, argumentOf, together}
-use Rattle.flow.specs.Kinds.{NAME, LABEL, EMPTY}
+use Rattle.flow.specs.Kinds.{kinds}
 use Rattle.flow.specs.Refusals.{pairsUp}
 use Rattle.flow.specs.Tree.{Stmt, Frame, Open, outer, inFront, opened, tree}
 use Rattle.flow.specs.Size.{simpleNodes, stmtNodes, blockNodes, armNodes}
 use Rattle.flow.specs.Admitted.{Roomy}
 use Rattle.flow.proofs.Nesting.{Made, a-do, a-while, a-repeat, a-for, an-if, Parsed, nothing, opening, ending, until, an-elseif, an-else, plain, parsed, pairs-kinds}
+open record kinds using (NAME, LABEL, EMPTY)
 
 -- the nodes of an open block and of its arms, and of all the open blocks
 abbrev frameNodes : Frame → ℕ

@@ -12,12 +12,13 @@ use Rattle.search.specs.Search.{In}
 use Rattle.flow.specs.declared.Found.{Found}
 use Rattle.flow.specs.declared.Found.the-variants.{At}
 use Rattle.flow.specs.Sheet.{items, oneOf, kindOf, argumentOf}
-use Rattle.flow.specs.Kinds.{NAME, LABEL, EMPTY}
+use Rattle.flow.specs.Kinds.{kinds}
 use Rattle.flow.specs.Tree.{Stmt, Block, Arms, simple, do-block, while-loop, repeat-loop, for-loop, if-stmt, done, then, no-more, elseif, otherwise, tree, labelName, labelsOf}
-use Rattle.flow.specs.Graph.{Graph, Label, Settings, nodeCount, code, jump, closeInto, labelNode, standAt, simpleStmt, withLabels, entered, inside, buildStmt, buildBlock, buildArms, start, graph}
+use Rattle.flow.specs.Graph.{Graph, Label, Settings, nodeCount, code, jump, closeInto, labelNode, standAt, simpleStmt, withLabels, entered, inside, buildStmt, buildBlock, buildArms, newNode, start, graph}
 use Rattle.flow.proofs.Members.{in-append}
 use Rattle.flow.proofs.Tests.{split, same}
 use Rattle.flow.proofs.Written.{Columns, written, Records, kept, more-code, more-name, keeps, new, moved, closed}
+open record kinds using (NAME, LABEL, EMPTY)
 
 -- ---- the spans of a tree, in order, behind those that came before: of the headers and UNTILs if h, of the statements of one item whose word passes p
 
@@ -148,7 +149,7 @@ mutual
   arms-record (otherwise w b as') test join falls st g r = arms-record as' _ _ _ _ _ (arm b (block-records b) _ _ _ _ (kept r (moved _ _)))
 
 begun : Records start [] []
-unfolding start written
+unfolding start newNode written
 begun = record { codes = refl; codeNodes = refl; names = refl; nameNodes = refl; nameEnds = refl }
 
 pub graph-columns : (ws : List ℕ) → Columns (written (graph ws)) (ofBlock true codeWord (tree (items ws)) []) (ofBlock false nameWord (tree (items ws)) [])

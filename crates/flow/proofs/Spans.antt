@@ -10,9 +10,9 @@ use borrow.Author.Tests.{ne-eqb, leb-true}
 use lib.Dec.{eqb, leb}
 use lib.ListN.{length, getD, length-append}
 use Rattle.search.specs.Search.{keep}
-use Rattle.flow.specs.Sheet.{Item, items, kind, argumentOf, oneOf, startOf, endOf}
-use Rattle.flow.specs.Kinds.{WHILE, REPEAT, FOR, IF, ELSEIF, ELSE, UNTIL, LOCAL, NAME, LABEL, GOTO, PLAIN, itemFits, isCode}
-use Rattle.flow.specs.Refusals.{one, allFit, pairsUp, inLine, nameCount}
+use Rattle.flow.specs.Sheet.{Item, items, kind, argumentOf, oneOf, all, startOf, endOf}
+use Rattle.flow.specs.Kinds.{kinds, itemFits, isCode}
+use Rattle.flow.specs.Refusals.{one, pairsUp, inLine, nameCount}
 use Rattle.flow.specs.Tree.{Stmt, Frame, Open, outer, inFront, opened, simple, tree}
 use Rattle.flow.specs.Findings.{onlyIf, below, localsFrom, locals}
 use Rattle.flow.specs.Admitted.{spansWhere, isName}
@@ -20,6 +20,7 @@ use Rattle.flow.proofs.Members.{and-both, below-in}
 use Rattle.flow.proofs.Tests.{same, every, Fitting, fitting}
 use Rattle.flow.proofs.Nesting.{Made, a-do, a-while, a-repeat, a-for, an-if, Parsed, nothing, opening, ending, until, an-elseif, an-else, plain, nests, parsed}
 use Rattle.flow.proofs.Sources.{put, ofStmt, ofBlock, ofArms, makesCode, codeWord, nameWord}
+open record kinds using (WHILE, REPEAT, FOR, IF, ELSEIF, ELSE, UNTIL, LOCAL, NAME, LABEL, GOTO, PLAIN)
 
 -- ---- along the parse
 
@@ -96,12 +97,12 @@ code-held : (z : Bool) (i : Item) → itemFits i ≡ true → codeBy (kind i) z 
 code-held true = agree (λ k. codeBy k true) (λ k. heldBy true k (makesCode k true)) refl
 code-held false = agree (λ k. codeBy k false) (λ k. heldBy true k (makesCode k false)) refl
 
-spans-agree : (p q : Item → Bool) → ((i : Item) → itemFits i ≡ true → p i ≡ q i) → (is : List Item) → allFit is ≡ true → spansWhere p is ≡ spansWhere q is
-unfolding spansWhere allFit
+spans-agree : (p q : Item → Bool) → ((i : Item) → itemFits i ≡ true → p i ≡ q i) → (is : List Item) → all itemFits is ≡ true → spansWhere p is ≡ spansWhere q is
+unfolding spansWhere all
 spans-agree p q f [] a = refl
-spans-agree p q f (i ∷ is) a = let b = and-both (itemFits i) (allFit is) a in rw (f i (b .0), spans-agree p q f is (b .1))
+spans-agree p q f (i ∷ is) a = let b = and-both (itemFits i) (all itemFits is) a in rw (f i (b .0), spans-agree p q f is (b .1))
 
-module _ (is : List Item) (fits : allFit is ≡ true) (pairs : pairsUp [] is ≡ true) where
+module _ (is : List Item) (fits : all itemFits is ≡ true) (pairs : pairsUp [] is ≡ true) where
   pub tree-codes : ofBlock true codeWord (tree is) [] ≡ spansWhere isCode is
   unfolding isCode tree ofOpen
   tree-codes =
@@ -154,11 +155,11 @@ rise-on : (b : Bool) (p : ℕ) (i : Item) (ss : List ℕ) → Fitting i → (not
 rise-on true p i ss f e r = (le-trans (leb-true p _ e) (f .order), r)
 rise-on false p i ss f e r = r
 
-in-line : (p : ℕ) (is : List Item) → allFit is ≡ true → inLine p is ≡ true → Rising p (spansWhere isCode is)
-unfolding allFit inLine spansWhere
+in-line : (p : ℕ) (is : List Item) → all itemFits is ≡ true → inLine p is ≡ true → Rising p (spansWhere isCode is)
+unfolding all inLine spansWhere
 in-line p [] a e = tt
 in-line p (i ∷ is) a e =
-    let f = and-both (itemFits i) (allFit is) a in
+    let f = and-both (itemFits i) (all itemFits is) a in
     let l = and-both (not (isCode i) || leb p (startOf (i .span))) (inLine (cond (isCode i) (endOf (i .span)) p) is) e in
     rise-on (isCode i) p i (spansWhere isCode is) (fitting i (f .0)) (l .0) (in-line (cond (isCode i) (endOf (i .span)) p) is (f .1) (l .1))
 
@@ -173,6 +174,6 @@ rises p (s ∷ ss) r i zero h l = absurd (omega arith)
 rises p (s ∷ ss) r zero (suc j) h l = risen (endOf s) ss (r .1) j (omega arith)
 rises p (s ∷ ss) r (suc i) (suc j) h l = rises (endOf s) ss (r .1) i j (omega arith) (omega arith)
 
-pub ends-rise : (is : List Item) → allFit is ≡ true → inLine 0 is ≡ true
+pub ends-rise : (is : List Item) → all itemFits is ≡ true → inLine 0 is ≡ true
     → (i j : ℕ) → i < j → j < length (spansWhere isCode is) → endOf (getD (spansWhere isCode is) i 0) ≤ endOf (getD (spansWhere isCode is) j 0)
 ends-rise is a e = rises 0 (spansWhere isCode is) (in-line 0 is a e)

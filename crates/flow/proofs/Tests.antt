@@ -2,19 +2,19 @@
 -- Assumes nothing.
 use Prim.Native.Nat.{ℕ, zero, suc, _+_, _*_, _^_, _≤_, _<_}
 use mathlib.Core.Path.{_≡_, refl}
-use mathlib.Core.Bool.{Bool, true, false, cond, _&&_, _||_, not, true≢false}
+use mathlib.Core.Bool.{Bool, true, false, cond, _&&_, _||_, true≢false}
 use mathlib.Core.List.{List, [], _∷_}
 use native.Mathlib.Omega.{arith}
 use borrow.Author.Tests.{ltb-true, ltb-false, leb-true, eqb-true, not-false}
-use lib.Dec.{eqb, leb, ltb}
+use lib.Dec.{leb, ltb}
 use lib.ListN.{length, getD}
 use Rattle.search.specs.Search.{In, keep}
 use Rattle.flow.specs.declared.Refusal.{Refusal}
 use Rattle.flow.specs.declared.Verdict.{Verdict}
 use Rattle.flow.specs.declared.Verdict.the-variants.{Admitted, Refused}
-use Rattle.flow.specs.Sheet.{Item, kind, count, outerEnd, items, startOf, endOf, argumentOf}
+use Rattle.flow.specs.Sheet.{Item, all, kind, count, outerEnd, items, startOf, endOf, argumentOf}
 use Rattle.flow.specs.Kinds.{argumentFits, itemFits}
-use Rattle.flow.specs.Refusals.{Test, lowest, miscount, allFit, badItem, pairsUp, badNesting, inLine, offTheLine, sheetTests, sheetVerdict, outnumbered, tooDeep, sideBySide, held, namesFit, badName}
+use Rattle.flow.specs.Refusals.{Test, lowest, miscount, badItem, pairsUp, badNesting, inLine, offTheLine, sheetTests, sheetVerdict, outnumbered, tooDeep, sideBySide, held, namesFit, badName}
 use Rattle.flow.specs.Admitted.{anItem}
 use Rattle.search.proofs.Worklist.{keep-in}
 use Rattle.flow.proofs.Members.{and-both}
@@ -40,7 +40,7 @@ every t xs x e i = keep-in t xs x (rw e i) .1
 
 abbrev pub NoneApplies : List Test → Type 0
 NoneApplies [] = Unit {0}
-NoneApplies (t ∷ ts) = (t .applies ≡ false) × NoneApplies ts
+NoneApplies (t ∷ ts) = (t .1 ≡ false) × NoneApplies ts
 
 passed-one : (b : Bool) (r : Refusal) (v : Verdict) → cond b (Refused r) v ≡ Admitted → (b ≡ false) × (v ≡ Admitted)
 passed-one true r v e = let z : _≡_ {A = ℕ} 0 1 = cc in absurd (omega arith)
@@ -49,7 +49,7 @@ passed-one false r v e = (refl, e)
 pub passed : (ts : List Test) → lowest ts ≡ Admitted → NoneApplies ts
 unfolding lowest
 passed [] e = tt
-passed (t ∷ ts) e = let p = passed-one (t .applies) (t .refusal) (lowest ts) e in (p .0, passed ts (p .1))
+passed (t ∷ ts) e = let p = passed-one (t .1) (t .0) (lowest ts) e in (p .0, passed ts (p .1))
 
 pub pass : (ts : List Test) → NoneApplies ts → lowest ts ≡ Admitted
 unfolding lowest
@@ -59,7 +59,8 @@ pass (t ∷ ts) n = rw (n .0) (pass ts (n .1))
 -- ---- a sheet
 
 -- the count of either sheet, with k words before its two arrays
-pub counted : (k : ℕ) (ws : List ℕ) → (ltb (length ws) k || ltb 1024 (count ws) || not (eqb (length ws) (2 * count ws + k))) ≡ false → (length ws ≡ 2 * count ws + k) × (count ws ≤ 1024)
+pub counted : (k : ℕ) (ws : List ℕ) → miscount k ws ≡ false → (length ws ≡ 2 * count ws + k) × (count ws ≤ 1024)
+unfolding miscount
 counted k ws e =
     let m = neither (ltb (length ws) k || ltb 1024 (count ws)) _ e in
     (eqb-true _ _ (not-false _ (m .1)), ltb-false _ _ (neither (ltb (length ws) k) _ (m .0) .1))
@@ -68,7 +69,7 @@ pub record Passed (ws : List ℕ) : Type 0 where
   pub words : length ws ≡ 2 * count ws + 2
   pub few : count ws ≤ 1024
   pub outerEnd : outerEnd ws < 2 ^ 32
-  pub fits : allFit (items ws) ≡ true
+  pub fits : all itemFits (items ws) ≡ true
   pub pairs : pairsUp [] (items ws) ≡ true
   pub line : inLine 0 (items ws) ≡ true
   pub shallow : outnumbered 0 0 (items ws) ≡ false
@@ -77,7 +78,7 @@ pub record Passed (ws : List ℕ) : Type 0 where
   pub named : namesFit 0 0 (items ws) ≡ true
 
 pub sheet-passed : (ws : List ℕ) → sheetVerdict ws ≡ Admitted → Passed ws
-unfolding sheetVerdict sheetTests miscount badItem tooDeep badNesting offTheLine badName
+unfolding sheetVerdict sheetTests badItem tooDeep badNesting offTheLine badName
 sheet-passed ws e =
     let p = passed _ e in
     let c = counted 2 ws (p .0) in
@@ -99,11 +100,11 @@ sheet-passed ws e =
 
 -- ---- an item
 
-pub fits-at : (is : List Item) → allFit is ≡ true → (k : ℕ) → k < length is → itemFits (getD is k anItem) ≡ true
-unfolding allFit
+pub fits-at : (is : List Item) → all itemFits is ≡ true → (k : ℕ) → k < length is → itemFits (getD is k anItem) ≡ true
+unfolding all
 fits-at [] e k h = absurd (omega arith)
-fits-at (i ∷ is) e zero h = and-both (itemFits i) (allFit is) e .0
-fits-at (i ∷ is) e (suc k) h = fits-at is (and-both (itemFits i) (allFit is) e .1) k (omega arith)
+fits-at (i ∷ is) e zero h = and-both (itemFits i) (all itemFits is) e .0
+fits-at (i ∷ is) e (suc k) h = fits-at is (and-both (itemFits i) (all itemFits is) e .1) k (omega arith)
 
 pub record Fitting (i : Item) : Type 0 where
   pub low : 1 ≤ kind i

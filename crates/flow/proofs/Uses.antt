@@ -14,7 +14,7 @@ use lib.ListN.{length, getD, drop, drop-of-length-le}
 use lib.Seq.{drop-cons}
 use Rattle.flow.specs.declared.Place.{Place}
 use Rattle.flow.specs.declared.Place.the-variants.{Node, Past}
-use Rattle.flow.specs.Sheet.{startOf, useWords, useSpans, localOf, useKindOf}
+use Rattle.flow.specs.Sheet.{all, startOf, useWords, useSpans, localOf, useKindOf}
 use Rattle.flow.specs.Graph.{graph}
 use Rattle.flow.specs.Reachable.{nodeAt}
 use Rattle.flow.specs.Findings.{Use, localAt, isInClosure, nodeOf, found, onlyIf, usesFrom, usesOf, allFound, Meeting, noUse, aRead, aPureWrite, meeting, firstAt, isNoUse, isARead, isAPureWrite, isRead, isWrite, orElse}
@@ -77,7 +77,7 @@ module _ (S U : List ℕ) (ℓ : ℕ) where
   found-law Past = (λ e. absurd (false≢true e), λ q. ap found (q .1))
 
   found-from : {k : ℕ} {us : List Use} → From S U ℓ k us → (allFound us ≡ true) ↔ ((u : ℕ) → k ≤ u → Own U ℓ u → (v : ℕ) × AtNode S U u v)
-  unfolding allFound
+  unfolding allFound all
   found-from (end h) = (λ e u l o. absurd (h u l o), λ q. refl)
   found-from {k} (one {u = u} {us = us} n r) =
       let both = and-law (found-law (nodeAt (graph S) (startOf (useSpan U u)))) (found-from r) in

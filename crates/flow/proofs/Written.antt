@@ -40,6 +40,14 @@ withName s v e w = record {
   names = record { span = w .names .span ++ (s ∷ []); node = w .names .node ++ (v ∷ []); scopeEnd = w .names .scopeEnd ++ (e ∷ []) };
 }
 
+pub same-names : (s v : ℕ) (w : Written) → withCode s v w .names ≡ w .names
+unfolding withCode
+same-names s v w = refl
+
+pub new-name : (s v e : ℕ) (w : Written) → withName s v e w .names .node ≡ w .names .node ++ (v ∷ [])
+unfolding withName
+new-name s v e w = refl
+
 module _ {w : Written} {cs ns : List ℕ} (r : Columns w cs ns) where
   pub more-code : (s v : ℕ) → Columns (withCode s v w) (cs ++ (s ∷ [])) ns
   unfolding withCode

@@ -9,12 +9,13 @@ use lib.Dec.{eqb}
 use Rattle.flow.specs.declared.Bench.{Bench}
 use Rattle.flow.specs.declared.Verdict.the-variants.{Admitted}
 use Rattle.flow.specs.Sheet.{Item, kind, count, outerEnd, items, kindWords, spanWords, together, kindOf, endOf, useWords, useSpans, localOf, useKindOf}
-use Rattle.flow.specs.Kinds.{NAME, itemFits, isCode}
+use Rattle.flow.specs.Kinds.{kinds, itemFits, isCode}
 use Rattle.flow.specs.Refusals.{nameCount, sheetVerdict, outnumbered, pairsUp, sideBySide, inLine, held, namesFit}
 use Rattle.flow.specs.Tree.{parse, tree, no-more}
 use Rattle.flow.specs.Size.{blockNodes}
 use Rattle.flow.specs.Graph.{graph}
 use Rattle.flow.specs.Findings.{onlyIf, locals}
+open record kinds using (NAME)
 
 -- the spans of those items that pass a test, in order
 unfoldable pub spansWhere : (Item → Bool) → List Item → List ℕ

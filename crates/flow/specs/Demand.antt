@@ -4,13 +4,13 @@ use mathlib.Core.Path.{_≡_}
 use mathlib.Core.Logic.{_⊎_, _↔_}
 use mathlib.Core.Bool.{true}
 use mathlib.Core.List.{List, [], _∷_}
-use Prim.Native.Nat.{ℕ, _+_, _-_, _*_, _/_, _%_, _^_, _<_, min}
+use Prim.Native.Nat.{ℕ, _+_, _-_, _/_, _%_, _^_, _<_, min}
 use lib.ListN.{length, getD}
 use Rattle.flow.specs.declared.Place.the-variants.{Node}
 use Rattle.flow.specs.Sheet.{useWords, useSpans, localOf, useKindOf, startOf}
 use Rattle.flow.specs.Graph.{graph}
 use Rattle.flow.specs.Reachable.{nodeAt}
-use Rattle.flow.specs.Findings.{declaration, locals, localAt, tracked, noValue, writesJudged, isInClosure, nodeOf}
+use Rattle.flow.specs.Findings.{declaration, locals, localAt, tracked, noValue, writesJudged, isInClosure, nodeOf, findingWord}
 use Rattle.flow.specs.Paths.{Edge, After, Meets}
 
 abbrev pub useWord : List ℕ → ℕ → ℕ
@@ -121,15 +121,6 @@ pub record Listed (words spans : List ℕ) (word span : ℕ) : Type 0 where
   pub isWord : getD words place 0 ≡ word
   pub isSpan : getD spans place 0 ≡ span
 
-abbrev pub unassignedWord : ℕ → ℕ → ℕ
-unassignedWord ℓ u = 2 * ℓ + 2 ^ 32 * (u + 1)
-
-abbrev pub overwrittenWord : ℕ → ℕ → ℕ
-overwrittenWord ℓ w = 1 + 2 * ℓ + 2 ^ 32 * (w + 1)
-
-abbrev pub initialWord : ℕ → ℕ
-initialWord ℓ = 1 + 2 * ℓ
-
 -- "Unassigned come first, in local order; overwritten follow per local: initial value, then writes by node, use order within a node": what a word is ordered by
 abbrev pub order : List ℕ → List ℕ → ℕ → List ℕ
 order S U w =
@@ -143,15 +134,15 @@ Before (x ∷ xs) (y ∷ ys) = (x < y) ⊎ ((x ≡ y) × Before xs ys)
 -- "Nothing else is listed for any local": an entry has the form of one of the three; that it is rightly there, the three say from left to right
 abbrev pub Named : List ℕ → List ℕ → ℕ → ℕ → Type 0
 Named S U word span =
-    ((ℓ : ℕ) × (u : ℕ) × (ℓ < length (locals S)) × (word ≡ unassignedWord ℓ u) × (span ≡ useSpan U u))
-    ⊎ (((ℓ : ℕ) × (w : ℕ) × (ℓ < length (locals S)) × (word ≡ overwrittenWord ℓ w) × (span ≡ useSpan U w))
-    ⊎ ((ℓ : ℕ) × (ℓ < length (locals S)) × (word ≡ initialWord ℓ) × (span ≡ getD (graph S .names .span) ℓ 0)))
+    ((ℓ : ℕ) × (u : ℕ) × (ℓ < length (locals S)) × (word ≡ findingWord 0 ℓ (u + 1)) × (span ≡ useSpan U u))
+    ⊎ (((ℓ : ℕ) × (w : ℕ) × (ℓ < length (locals S)) × (word ≡ findingWord 1 ℓ (w + 1)) × (span ≡ useSpan U w))
+    ⊎ ((ℓ : ℕ) × (ℓ < length (locals S)) × (word ≡ findingWord 1 ℓ 0) × (span ≡ getD (graph S .names .span) ℓ 0)))
 
 -- Demand 3: what stands among the written findings, nothing else, and each once in 01's order
 pub record Demand3 (S U words spans : List ℕ) : Type 0 where
-  pub unassigned : (ℓ u : ℕ) → ℓ < length (locals S) → Listed words spans (unassignedWord ℓ u) (useSpan U u) ↔ Unassigned S U ℓ u
-  pub overwritten : (ℓ w : ℕ) → ℓ < length (locals S) → Listed words spans (overwrittenWord ℓ w) (useSpan U w) ↔ Overwritten S U ℓ w
-  pub initial : (ℓ : ℕ) → ℓ < length (locals S) → Listed words spans (initialWord ℓ) (getD (graph S .names .span) ℓ 0) ↔ OverwrittenInitial S U ℓ
+  pub unassigned : (ℓ u : ℕ) → ℓ < length (locals S) → Listed words spans (findingWord 0 ℓ (u + 1)) (useSpan U u) ↔ Unassigned S U ℓ u
+  pub overwritten : (ℓ w : ℕ) → ℓ < length (locals S) → Listed words spans (findingWord 1 ℓ (w + 1)) (useSpan U w) ↔ Overwritten S U ℓ w
+  pub initial : (ℓ : ℕ) → ℓ < length (locals S) → Listed words spans (findingWord 1 ℓ 0) (getD (graph S .names .span) ℓ 0) ↔ OverwrittenInitial S U ℓ
   pub asMany : length spans ≡ length words
   pub nothingElse : (i : ℕ) → i < length words → Named S U (getD words i 0) (getD spans i 0)
   pub rising : (i j : ℕ) → i < j → j < length words → Before (order S U (getD words i 0)) (order S U (getD words j 0))

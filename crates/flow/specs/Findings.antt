@@ -13,21 +13,19 @@ use Rattle.flow.specs.declared.Verdict.{Verdict}
 use Rattle.flow.specs.declared.Verdict.the-variants.{Admitted, Refused}
 use Rattle.flow.specs.declared.JudgeAnswer.{JudgeAnswer}
 use Rattle.flow.specs.declared.JudgeAnswer.the-variants.{Judged, Refused as JudgeRefused}
-use Rattle.flow.specs.Sheet.{Item, kind, oneOf, items, argumentOf, startOf, useWords, useSpans, localOf, useKindOf, crossingOf}
-use Rattle.flow.specs.Kinds.{LOCAL, NAME}
+use Rattle.flow.specs.Sheet.{Item, kind, oneOf, all, items, argumentOf, startOf, useWords, useSpans, localOf, useKindOf, crossingOf}
+use Rattle.flow.specs.Kinds.{kinds}
 use Rattle.flow.specs.Refusals.{judgeVerdict}
 use Rattle.flow.specs.Graph.{Graph, nodeCount, graph}
 use Rattle.flow.specs.Reachable.{successors, nodeAt, countsOf}
+open record kinds using (LOCAL, NAME)
 
 abbrev pub onlyIf : {A : Type 0} → Bool → List A → List A
-onlyIf true l = l
-onlyIf false l = []
+onlyIf b l = cond b l []
 
 -- a NAME: its argument, the values of its LOCAL, and how many names of its LOCAL stand before it
-pub record Local : Type 0 where
-  pub flags : ℕ
-  pub values : ℕ
-  pub before : ℕ
+abbrev pub Local : Type 0
+Local = record { flags : ℕ; values : ℕ; before : ℕ }
 
 -- the names of a sheet, in order; v and b are of the LOCAL that was met last
 unfoldable pub localsFrom : ℕ → ℕ → List Item → List Local
@@ -65,21 +63,15 @@ unfoldable pub tracked : Local → Bool
 tracked l = not (underscore l) && (noValue l || writesJudged l)
 
 -- a use of a local, with its number and the node of its span's start
-pub record Use : Type 0 where
-  pub number : ℕ
-  pub span : ℕ
-  pub kind : ℕ
-  pub inClosure : Bool
-  pub place : Place
+abbrev pub Use : Type 0
+Use = record { number : ℕ; span : ℕ; kind : ℕ; inClosure : Bool; place : Place }
 
 -- 0 where there is none, which `allFound` rules out
 abbrev pub nodeOf : Place → ℕ
-nodeOf (Node v) = v
-nodeOf Past = 0
+nodeOf p = elim p [ Node v ↦ v | Past ↦ 0 ]
 
 abbrev pub found : Place → Bool
-found (Node v) = true
-found Past = false
+found p = elim p [ Node v ↦ true | Past ↦ false ]
 
 abbrev pub node : Use → ℕ
 node u = nodeOf (u .place)
@@ -105,13 +97,11 @@ usesFrom g l ℓ k (w ∷ ws) ss =
 
 -- "A local with a use that finds no node yields nothing."
 unfoldable pub allFound : List Use → Bool
-allFound [] = true
-allFound (u ∷ us) = found (u .place) && allFound us
+allFound us = all (λ u. found (u .place)) us
 
 -- a local's declaration: "A local's declaration is its LOCAL", at its node; and its scope end
-pub record Declaration : Type 0 where
-  pub node : ℕ
-  pub scopeEnd : ℕ
+abbrev pub Declaration : Type 0
+Declaration = record { node : ℕ; scopeEnd : ℕ }
 
 -- "none the LOCAL's node, none with code start at or past the scope end"
 unfoldable pub isAliveAt : Graph → Declaration → ℕ → Bool
@@ -141,9 +131,7 @@ firstEmptyRead live written (u ∷ us) =
 
 -- "the local's first use there decides whether it meets a read or a pure write"
 pub data Meeting : Type 0 where
-  noUse : Meeting
-  aRead : Meeting
-  aPureWrite : Meeting
+  noUse aRead aPureWrite : Meeting
 
 abbrev pub meeting : Use → Meeting
 meeting u = cond (isRead u) aRead aPureWrite
@@ -154,19 +142,13 @@ firstAt v [] = noUse
 firstAt v (u ∷ us) = cond (eqb (node u) v) (meeting u) (firstAt v us)
 
 abbrev pub isNoUse : Meeting → Bool
-isNoUse noUse = true
-isNoUse aRead = false
-isNoUse aPureWrite = false
+isNoUse m = elim m [ noUse ↦ true | aRead ↦ false | aPureWrite ↦ false ]
 
 abbrev pub isARead : Meeting → Bool
-isARead noUse = false
-isARead aRead = true
-isARead aPureWrite = false
+isARead m = elim m [ noUse ↦ false | aRead ↦ true | aPureWrite ↦ false ]
 
 abbrev pub isAPureWrite : Meeting → Bool
-isAPureWrite noUse = false
-isAPureWrite aRead = false
-isAPureWrite aPureWrite = true
+isAPureWrite m = elim m [ noUse ↦ false | aRead ↦ false | aPureWrite ↦ true ]
 
 abbrev pub below : ℕ → List ℕ
 below zero = []
@@ -184,9 +166,8 @@ unfoldable pub meets : Graph → Declaration → List Use → (Meeting → Bool)
 meets g d us m = closure (keep (meetsHere g d us m) (below (nodeCount g))) (comesFrom g d us) (nodeCount g)
 
 -- the two ways a value's path can end
-pub record Ahead : Type 0 where
-  pub reads : List ℕ
-  pub writes : List ℕ
+abbrev pub Ahead : Type 0
+Ahead = record { reads : List ℕ; writes : List ℕ }
 
 unfoldable pub ahead : Graph → Declaration → List Use → Ahead
 ahead g d us = record { reads = meets g d us isARead; writes = meets g d us isAPureWrite }
@@ -201,9 +182,7 @@ isOverwrittenUnread g a v = anyFlag (a .writes) (successors g v) && not (anyFlag
 
 -- "the next use in its node is a pure write or, where none follows there," that; us are the uses after
 abbrev pub orElse : Meeting → Bool → Bool
-orElse noUse b = b
-orElse aRead b = false
-orElse aPureWrite b = true
+orElse m b = elim m [ noUse ↦ b | aRead ↦ false | aPureWrite ↦ true ]
 
 unfoldable pub isOverwritten : Graph → Ahead → Use → List Use → Bool
 isOverwritten g a u us = isWrite u && orElse (firstAt (node u) us) (isOverwrittenUnread g a (node u))
@@ -219,26 +198,26 @@ overwrittenBelow g a (suc n) us = overwrittenBelow g a n us ++ overwrittenAt g a
 
 -- The findings of one local, from the graph, its declaration and its own uses in order.
 unfoldable pub firstUnassignedUse : Graph → Local → Declaration → List Use → List Use
-firstUnassignedUse g l d us =
-    onlyIf (tracked l && allFound us && noValue l) (firstEmptyRead (liveAfterWrites g d us) [] us)
+firstUnassignedUse g l d us = onlyIf (tracked l && allFound us && noValue l) (firstEmptyRead (liveAfterWrites g d us) [] us)
 
 unfoldable pub initialOverwritten : Graph → Local → Declaration → List Use → Bool
-initialOverwritten g l d us =
-    tracked l && allFound us && not (noValue l) && isOverwrittenUnread g (ahead g d us) (d .node)
+initialOverwritten g l d us = tracked l && allFound us && not (noValue l) && isOverwrittenUnread g (ahead g d us) (d .node)
 
 unfoldable pub writesOverwritten : Graph → Local → Declaration → List Use → List Use
 writesOverwritten g l d us = onlyIf (tracked l && allFound us && writesJudged l) (overwrittenBelow g (ahead g d us) (nodeCount g) us)
 
 -- "A finding is list (0 unassigned, 1 overwritten) + 2 × local + 2^32 × (use number + 1, or 0 for an initial value), and beside it the span, the name's span for an initial value."
-pub record Finding : Type 0 where
-  pub word : ℕ
-  pub span : ℕ
+abbrev pub Finding : Type 0
+Finding = record { word : ℕ; span : ℕ }
+
+abbrev pub findingWord : ℕ → ℕ → ℕ → ℕ
+findingWord list ℓ k = list + 2 * ℓ + 2 ^ 32 * k
 
 abbrev pub ofUse : ℕ → ℕ → Use → Finding
-ofUse list ℓ u = record { word = list + 2 * ℓ + 2 ^ 32 * (u .number + 1); span = u .span }
+ofUse list ℓ u = record { word = findingWord list ℓ (u .number + 1); span = u .span }
 
 abbrev pub ofInitial : ℕ → ℕ → Finding
-ofInitial ℓ s = record { word = 1 + 2 * ℓ; span = s }
+ofInitial ℓ s = record { word = findingWord 1 ℓ 0; span = s }
 
 abbrev pub declaration : Graph → ℕ → Declaration
 declaration g ℓ = record { node = getD (g .names .node) ℓ 0; scopeEnd = getD (g .names .scopeEnd) ℓ 0 }
@@ -273,8 +252,7 @@ abbrev pub spansOf : List Finding → List ℕ
 spansOf = map (λ f. f .span)
 
 abbrev pub judgeAnswer : Verdict → Graph → List Finding → JudgeAnswer
-judgeAnswer (Refused r) g fs = JudgeRefused r
-judgeAnswer Admitted g fs = Judged (countsOf g) (length fs)
+judgeAnswer v g fs = elim v [ Refused r ↦ JudgeRefused r | Admitted ↦ Judged (countsOf g) (length fs) ]
 
 unfoldable pub judge : Bench → List ℕ → List ℕ → JudgeAnswer
 judge b ws us = judgeAnswer (judgeVerdict b ws us) (graph ws) (findings ws us)

@@ -10,78 +10,51 @@ use Rattle.flow.specs.declared.Truth.the-variants.{False, True, Unknown}
 use Rattle.flow.specs.declared.Found.{Found}
 use Rattle.flow.specs.declared.Found.the-variants.{At, Nothing}
 use Rattle.flow.specs.Sheet.{items, outerEnd, kindOf, argumentOf, conditionOf, scopeEndOf, startOf}
-use Rattle.flow.specs.Kinds.{NAME, LABEL, GOTO, BREAK, CONTINUE, RETURN, CALL, EMPTY, literalTruth, raises}
+use Rattle.flow.specs.Kinds.{kinds, literalTruth, raises}
 use Rattle.flow.specs.Tree.{Stmt, Block, Arms, simple, do-block, while-loop, repeat-loop, for-loop, if-stmt, done, then, no-more, elseif, otherwise, tree, labelsOf}
+open record kinds using (NAME, LABEL, GOTO, BREAK, CONTINUE, RETURN, CALL, EMPTY)
 
 -- "Absent successors are stored as 4,294,967,295"; the same number stands for no current node
 abbrev pub absent : ℕ
 absent = 4294967295
 
 -- "Nodes 0 to 4 are the exits End, Break, ReturnValue, ReturnEmpty, Error; 5 is the entry."
-abbrev pub End : ℕ
-End = 0
+abbrev pub exits : record { End : ℕ; Break : ℕ; ReturnValue : ℕ; ReturnEmpty : ℕ; Error : ℕ }
+exits = record { End = 0; Break = 1; ReturnValue = 2; ReturnEmpty = 3; Error = 4 }
 
-abbrev pub Break : ℕ
-Break = 1
-
-abbrev pub ReturnValue : ℕ
-ReturnValue = 2
-
-abbrev pub ReturnEmpty : ℕ
-ReturnEmpty = 3
-
-abbrev pub Error : ℕ
-Error = 4
+open record exits using (End, Break, ReturnValue, ReturnEmpty, Error)
 
 abbrev pub entry : ℕ
 entry = 5
 
 -- "per node, both successors, code start"
-pub record Nodes : Type 0 where
-  pub first : List ℕ
-  pub second : List ℕ
-  pub start : List ℕ
+abbrev pub Nodes : Type 0
+Nodes = record { first : List ℕ; second : List ℕ; start : List ℕ }
 
 -- "per code its span and node"
-pub record Codes : Type 0 where
-  pub span : List ℕ
-  pub node : List ℕ
+abbrev pub Codes : Type 0
+Codes = record { span : List ℕ; node : List ℕ }
 
 -- "per name its span, node and scope end"
-pub record Names : Type 0 where
-  pub span : List ℕ
-  pub node : List ℕ
-  pub scopeEnd : List ℕ
+abbrev pub Names : Type 0
+Names = record { span : List ℕ; node : List ℕ; scopeEnd : List ℕ }
 
-pub record Graph : Type 0 where
-  pub nodes : Nodes
-  pub codes : Codes
-  pub names : Names
-  pub current : ℕ
+abbrev pub Graph : Type 0
+Graph = record { nodes : Nodes; codes : Codes; names : Names; current : ℕ }
 
 abbrev pub nodeCount : Graph → ℕ
 nodeCount g = length (g .nodes .first)
 
 -- what holds inside a block: "Break target, continue target and scope end return to their outer settings when a body closes"
-pub record Label : Type 0 where
-  pub name : ℕ
-  pub node : ℕ
+abbrev pub Label : Type 0
+Label = record { name : ℕ; node : ℕ }
 
-pub record Settings : Type 0 where
-  pub breakTo : ℕ
-  pub continueTo : ℕ
-  pub scopeEnd : ℕ
-  pub labels : List Label
+abbrev pub Settings : Type 0
+Settings = record { breakTo : ℕ; continueTo : ℕ; scopeEnd : ℕ; labels : List Label }
 
--- the same graph with other nodes, codes or names
+-- the same graph with other nodes
 abbrev pub withNodes : Nodes → Graph → Graph
 withNodes n g = record { nodes = n; codes = g .codes; names = g .names; current = g .current }
-
-abbrev pub withCodes : Codes → Graph → Graph
-withCodes c g = record { nodes = g .nodes; codes = c; names = g .names; current = g .current }
-
-abbrev pub withNames : Names → Graph → Graph
-withNames n g = record { nodes = g .nodes; codes = g .codes; names = n; current = g .current }
 
 unfoldable pub newNode : Graph → Graph
 newNode g = withNodes (record { first = g .nodes .first ++ (absent ∷ []); second = g .nodes .second ++ (absent ∷ []); start = g .nodes .start ++ (0 ∷ []) }) g
@@ -89,14 +62,10 @@ newNode g = withNodes (record { first = g .nodes .first ++ (absent ∷ []); seco
 -- "A node has a first and a second successor; a third edge is dropped."; from no node there is no edge
 unfoldable pub connect : ℕ → ℕ → Graph → Graph
 connect a b g =
-    withNodes
-    (cond (eqb a absent) (g .nodes)
-    (cond (eqb (getD (g .nodes .first) a 0) absent)
-    (record { first = set (g .nodes .first) a b; second = g .nodes .second; start = g .nodes .start })
-    (cond (eqb (getD (g .nodes .second) a 0) absent)
-    (record { first = g .nodes .first; second = set (g .nodes .second) a b; start = g .nodes .start })
-    (g .nodes))))
-    g
+    let n : Nodes = g .nodes in
+    withNodes (cond (eqb a absent) n
+    (cond (eqb (getD (n .first) a 0) absent) (record { first = set (n .first) a b; second = n .second; start = n .start })
+    (cond (eqb (getD (n .second) a 0) absent) (record { first = n .first; second = set (n .second) a b; start = n .start }) n))) g
 
 -- another node is current, with no edge to it; 01's "moves there" is `advanceTo`
 unfoldable pub moveTo : ℕ → Graph → Graph
@@ -108,7 +77,7 @@ advanceTo v g = moveTo v (connect (g .current) v g)
 
 -- a span recorded at a node
 unfoldable pub recordCode : ℕ → ℕ → Graph → Graph
-recordCode s v g = withCodes (record { span = g .codes .span ++ (s ∷ []); node = g .codes .node ++ (v ∷ []) }) g
+recordCode s v g = record { nodes = g .nodes; codes = record { span = g .codes .span ++ (s ∷ []); node = g .codes .node ++ (v ∷ []) }; names = g .names; current = g .current }
 
 unfoldable pub setStart : ℕ → ℕ → Graph → Graph
 setStart v p g = withNodes (record { first = g .nodes .first; second = g .nodes .second; start = set (g .nodes .start) v p }) g
@@ -128,7 +97,8 @@ jump s b g = closeInto b (code s g)
 -- a NAME: "its span, node and scope end"; its LOCAL's node is current
 unfoldable pub declare : ℕ → Settings → Graph → Graph
 declare s st g =
-    withNames (record { span = g .names .span ++ (s ∷ []); node = g .names .node ++ (g .current ∷ []); scopeEnd = g .names .scopeEnd ++ (st .scopeEnd ∷ []) }) g
+    let n : Names = record { span = g .names .span ++ (s ∷ []); node = g .names .node ++ (g .current ∷ []); scopeEnd = g .names .scopeEnd ++ (st .scopeEnd ∷ []) } in
+    record { nodes = g .nodes; codes = g .codes; names = n; current = g .current }
 
 -- "A name means the innermost, then latest, such label": the labels in force, the latest first. Name 0 has no label.
 unfoldable pub labelNode : ℕ → List Label → Found
@@ -137,13 +107,11 @@ labelNode a (l ∷ ls) = cond (eqb a (l .name)) (At (l .node)) (labelNode a ls)
 
 -- "LABEL records its span at its label's node (code start remains 0) and moves there."
 abbrev pub standAt : Found → ℕ → Graph → Graph
-standAt (At v) s g = advanceTo v (recordCode s v g)
-standAt Nothing s g = g
+standAt f s g = elim f [ At v ↦ advanceTo v (recordCode s v g) | Nothing ↦ g ]
 
 -- "when no visible label is found it jumps to exit Break"
 abbrev pub orBreak : Found → ℕ
-orBreak (At v) = v
-orBreak Nothing = Break
+orBreak f = elim f [ At v ↦ v | Nothing ↦ Break ]
 
 -- a statement of one item, by its kind, argument and span
 unfoldable pub simpleStmt : ℕ → ℕ → ℕ → Settings → Graph → Graph
@@ -178,20 +146,14 @@ unfoldable pub inLoop : ℕ → ℕ → Settings → Settings
 inLoop after next st = record { breakTo = after; continueTo = next; scopeEnd = st .scopeEnd; labels = st .labels }
 
 abbrev pub unlessTrue : Truth → (Graph → Graph) → Graph → Graph
-unlessTrue False f g = f g
-unlessTrue True f g = g
-unlessTrue Unknown f g = f g
+unlessTrue t f g = elim t [ False ↦ f g | True ↦ g | Unknown ↦ f g ]
 
 abbrev pub unlessFalse : Truth → (Graph → Graph) → Graph → Graph
-unlessFalse False f g = g
-unlessFalse True f g = f g
-unlessFalse Unknown f g = f g
+unlessFalse t f g = elim t [ False ↦ g | True ↦ f g | Unknown ↦ f g ]
 
 -- "A false condition enters the body with nothing current."
 abbrev pub enterWhen : Truth → Graph → Graph
-enterWhen False g = moveTo absent g
-enterWhen True g = g
-enterWhen Unknown g = g
+enterWhen t g = elim t [ False ↦ moveTo absent g | True ↦ g | Unknown ↦ g ]
 
 unfoldable mutual
   pub buildStmt : Stmt → Settings → Graph → Graph
@@ -199,30 +161,23 @@ unfoldable mutual
   buildStmt (do-block w b) st g = buildBlock b (inside (scopeEndOf w) b st g) (entered b g)
   -- "WHILE: code node head, node after, body, edge body end to head, then head to after unless the condition is true."
   buildStmt (while-loop w s b) st g =
-      let head : ℕ = nodeCount g in
-      let after : ℕ = nodeCount g + 1 in
-      let t : Truth = literalTruth (conditionOf w) in
+      let head = nodeCount g in let after = nodeCount g + 1 in let t = literalTruth (conditionOf w) in
       let h : Graph = enterWhen t (newNode (code s g)) in
       moveTo after (unlessTrue t (connect head after) (closeInto head (buildBlock b (inside (scopeEndOf w) b (inLoop after head st) h) (entered b h))))
   -- "REPEAT: nodes body, condition, after; move to body; body end to condition; then condition to body unless true, to after unless false. UNTIL records its span at condition, whose code start remains 0."
   buildStmt (repeat-loop w b u) st g =
-      let body : ℕ = nodeCount g in
-      let condition : ℕ = nodeCount g + 1 in
-      let after : ℕ = nodeCount g + 2 in
-      let t : Truth = literalTruth (conditionOf w) in
+      let body = nodeCount g in let condition = nodeCount g + 1 in let after = nodeCount g + 2 in let t = literalTruth (conditionOf w) in
       let h : Graph = newNode (newNode (advanceTo body (newNode g))) in
       moveTo after (unlessFalse t (connect condition after) (unlessTrue t (connect condition body)
       (recordCode u condition (closeInto condition (buildBlock b (inside (scopeEndOf w) b (inLoop after condition st) h) (entered b h))))))
   -- "FOR: code node; node head, moved to; node after; body end to head; then head to after."
   buildStmt (for-loop w s b) st g =
-      let head : ℕ = nodeCount g + 1 in
-      let after : ℕ = nodeCount g + 2 in
+      let head = nodeCount g + 1 in let after = nodeCount g + 2 in
       let h : Graph = newNode (advanceTo head (newNode (code s g))) in
       moveTo after (connect head after (closeInto head (buildBlock b (inside (scopeEndOf w) b (inLoop after head st) h) (entered b h))))
   -- "IF: code node test, node join; each arm ends in join"; "past an IF its join" is current
   buildStmt (if-stmt w s b as') st g =
-      let test : ℕ = nodeCount g in
-      let join : ℕ = nodeCount g + 1 in
+      let test = nodeCount g in let join = nodeCount g + 1 in
       let h : Graph = newNode (code s g) in
       moveTo join (buildArms as' test join true st (closeInto join (buildBlock b (inside (scopeEndOf w) b st h) (entered b h))))
 
@@ -242,16 +197,10 @@ unfoldable mutual
 
 -- five exits and the entry, which is current; "Outside a loop BREAK goes to Break, CONTINUE to End."
 unfoldable pub start : Graph
-start = record {
-  nodes = record {
-    first = absent ∷ absent ∷ absent ∷ absent ∷ absent ∷ absent ∷ [];
-    second = absent ∷ absent ∷ absent ∷ absent ∷ absent ∷ absent ∷ [];
-    start = 0 ∷ 0 ∷ 0 ∷ 0 ∷ 0 ∷ 0 ∷ [];
-  };
-  codes = record { span = []; node = [] };
-  names = record { span = []; node = []; scopeEnd = [] };
-  current = entry;
-}
+start =
+    let n : Nodes = record { first = []; second = []; start = [] } in
+    let none : Graph = record { nodes = n; codes = record { span = []; node = [] }; names = record { span = []; node = []; scopeEnd = [] }; current = entry } in
+    newNode (newNode (newNode (newNode (newNode (newNode none)))))
 
 unfoldable pub outside : Settings
 outside = record { breakTo = Break; continueTo = End; scopeEnd = 0; labels = [] }

@@ -8,62 +8,11 @@ use Rattle.flow.specs.declared.Truth.{Truth}
 use Rattle.flow.specs.declared.Truth.the-variants.{False, True, Unknown}
 use Rattle.flow.specs.Sheet.{Item, kind, oneOf, argumentOf, startOf, endOf}
 
-abbrev pub DO : ℕ
-DO = 1
+-- The table's column of kinds
+abbrev pub kinds : record { DO : ℕ; WHILE : ℕ; REPEAT : ℕ; FOR : ℕ; IF : ℕ; ELSEIF : ℕ; ELSE : ℕ; END : ℕ; UNTIL : ℕ; LOCAL : ℕ; NAME : ℕ; LABEL : ℕ; GOTO : ℕ; BREAK : ℕ; CONTINUE : ℕ; RETURN : ℕ; CALL : ℕ; PLAIN : ℕ; EMPTY : ℕ }
+kinds = record { DO = 1; WHILE = 2; REPEAT = 3; FOR = 4; IF = 5; ELSEIF = 6; ELSE = 7; END = 8; UNTIL = 9; LOCAL = 10; NAME = 11; LABEL = 12; GOTO = 13; BREAK = 14; CONTINUE = 15; RETURN = 16; CALL = 17; PLAIN = 18; EMPTY = 19 }
 
-abbrev pub WHILE : ℕ
-WHILE = 2
-
-abbrev pub REPEAT : ℕ
-REPEAT = 3
-
-abbrev pub FOR : ℕ
-FOR = 4
-
-abbrev pub IF : ℕ
-IF = 5
-
-abbrev pub ELSEIF : ℕ
-ELSEIF = 6
-
-abbrev pub ELSE : ℕ
-ELSE = 7
-
-abbrev pub END : ℕ
-END = 8
-
-abbrev pub UNTIL : ℕ
-UNTIL = 9
-
-abbrev pub LOCAL : ℕ
-LOCAL = 10
-
-abbrev pub NAME : ℕ
-NAME = 11
-
-abbrev pub LABEL : ℕ
-LABEL = 12
-
-abbrev pub GOTO : ℕ
-GOTO = 13
-
-abbrev pub BREAK : ℕ
-BREAK = 14
-
-abbrev pub CONTINUE : ℕ
-CONTINUE = 15
-
-abbrev pub RETURN : ℕ
-RETURN = 16
-
-abbrev pub CALL : ℕ
-CALL = 17
-
-abbrev pub PLAIN : ℕ
-PLAIN = 18
-
-abbrev pub EMPTY : ℕ
-EMPTY = 19
+open record kinds using (DO, WHILE, REPEAT, FOR, IF, ELSEIF, ELSE, END, UNTIL, LOCAL, NAME, LABEL, GOTO, RETURN, CALL, PLAIN, EMPTY)
 
 -- The mark S: "argument = condition + 32 × scope end, condition 0 unless stated, scope end below 2^32". c says whether a condition is stated.
 abbrev pub scoped : Bool → ℕ → Bool

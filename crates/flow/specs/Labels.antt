@@ -3,7 +3,7 @@
 -- No label twice in one block: the compilers of 5.2 and later refuse it.
 -- That no goto enters the scope of a local, and 5.4's ban on a name that an enclosing block's label has, come with request C-16. 5.1 and Luau have no goto.
 -- Assumes nothing: these are definitions.
-use mathlib.Core.Bool.{Bool, true, false, _&&_, _||_, not}
+use mathlib.Core.Bool.{Bool, true, cond, _&&_, _||_, not}
 use mathlib.Core.List.{List, [], _∷_, _++_}
 use Prim.Native.Nat.{ℕ}
 use lib.Dec.{eqb}
@@ -12,9 +12,10 @@ use Rattle.flow.specs.declared.Verdict.the-variants.{Admitted, Refused}
 use Rattle.flow.specs.declared.LabelAnswer.{LabelAnswer}
 use Rattle.flow.specs.declared.LabelAnswer.the-variants.{Yes, No, Refused as LabelRefused}
 use Rattle.flow.specs.Sheet.{items, oneOf, kindOf, argumentOf}
-use Rattle.flow.specs.Kinds.{GOTO}
+use Rattle.flow.specs.Kinds.{kinds}
 use Rattle.flow.specs.Refusals.{sheetVerdict}
 use Rattle.flow.specs.Tree.{Stmt, Block, Arms, simple, do-block, while-loop, repeat-loop, for-loop, if-stmt, done, then, no-more, elseif, otherwise, tree, labelsOf}
+open record kinds using (GOTO)
 
 -- "no two labels with the same name number" in a block
 unfoldable pub distinct : List ℕ → Bool
@@ -46,9 +47,7 @@ labelsFine ws =
     distinct (labelsOf b) && blockFine b (labelsOf b)
 
 abbrev pub labelAnswer : Verdict → Bool → LabelAnswer
-labelAnswer (Refused r) fine = LabelRefused r
-labelAnswer Admitted true = Yes
-labelAnswer Admitted false = No
+labelAnswer v fine = elim v [ Refused r ↦ LabelRefused r | Admitted ↦ cond fine Yes No ]
 
 unfoldable pub labelCheck : List ℕ → LabelAnswer
 labelCheck ws = labelAnswer (sheetVerdict ws) (labelsFine ws)

@@ -65,8 +65,7 @@ abbrev pub refused : Refusal → List ℕ
 refused r = line "refused" (number r ∷ [])
 
 abbrev pub printedFor : Verdict → List ℕ → List ℕ
-printedFor (Refused r) lines = refused r
-printedFor Admitted lines = lines
+printedFor v lines = elim v [ Refused r ↦ refused r | Admitted ↦ lines ]
 
 -- "In a file words are little-endian."
 unfoldable pub littleEndian : ℕ → List ℕ → ℕ

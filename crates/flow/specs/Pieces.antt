@@ -12,14 +12,15 @@ use Rattle.flow.specs.declared.Place.the-variants.{Node, Past}
 use Rattle.flow.specs.declared.Verdict.{Verdict}
 use Rattle.flow.specs.declared.Verdict.the-variants.{Admitted, Refused}
 use Rattle.search.specs.Search.{closure}
-use Rattle.flow.specs.Sheet.{Item}
-use Rattle.flow.specs.Kinds.{WHILE, REPEAT, IF, END, UNTIL, LOCAL, NAME, LABEL, GOTO, DO, CALL, PLAIN, argumentFits, itemFits, isCode, literalTruth}
-use Rattle.flow.specs.Refusals.{judgeVerdict, chartBenchTooSmall, judgeBenchTooSmall, miscount, useMiscount, allFit, badItem, outnumbered, tooDeep, mayStand, openAfter, pairsUp, besideEachOther, sideBySide, badNesting, inLine, within, scopesAfter, held, offTheLine, nameFits, namesFit, badName, nameCount, useFits, usesFit, badUse, lowest, sheetTests}
+use Rattle.flow.specs.Sheet.{all, Item}
+use Rattle.flow.specs.Kinds.{kinds, argumentFits, itemFits, isCode, literalTruth}
+use Rattle.flow.specs.Refusals.{judgeVerdict, chartBenchTooSmall, judgeBenchTooSmall, miscount, badItem, outnumbered, tooDeep, mayStand, openAfter, pairsUp, besideEachOther, sideBySide, badNesting, inLine, scopesAfter, held, offTheLine, nameFits, namesFit, badName, nameCount, useFits, usesFit, badUse, lowest, sheetTests}
 use Rattle.flow.specs.Graph.{nodeCount, graph, newNode, connect, moveTo, advanceTo, recordCode, setStart, code, closeInto, jump, declare, labelNode, simpleStmt, newNodes, withLabels, entered, inside, inLoop, start, outside, buildStmt, buildBlock, buildArms}
 use Rattle.flow.specs.Reachable.{successors, reachable, nodeAt, canRun, nodeAmong}
 use Rattle.flow.specs.Findings.{Finding, findings, localsFrom, locals, noValue, writesJudged, tracked, isInClosure, usesFrom, allFound, isAliveAt, afterWrites, liveAfterWrites, isEmptyRead, firstEmptyRead, firstAt, meetsHere, comesFrom, meets, ahead, anyFlag, isOverwrittenUnread, isOverwritten, overwrittenAt, overwrittenBelow, firstUnassignedUse, initialOverwritten, writesOverwritten, usesOf, unassignedOf, overwrittenOf, ofEach}
 use Rattle.flow.specs.Tree.{inFront, opened, read, parse, tree, labelsOf}
 use Rattle.flow.specs.Listing.{bytes, printedWords, ownBench, digits, numbers, findingLine, findingLines, report}
+open record kinds using (WHILE, REPEAT, IF, END, UNTIL, LOCAL, NAME, LABEL, GOTO, DO, CALL, PLAIN)
 
 -- an item of a kind, an argument, a start and an end; a scoped item's argument is its condition + 32 × its scope end
 abbrev pub item : ℕ → ℕ → ℕ → ℕ → Item
@@ -154,5 +155,5 @@ slips =
     ∷ []
 
 pub pieces-hold : allHold (starred ++ slips) ≡ true
-unfolding starred slips closure argumentFits itemFits isCode literalTruth chartBenchTooSmall judgeBenchTooSmall miscount useMiscount allFit badItem outnumbered tooDeep mayStand openAfter pairsUp besideEachOther sideBySide badNesting inLine within scopesAfter held offTheLine nameFits namesFit badName nameCount useFits usesFit badUse lowest sheetTests judgeVerdict inFront opened read parse tree labelsOf newNode connect moveTo advanceTo recordCode setStart code closeInto jump declare labelNode simpleStmt newNodes withLabels entered inside inLoop start outside graph buildStmt buildBlock buildArms reachable nodeAmong nodeAt canRun localsFrom locals noValue writesJudged tracked isInClosure usesFrom allFound isAliveAt afterWrites liveAfterWrites isEmptyRead firstEmptyRead firstAt meetsHere comesFrom meets ahead anyFlag isOverwrittenUnread isOverwritten overwrittenAt overwrittenBelow firstUnassignedUse initialOverwritten writesOverwritten usesOf unassignedOf overwrittenOf ofEach findings digits numbers findingLine findingLines report printedWords
+unfolding starred slips closure argumentFits itemFits isCode literalTruth chartBenchTooSmall judgeBenchTooSmall miscount all badItem outnumbered tooDeep mayStand openAfter pairsUp besideEachOther sideBySide badNesting inLine scopesAfter held offTheLine nameFits namesFit badName nameCount useFits usesFit badUse lowest sheetTests judgeVerdict inFront opened read parse tree labelsOf newNode connect moveTo advanceTo recordCode setStart code closeInto jump declare labelNode simpleStmt newNodes withLabels entered inside inLoop start outside graph buildStmt buildBlock buildArms reachable nodeAmong nodeAt canRun localsFrom locals noValue writesJudged tracked isInClosure usesFrom allFound isAliveAt afterWrites liveAfterWrites isEmptyRead firstEmptyRead firstAt meetsHere comesFrom meets ahead anyFlag isOverwrittenUnread isOverwritten overwrittenAt overwrittenBelow firstUnassignedUse initialOverwritten writesOverwritten usesOf unassignedOf overwrittenOf ofEach findings digits numbers findingLine findingLines report printedWords
 pieces-hold = refl

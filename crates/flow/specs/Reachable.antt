@@ -42,12 +42,10 @@ nodeAt g o = nodeAmong (g .codes .span) (g .codes .node) o
 
 -- "yes exactly when there is none or the node is reachable"
 unfoldable pub canRun : Graph → Place → Bool
-canRun g (Node v) = eqb (getD (reachable g) v 0) 1
-canRun g Past = true
+canRun g p = elim p [ Node v ↦ eqb (getD (reachable g) v 0) 1 | Past ↦ true ]
 
 abbrev pub runAnswer : Verdict → Graph → ℕ → RunAnswer
-runAnswer (Refused r) g o = RunRefused r
-runAnswer Admitted g o = Ran (nodeAt g o) (canRun g (nodeAt g o))
+runAnswer v g o = elim v [ Refused r ↦ RunRefused r | Admitted ↦ Ran (nodeAt g o) (canRun g (nodeAt g o)) ]
 
 unfoldable pub run : List ℕ → ℕ → RunAnswer
 run ws o = runAnswer (sheetVerdict ws) (graph ws) o
@@ -57,8 +55,7 @@ abbrev pub countsOf : Graph → Counts
 countsOf g = record { nodes = nodeCount g; codes = length (g .codes .span); names = length (g .names .span) }
 
 abbrev pub chartAnswer : Verdict → Graph → ChartAnswer
-chartAnswer (Refused r) g = ChartRefused r
-chartAnswer Admitted g = Charted (countsOf g)
+chartAnswer v g = elim v [ Refused r ↦ ChartRefused r | Admitted ↦ Charted (countsOf g) ]
 
 unfoldable pub chart : Bench → List ℕ → ChartAnswer
 chart b ws = chartAnswer (chartVerdict b ws) (graph ws)

@@ -10,19 +10,13 @@ use Rattle.flow.specs.declared.Refusal.{Refusal}
 use Rattle.flow.specs.declared.Refusal.the-variants.{BenchTooSmall, Miscount, BadItem, TooDeep, BadNesting, OffTheLine, BadName, BadUse}
 use Rattle.flow.specs.declared.Verdict.{Verdict}
 use Rattle.flow.specs.declared.Verdict.the-variants.{Admitted, Refused}
-use Rattle.flow.specs.Sheet.{Item, kind, oneOf, count, outerEnd, items, startOf, endOf, scopeEndOf, useWords, useSpans, localOf}
-use Rattle.flow.specs.Kinds.{REPEAT, IF, ELSEIF, ELSE, END, UNTIL, LOCAL, NAME, CONTINUE, RETURN, itemFits, opens, closes, isCode}
+use Rattle.flow.specs.Sheet.{Item, kind, oneOf, all, count, outerEnd, items, startOf, endOf, scopeEndOf, useWords, useSpans, localOf}
+use Rattle.flow.specs.Kinds.{kinds, itemFits, opens, closes, isCode}
+open record kinds using (REPEAT, IF, ELSEIF, ELSE, END, UNTIL, LOCAL, NAME, CONTINUE, RETURN)
 
 -- the table's numbers
 abbrev pub number : Refusal → ℕ
-number BenchTooSmall = 1
-number Miscount = 2
-number BadItem = 3
-number TooDeep = 4
-number BadNesting = 5
-number OffTheLine = 6
-number BadName = 7
-number BadUse = 8
+number r = elim r [ BenchTooSmall ↦ 1 | Miscount ↦ 2 | BadItem ↦ 3 | TooDeep ↦ 4 | BadNesting ↦ 5 | OffTheLine ↦ 6 | BadName ↦ 7 | BadUse ↦ 8 ]
 
 -- 1: "columns lent below 1,600 nodes, 1,024 codes, 1,024 locals, or (judge) 3,072 findings"
 unfoldable pub chartBenchTooSmall : Bench → Bool
@@ -31,20 +25,13 @@ chartBenchTooSmall b = ltb (b .nodes) 1600 || ltb (b .codes) 1024 || ltb (b .loc
 unfoldable pub judgeBenchTooSmall : Bench → Bool
 judgeBenchTooSmall b = chartBenchTooSmall b || ltb (b .findings) 3072
 
--- 2: "fewer than 2 words (use sheet: 1), n or m above 1,024, or length not 2n + 2 (2m + 1)"
-unfoldable pub miscount : List ℕ → Bool
-miscount ws = ltb (length ws) 2 || ltb 1024 (count ws) || not (eqb (length ws) (2 * count ws + 2))
-
-unfoldable pub useMiscount : List ℕ → Bool
-useMiscount us = ltb (length us) 1 || ltb 1024 (count us) || not (eqb (length us) (2 * count us + 1))
+-- 2: "fewer than 2 words (use sheet: 1), n or m above 1,024, or length not 2n + 2 (2m + 1)", where k words stand before the two arrays
+unfoldable pub miscount : ℕ → List ℕ → Bool
+miscount k ws = ltb (length ws) k || ltb 1024 (count ws) || not (eqb (length ws) (2 * count ws + k))
 
 -- 3: "kind, argument, word 1 or span not as above, or start past end"
-unfoldable pub allFit : List Item → Bool
-allFit [] = true
-allFit (i ∷ is) = itemFits i && allFit is
-
 unfoldable pub badItem : List ℕ → Bool
-badItem ws = not (ltb (outerEnd ws) (2 ^ 32) && allFit (items ws))
+badItem ws = not (ltb (outerEnd ws) (2 ^ 32) && all itemFits (items ws))
 
 -- 4: "among some first items, kinds 1 to 5 outnumber 8 and 9 by more than 64": after o openers and c closers, with the rest to come
 abbrev pub one : Bool → ℕ
@@ -93,20 +80,15 @@ unfoldable pub inLine : ℕ → List Item → Bool
 inLine p [] = true
 inLine p (i ∷ is) = (not (isCode i) || leb p (startOf (i .span))) && inLine (cond (isCode i) (endOf (i .span)) p) is
 
--- "or ends past the scope end of a block that holds it (for an ELSEIF, the blocks around its IF)": the scope ends of the blocks around, the innermost first
-unfoldable pub within : ℕ → List ℕ → Bool
-within e [] = true
-within e (s ∷ ss) = leb e s && within e ss
-
+-- the scope ends of the blocks around, the innermost first
 unfoldable pub scopesAfter : ℕ → ℕ → List ℕ → List ℕ
-scopesAfter k s ss =
-    cond (opens k) (s ∷ ss) (cond (closes k) (tail ss) (cond (oneOf k (ELSEIF ∷ ELSE ∷ [])) (s ∷ tail ss) ss))
+scopesAfter k s ss = cond (opens k) (s ∷ ss) (cond (closes k) (tail ss) (cond (oneOf k (ELSEIF ∷ ELSE ∷ [])) (s ∷ tail ss) ss))
 
--- "REPEAT's scope end is not its UNTIL's end"
+-- "or ends past the scope end of a block that holds it (for an ELSEIF, the blocks around its IF); REPEAT's scope end is not its UNTIL's end"
 unfoldable pub held : List ℕ → List Item → Bool
 held ss [] = true
 held ss (i ∷ is) =
-    (not (isCode i) || within (endOf (i .span)) (cond (eqb (kind i) ELSEIF) (tail ss) ss))
+    (not (isCode i) || all (leb (endOf (i .span))) (cond (eqb (kind i) ELSEIF) (tail ss) ss))
     && (not (eqb (kind i) UNTIL) || eqb (endOf (i .span)) (getD ss 0 0)) && held (scopesAfter (kind i) (scopeEndOf (i .word)) ss) is
 
 unfoldable pub offTheLine : List ℕ → Bool
@@ -141,35 +123,25 @@ unfoldable pub badUse : List ℕ → List ℕ → Bool
 badUse ws us = not (usesFit (nameCount (items ws)) (useWords us) (useSpans us))
 
 -- "The lowest number that applies is returned, and no other case refuses": the tests in the order of precedence
-pub record Test : Type 0 where
-  pub refusal : Refusal
-  pub applies : Bool
+abbrev pub Test : Type 0
+Test = Refusal × Bool
 
 unfoldable pub lowest : List Test → Verdict
 lowest [] = Admitted
-lowest (t ∷ ts) = cond (t .applies) (Refused (t .refusal)) (lowest ts)
+lowest (t ∷ ts) = cond (t .1) (Refused (t .0)) (lowest ts)
 
 -- 3 to 7, which ask of the sheet alone
 unfoldable pub sheetTests : List ℕ → List Test → List Test
 sheetTests ws rest =
-    record { refusal = BadItem; applies = badItem ws }
-    ∷ record { refusal = TooDeep; applies = tooDeep ws }
-    ∷ record { refusal = BadNesting; applies = badNesting ws }
-    ∷ record { refusal = OffTheLine; applies = offTheLine ws }
-    ∷ record { refusal = BadName; applies = badName ws }
-    ∷ rest
+    (BadItem, badItem ws) ∷ (TooDeep, tooDeep ws) ∷ (BadNesting, badNesting ws) ∷ (OffTheLine, offTheLine ws) ∷ (BadName, badName ws) ∷ rest
 
 -- "Run and the label check lend nothing and never give 1; only judge gives 8."
 unfoldable pub sheetVerdict : List ℕ → Verdict
-sheetVerdict ws = lowest (record { refusal = Miscount; applies = miscount ws } ∷ sheetTests ws [])
+sheetVerdict ws = lowest ((Miscount, miscount 2 ws) ∷ sheetTests ws [])
 
 unfoldable pub chartVerdict : Bench → List ℕ → Verdict
-chartVerdict b ws =
-    lowest (record { refusal = BenchTooSmall; applies = chartBenchTooSmall b } ∷ record { refusal = Miscount; applies = miscount ws } ∷ sheetTests ws [])
+chartVerdict b ws = lowest ((BenchTooSmall, chartBenchTooSmall b) ∷ (Miscount, miscount 2 ws) ∷ sheetTests ws [])
 
 unfoldable pub judgeVerdict : Bench → List ℕ → List ℕ → Verdict
 judgeVerdict b ws us =
-    lowest
-    (record { refusal = BenchTooSmall; applies = judgeBenchTooSmall b }
-    ∷ record { refusal = Miscount; applies = miscount ws || useMiscount us }
-    ∷ sheetTests ws (record { refusal = BadUse; applies = badUse ws us } ∷ []))
+    lowest ((BenchTooSmall, judgeBenchTooSmall b) ∷ (Miscount, miscount 2 ws || miscount 1 us) ∷ sheetTests ws ((BadUse, badUse ws us) ∷ []))

@@ -1,6 +1,6 @@
 -- 01, "The sheet": its words, items, kinds, arguments and spans, and the use sheet.
 -- Assumes nothing: these are definitions.
-use mathlib.Core.Bool.{Bool, false, _||_}
+use mathlib.Core.Bool.{Bool, true, false, _&&_, _||_}
 use mathlib.Core.List.{List, [], _∷_}
 use Prim.Native.Nat.{ℕ, _+_, _/_, _%_, _^_}
 use lib.ListN.{take, drop, getD}
@@ -10,6 +10,11 @@ use lib.Dec.{eqb}
 abbrev pub oneOf : ℕ → List ℕ → Bool
 oneOf k [] = false
 oneOf k (x ∷ xs) = eqb k x || oneOf k xs
+
+-- a test holds of each of a list
+unfoldable pub all : {A : Type 0} → (A → Bool) → List A → Bool
+all p [] = true
+all p (x ∷ xs) = p x && all p xs
 
 -- "Word 0 is n, the item count, 0 to 1,024. Word 1 is the outer block's scope end, below 2^32."
 abbrev pub count : List ℕ → ℕ
@@ -47,9 +52,8 @@ abbrev pub scopeEndOf : ℕ → ℕ
 scopeEndOf w = argumentOf w / 32
 
 -- an item: its words of the two arrays
-pub record Item : Type 0 where
-  pub word : ℕ
-  pub span : ℕ
+abbrev pub Item : Type 0
+Item = record { word : ℕ; span : ℕ }
 
 abbrev pub kind : Item → ℕ
 kind i = kindOf (i .word)

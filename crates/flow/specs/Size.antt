@@ -5,8 +5,9 @@ use mathlib.Core.List.{[], _∷_}
 use Prim.Native.Nat.{ℕ, _+_}
 use lib.Dec.{eqb}
 use Rattle.flow.specs.Sheet.{oneOf, kindOf, argumentOf}
-use Rattle.flow.specs.Kinds.{NAME, LABEL, EMPTY}
+use Rattle.flow.specs.Kinds.{kinds}
 use Rattle.flow.specs.Tree.{Stmt, Block, Arms, simple, do-block, while-loop, repeat-loop, for-loop, if-stmt, done, then, no-more, elseif, otherwise}
+open record kinds using (NAME, LABEL, EMPTY)
 
 -- a statement of one item, by its kind and argument
 abbrev pub simpleNodes : ℕ → ℕ → ℕ

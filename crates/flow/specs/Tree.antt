@@ -5,16 +5,16 @@ use mathlib.Core.List.{List, [], _∷_, _++_}
 use Prim.Native.Nat.{ℕ}
 use lib.Dec.{eqb}
 use Rattle.flow.specs.Sheet.{Item, kind, kindOf, argumentOf}
-use Rattle.flow.specs.Kinds.{DO, WHILE, REPEAT, FOR, IF, ELSEIF, ELSE, LABEL, closes}
+use Rattle.flow.specs.Kinds.{kinds, closes}
+open record kinds using (DO, WHILE, REPEAT, FOR, IF, ELSEIF, ELSE, LABEL)
 
 -- a word w and a span s are those of the statement's first item
 mutual
   pub data Stmt : Type 0 where
     simple : (w s : ℕ) → Stmt
     do-block : (w : ℕ) → Block → Stmt
-    while-loop : (w s : ℕ) → Block → Stmt
+    while-loop for-loop : (w s : ℕ) → Block → Stmt
     repeat-loop : (w : ℕ) → Block → (until : ℕ) → Stmt
-    for-loop : (w s : ℕ) → Block → Stmt
     if-stmt : (w s : ℕ) → Block → Arms → Stmt
 
   pub data Block : Type 0 where
@@ -27,15 +27,12 @@ mutual
     otherwise : (w : ℕ) → Block → Arms → Arms
 
 -- an open block as far as it has been read, from its end on; the arms that follow it; the span of the item that closes it
-pub record Frame : Type 0 where
-  pub body : Block
-  pub arms : Arms
-  pub close : ℕ
+abbrev pub Frame : Type 0
+Frame = record { body : Block; arms : Arms; close : ℕ }
 
 -- the open blocks, of which there is always one
-pub record Open : Type 0 where
-  pub top : Frame
-  pub below : List Frame
+abbrev pub Open : Type 0
+Open = record { top : Frame; below : List Frame }
 
 abbrev pub nothingRead : Frame
 nothingRead = record { body = done; arms = no-more; close = 0 }
@@ -74,12 +71,9 @@ tree is = parse is .top .body
 
 -- "each named LABEL standing directly in it gets a node, in order"; "name number 0 to 65,535; 0 has no identifier"
 abbrev pub labelName : Stmt → List ℕ
-labelName (simple w s) = cond (eqb (kindOf w) LABEL && not (eqb (argumentOf w) 0)) (argumentOf w ∷ []) []
-labelName (do-block w b) = []
-labelName (while-loop w s b) = []
-labelName (repeat-loop w b u) = []
-labelName (for-loop w s b) = []
-labelName (if-stmt w s b as') = []
+labelName st =
+    let name : ℕ → List ℕ = λ w. cond (eqb (kindOf w) LABEL && not (eqb (argumentOf w) 0)) (argumentOf w ∷ []) [] in
+    elim st [ simple w s ↦ name w | do-block w b ↦ [] | while-loop w s b ↦ [] | repeat-loop w b u ↦ [] | for-loop w s b ↦ [] | if-stmt w s b as' ↦ [] ]
 
 unfoldable pub labelsOf : Block → List ℕ
 labelsOf done = []

@@ -16,7 +16,7 @@ module _ (s : tie.Start) where
   words = now (s .args .sheet)
 
   abbrev lengths : List Test
-  lengths = lengthTests (chartBenchTooSmall (s .args .bench)) (miscount words)
+  lengths = lengthTests (chartBenchTooSmall (s .args .bench)) (miscount 2 words)
 
 lengths-are : (c : tie.After-length-verdict) → lowest (lengths (c .before .before .before .before)) ≡ c .length-verdict .result
 lengths-are c = sym (c .length-verdict .ensures ∙ ap₂ (λ (x y : Bool). lowest (lengthTests x y)) (c .before .before .chart-bench-too-small .ensures) (c .before .miscount .ensures))

@@ -5,7 +5,7 @@ use mathlib.Core.List.{List, [], _∷_}
 use mathlib.Core.Path.{_≡_, sym, ap₂, _∙_}
 use native.Mathlib.Omega.{arith}
 use denote.Ref.{now}
-use Rattle.flow.specs.Refusals.{Test, judgeBenchTooSmall, miscount, useMiscount, badUse, lowest, sheetTests, judgeVerdict}
+use Rattle.flow.specs.Refusals.{Test, judgeBenchTooSmall, miscount, badUse, lowest, sheetTests, judgeVerdict}
 use Rattle.flow.specs.declared.Refusal.the-variants.{BadUse}
 use Rattle.admission.specs.Lengths.{lengthTests}
 use Rattle.admission.proofs.Bools.{or-parts}
@@ -21,16 +21,16 @@ module _ (s : tie.Start) where
   others = now (s .args .uses)
 
   abbrev lengths : List Test
-  lengths = lengthTests (judgeBenchTooSmall (s .args .bench)) (miscount words || useMiscount others)
+  lengths = lengthTests (judgeBenchTooSmall (s .args .bench)) (miscount 2 words || miscount 1 others)
 
   abbrev last : List Test
-  last = record { refusal = BadUse; applies = badUse words others } ∷ []
+  last = (BadUse, badUse words others) ∷ []
 
 lengths-are : (c : tie.After-length-verdict) → lowest (lengths (c .before .before .before .before .before)) ≡ c .length-verdict .result
 lengths-are c = sym (c .length-verdict .ensures ∙ ap₂ (λ (x y : Bool). lowest (lengthTests x y)) (c .before .before .judge-bench-too-small .ensures) (c .before .any-miscount .ensures))
 
 -- both sheets are counted right
-counted : (c : tie.After-enum-told) → (miscount (words (c .before .before .before .before .before .before .before)) ≡ false) × (useMiscount (others (c .before .before .before .before .before .before .before)) ≡ false)
+counted : (c : tie.After-enum-told) → (miscount 2 (words (c .before .before .before .before .before .before .before)) ≡ false) × (miscount 1 (others (c .before .before .before .before .before .before .before)) ≡ false)
 counted c = or-parts _ _ (second-passes _ _ (lengths-are (c .before .before) ∙ c .enum-told .given .1))
 
 -- the verdict of 8 alone, where the tests before it pass

@@ -7,10 +7,11 @@ use native.Mathlib.Omega.{arith}
 use lib.Dec.{ltb}
 use borrow.Author.Tests.{not-false}
 use denote.Ref.{now}
-use Rattle.flow.specs.Refusals.{allFit, outnumbered, pairsUp, sideBySide, inLine, held, namesFit, badItem, tooDeep, badNesting, offTheLine, badName, lowest, sheetTests}
-use Rattle.flow.specs.Sheet.{Item, outerEnd}
+use Rattle.flow.specs.Refusals.{outnumbered, pairsUp, sideBySide, inLine, held, namesFit, badItem, tooDeep, badNesting, offTheLine, badName, lowest, sheetTests}
+use Rattle.flow.specs.Sheet.{Item, all, outerEnd}
+use Rattle.flow.specs.Kinds.{itemFits}
 use Rattle.admission.proofs.Bools.{and-parts}
-use Rattle.admission.proofs.Parts.{Counted, sheet-counted, part-lengths, on-items}
+use Rattle.admission.proofs.Parts.{Counted, counted, part-lengths, on-items}
 use Rattle.admission.proofs.tests_verdict.Statement.{statement}
 use Rattle.admission.proofs.tests_verdict.Tie as tie
 
@@ -19,13 +20,13 @@ module _ (s : tie.Start) where
   words = now (s .args .sheet)
 
   well : Counted 2 words
-  well = sheet-counted words (s .pre)
+  well = counted 2 words (s .pre)
 
 bad-item-is : (c : tie.After-bad-item) → badItem (words (c .before .before .before .before .before .before)) ≡ c .bad-item .result
 unfolding badItem
 bad-item-is c =
     let s = c .before .before .before .before .before .before in
-    on-items (λ (is : List Item). not (ltb (outerEnd (words s)) (2 ^ 32) && allFit is)) (words s) (well s) (c .bad-item .ensures)
+    on-items (λ (is : List Item). not (ltb (outerEnd (words s)) (2 ^ 32) && all itemFits is)) (words s) (well s) (c .bad-item .ensures)
 
 too-deep-is : (c : tie.After-too-deep) → tooDeep (words (c .before .before .before .before .before .before .before .before)) ≡ c .too-deep .result
 unfolding tooDeep

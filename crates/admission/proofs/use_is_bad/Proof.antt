@@ -5,7 +5,7 @@ use mathlib.Core.Path.{sym}
 use native.Mathlib.Omega.{arith}
 use denote.Ref.{now}
 use Rattle.flow.specs.Refusals.{nameCount, badUse}
-use Rattle.admission.proofs.Parts.{Counted, sheet-counted, use-counted, first-is, second-is, part-lengths, on-items}
+use Rattle.admission.proofs.Parts.{Counted, counted, first-is, second-is, part-lengths, on-items}
 use Rattle.admission.proofs.use_is_bad.Statement.{statement}
 use Rattle.admission.proofs.use_is_bad.Tie as tie
 
@@ -17,10 +17,10 @@ module _ (s : tie.Start) where
   others = now (s .args .uses)
 
   well : Counted 2 words
-  well = sheet-counted words (s .pre .0)
+  well = counted 2 words (s .pre .0)
 
   well-used : Counted 1 others
-  well-used = use-counted others (s .pre .1)
+  well-used = counted 1 others (s .pre .1)
 
 shared-slice-read-m : tie.Need-shared-slice-read-m
 shared-slice-read-m c = omega (arith, well (c .before .before .before))

@@ -204,7 +204,7 @@ arms-shared-slice-read-w : (t : ℕ) → arms-lts.Need-shared-slice-read-w (arms
 arms-shared-slice-read-w t c = omega (arith, c .before .if1 .left)
 
 arms-arm-test-requires : (t : ℕ) → arms-lts.Need-arm-test-requires (arms-claims t) (arms-at t) arms.Post
-arms-arm-test-requires t c κs = ((_, _, good-item (c .before .before .before .before .before .past .result) (c .before .before .before .before .before .past .ensures .0) (omega (arith, c .before .before .before .before .before .past .ensures .1, c .before .before .before .before .before .before .before .before .before .before .before .pre .1 .0 .0 .few)) (c .before .before .before .before .before .before .before .before .before .before .before .pre .1 .0 .1)), (omega (arith, elseif-room (c .before .before .before .before .before .before .before .before .before .before .before .args .kinds .now) (c .before .before .before .before .before .before .before .before .before .before .before .args .kinds .now) refl (c .before .before .before .before .before .before .before .before .before .before .before .args .b) (omega (arith, c .before .before .before .before .if1 .left)) (c .before .before .before .before .before .before .before .before .before .before .before .pre .1 .0 .4) (c .before .before .if2 .taken)), omega (arith, c .before .before .before .before .before .before .before .before .before .before .before .pre .1 .0 .1 .codes, c .before .before .before .before .before .past .ensures .2 (omega (arith, c .before .before .before .before .if1 .left))), omega (arith, c .before .before .before .before .if1 .left, c .before .before .before .before .before .before .before .before .before .before .before .pre .1 .0 .0 .few), c .before .before .before .before .before .before .before .before .before .before .before .pre .1 .1 .0))
+arms-arm-test-requires t c κs = ((_, _, good-item (c .before .before .before .before .before .past .result) (c .before .before .before .before .before .past .ensures .0) (omega (arith, c .before .before .before .before .before .past .ensures .1, c .before .before .before .before .before .before .before .before .before .before .before .pre .1 .0 .0 .few)) (c .before .before .before .before .before .before .before .before .before .before .before .pre .1 .0 .1)), (omega (arith, elseif-room (c .before .before .before .before .before .before .before .before .before .before .before .args .kinds .now) (c .before .before .before .before .before .before .before .before .before .before .before .args .kinds .now) refl (c .before .before .before .before .before .before .before .before .before .before .before .args .b) (omega (arith, c .before .before .before .before .if1 .left)) (c .before .before .before .before .before .before .before .before .before .before .before .pre .1 .0 .4) (c .before .before .if2 .taken)), omega (arith, c .before .before .before .before .before .before .before .before .before .before .before .pre .1 .0 .1 .codes, c .before .before .before .before .before .past .ensures .2 (omega (arith, c .before .before .before .before .if1 .left))), omega (arith, c .before .before .before .before .before .past .ensures .2 (omega (arith, c .before .before .before .before .if1 .left))), c .before .before .before .before .before .before .before .before .before .before .before .pre .1 .1 .0))
 
 arms-scoped-block-requires : (t : ℕ) → arms-lts.Need-scoped-block-requires (arms-claims t) (arms-at t) arms.Post
 arms-scoped-block-requires t c κs =
@@ -414,7 +414,7 @@ repeat-loop-repeat-end-requires : (t : ℕ) → repeat-loop-lts.Need-repeat-end-
 repeat-loop-repeat-end-requires t c κs =
     let ca = closed-at (c .before .before .before .before .before .before .before .before .before .before .before .before .before .before .before .before .before .before .before .before .before .before .before .before .before .before .before .args .kinds .now) (c .before .before .before .before .before .before .before .before .before .before .before .before .before .before .before .before .before .before .before .before .before .before .before .before .before .before .before .args .kinds .now) refl (c .before .before .before .before .before .before .before .before .before .before .before .loop-body .result .item) (openAt (c .before .before .before .before .before .before .before .before .before .before .before .before .before .before .before .before .before .before .before .before .before .before .before .before .before .before .before .args .kinds .now) (c .before .before .before .before .before .before .before .before .before .before .before .before .before .before .before .before .before .before .before .before .before .before .before .before .before .before .before .args .kinds .now) ((c .before .before .before .before .before .before .before .before .before .before .before .before .before .before .before .before .before .before .before .before .before .before .before .before .before .before .before .args .i) + 1)) (c .before .before .before .before .before .before .before .before .before .before .before .loop-body .ensures (c .before .before .before .before .before .before .before .before .before .before .before .before .before .before .before .before .before .before .before .before .before .before .before .before .before .before .before .args .kinds .now) refl .ended) (c .before .before .before .before .before .before .before .before .before .before .before .loop-body .ensures (c .before .before .before .before .before .before .before .before .before .before .before .before .before .before .before .before .before .before .before .before .before .before .before .before .before .before .before .args .kinds .now) refl .shut ∙ ap (λ j. bare (openAt (c .before .before .before .before .before .before .before .before .before .before .before .before .before .before .before .before .before .before .before .before .before .before .before .before .before .before .before .args .kinds .now) (c .before .before .before .before .before .before .before .before .before .before .before .before .before .before .before .before .before .before .before .before .before .before .before .before .before .before .before .args .kinds .now) j)) (c .before .before .before .before .before .before .before .before .before .before .before .before .before .before .before .before .before .before .repeat-head .ensures (c .before .before .before .before .before .before .before .before .before .before .before .before .before .before .before .before .before .before .before .before .before .before .before .before .before .before .before .args .kinds .now) _ _ _ (c .before .before .before .before .before .before .before .before .before .before .before .before .before .before .before .before .before .before .before .before .before .before .before .before .before .before .before .pre .1 .1) .item ∙ c .before .before .before .before .before .before .before .before .before .before .before .before .before .before .before .before .before .before .before .before .before .before .before .before .before .before .before .pre .1 .2)) (c .before .before .before .before .before .before .before .before .before .before .before .before .before .before .before .before .before .before .before .before .before .before .before .before .before .before .before .pre .1 .0 .tidy (c .before .before .before .before .before .before .before .before .before .before .before .before .before .before .before .before .before .before .before .before .before .before .before .before .before .before .before .args .kinds .now) refl _ (c .before .before .before .before .before .before .before .before .before .before .before .before .before .before .before .before .before .before .before .before .before .before .before .before .before .before .before .pre .1 .4) (omega (arith, c .before .before .before .before .before .before .before .before .before .before .before .before .before .before .before .before .before .before .before .before .before .before .before .before .before .before .before .pre .1 .5)) (omega (arith, c .before .before .before .before .before .before .before .before .before .before .before .before .before .before .before .before .before .before .before .before .before .before .before .before .before .before .before .pre .1 .5))) (c .before .before .before .before .before .before .before .before .before .before .before .before .before .before .before .before .before .before .before .before .before .before .before .before .before .before .before .pre .1 .0 .closed (c .before .before .before .before .before .before .before .before .before .before .before .before .before .before .before .before .before .before .before .before .before .before .before .before .before .before .before .args .kinds .now) refl _ (c .before .before .before .before .before .before .before .before .before .before .before .before .before .before .before .before .before .before .before .before .before .before .before .before .before .before .before .pre .1 .4) (c .before .before .before .before .before .before .before .before .before .before .before .before .before .before .before .before .before .before .before .before .before .before .before .before .before .before .before .pre .1 .5)) in
     let bd = c .before .before .before .before .before .before .before .before .before .before .before .loop-body .ensures (c .before .before .before .before .before .before .before .before .before .before .before .before .before .before .before .before .before .before .before .before .before .before .before .before .before .before .before .args .kinds .now) refl .moved in
-    ((_, _, good-item (c .before .before .past .result) (c .before .before .past .ensures .0) (omega (arith, c .before .before .past .ensures .1, c .before .before .before .before .before .before .before .before .before .before .before .before .before .before .before .before .before .before .before .before .before .before .before .before .before .before .before .pre .1 .0 .few)) (c .before .before .before .before .before .before .before .before .before .before .before .loop-body .ensures (c .before .before .before .before .before .before .before .before .before .before .before .before .before .before .before .before .before .before .before .before .before .before .before .before .before .before .before .args .kinds .now) refl .moved .good)), (omega (arith, c .before .before .before .before .before .before .before .before .before .before .before .before .before .before .before .before .before .before .repeat-head .ensures (c .before .before .before .before .before .before .before .before .before .before .before .before .before .before .before .before .before .before .before .before .before .before .before .before .before .before .before .args .kinds .now) _ _ _ (c .before .before .before .before .before .before .before .before .before .before .before .before .before .before .before .before .before .before .before .before .before .before .before .before .before .before .before .pre .1 .1) .nodes, bd .grown .nodes), omega (arith, bd .good .codes, c .before .before .past .ensures .2 (ca .0)), omega (arith, ca .0, c .before .before .before .before .before .before .before .before .before .before .before .before .before .before .before .before .before .before .before .before .before .before .before .before .before .before .before .pre .1 .0 .few)))
+    ((_, _, good-item (c .before .before .past .result) (c .before .before .past .ensures .0) (omega (arith, c .before .before .past .ensures .1, c .before .before .before .before .before .before .before .before .before .before .before .before .before .before .before .before .before .before .before .before .before .before .before .before .before .before .before .pre .1 .0 .few)) (c .before .before .before .before .before .before .before .before .before .before .before .loop-body .ensures (c .before .before .before .before .before .before .before .before .before .before .before .before .before .before .before .before .before .before .before .before .before .before .before .before .before .before .before .args .kinds .now) refl .moved .good)), (omega (arith, c .before .before .before .before .before .before .before .before .before .before .before .before .before .before .before .before .before .before .repeat-head .ensures (c .before .before .before .before .before .before .before .before .before .before .before .before .before .before .before .before .before .before .before .before .before .before .before .before .before .before .before .args .kinds .now) _ _ _ (c .before .before .before .before .before .before .before .before .before .before .before .before .before .before .before .before .before .before .before .before .before .before .before .before .before .before .before .pre .1 .1) .nodes, bd .grown .nodes), omega (arith, bd .good .codes, c .before .before .past .ensures .2 (ca .0)), omega (arith, c .before .before .past .ensures .2 (ca .0))))
 
 repeat-loop-returns : (t : ℕ) → repeat-loop-lts.Need-returns (repeat-loop-claims t) (repeat-loop-at t) repeat-loop.Post
 repeat-loop-returns t c = λ ss e.

@@ -4,7 +4,7 @@ use mathlib.Core.Path.{sym, _∙_}
 use native.Mathlib.Omega.{arith}
 use lib.ListN.{length}
 use borrow.Author.Tests.{lt-ltb, le-ltb, not-true, not-false}
-use Rattle.flow.specs.Refusals.{allFit}
+use Rattle.flow.specs.Sheet.{all}
 use Rattle.admission.proofs.Sweep.{Swept, begin, onward, fails, ends}
 use Rattle.admission.proofs.Sweeps.{fitting}
 use Rattle.admission.proofs.item.bad_item.Statement.{statement}
@@ -51,7 +51,7 @@ loop-again : tie.Need-loop-again Inv-loop μ-loop
 loop-again c = onward (c .before .before .before .before .before .loop .inv) (c .before .before .before .before .before .before .before .before .before .pre .0) (c .before .before .before .before .loop-test .taken) (sym (c .before .item-fits .ensures) ∙ not-false _ (c .if2 .left))
 
 returns-3 : tie.Need-returns-3 Inv-loop μ-loop
-unfolding allFit
+unfolding all
 returns-3 c =
     rw (lt-ltb _ _ (c .before .before .if1 .left), ends (c .before .loop .inv) (c .loop-test .left))
 

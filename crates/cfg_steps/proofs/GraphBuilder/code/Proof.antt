@@ -40,7 +40,7 @@ same-length-2 c = search needs
 
 returns : tie.Need-returns
 returns c = (
-  λ ks n l ok q. full-code-did ks _ _ _ n l _ ok _ (c .before .before .before .before .before .before .pre .1 .0 .1) (c .before .before .before .before .before .before .pre .1 .1 .1) q (c .before .before .connect .ensures),
+  λ ks n l ok q. full-code-did ks _ _ _ n l _ ok _ (c .before .before .before .before .before .before .pre .1 .1 .2) (c .before .before .before .before .before .before .pre .1 .0 .1) (c .before .before .before .before .before .before .pre .1 .1 .1) q (c .before .before .connect .ensures),
   (record { cursor = inl (omega arith); nodes = omega (arith, joined-size _ _ (c .before .before .before .before .before .before .args .self .nodes) 18446744073709551615 (c .before .before .before .before .before .before .args .edges .now) _ (c .before .before .connect .ensures)); few = omega arith }, omega arith),
 )
 

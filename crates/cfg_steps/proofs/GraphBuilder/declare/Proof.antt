@@ -1,4 +1,5 @@
 use borrow.Author.Needs.{needs}
+use native.Mathlib.Omega.{arith}
 use Rattle.cfg_steps.proofs.Ops.{declare-did}
 use Rattle.cfg_steps.proofs.GraphBuilder.declare.Statement.{statement}
 use Rattle.cfg_steps.proofs.GraphBuilder.declare.Tie as tie
@@ -28,7 +29,7 @@ same-length : tie.Need-same-length
 same-length c = search needs
 
 returns : tie.Need-returns
-returns c = λ ks e k l ok. declare-did ks _ e k _ l ok _ (c .before .before .pre .1 .0) (c .before .before .pre .0 .1)
+returns c = λ ks e k l ok. declare-did ks _ e k _ l ok _ (omega arith) (c .before .before .pre .1 .0) (c .before .before .pre .0 .1)
 
 pub declare-spec : {M : Type 1} → statement M
 declare-spec =

@@ -23,7 +23,7 @@ returns-2 : tie.Need-returns-2
 returns-2 c = λ ks n ok q. did-as refl (λ ss g. labelled-lost _ _ _ g (sym (c .before .before .label-node .ensures) ∙ c .enum-told .given .1)) (did-none ks _ _ ok)
 
 record-code-requires : tie.Need-record-code-requires
-record-code-requires c κs = let ok = c .before .before .before .before .before .before .before .before .before .pre .0 .1 in ((omega (arith, ok .wideCodes, ok .items), c .before .before .before .before .before .before .before .before .before .pre .1 .0), (c .before .before .before .before .before .before .before .before .before .pre .1 .1, label-below (c .before .before .before .before .before .before .before .before .before .args .name) (c .before .before .before .before .before .before .before .before .before .pre .0 .1) (sym (c .before .before .before .before .label-node .ensures) ∙ c .before .before .node .given .1), ok .nodes))
+record-code-requires c κs = let ok = c .before .before .before .before .before .before .before .before .before .pre .0 .1 in ((omega (arith, ok .wideCodes, ok .items), c .before .before .before .before .before .before .before .before .before .pre .1 .0), (c .before .before .before .before .before .before .before .before .before .pre .1 .1, label-below (c .before .before .before .before .before .before .before .before .before .args .name) (c .before .before .before .before .before .before .before .before .before .pre .0 .1) (sym (c .before .before .before .before .label-node .ensures) ∙ c .before .before .node .given .1), ok .nodes, ok .items))
 
 advance-to-requires : tie.Need-advance-to-requires
 advance-to-requires c κs = (stands-as (c .before .before .before .record-code .ensures .1 .0) (c .before .before .before .record-code .ensures .1 .1) (stands (c .before .before .before .before .before .before .before .before .before .before .before .before .before .pre .0 .1)), rw (c .before .before .before .record-code .ensures .1 .0) (label-below (c .before .before .before .before .before .before .before .before .before .before .before .before .before .args .name) (c .before .before .before .before .before .before .before .before .before .before .before .before .before .pre .0 .1) (sym (c .before .before .before .before .before .before .before .before .label-node .ensures) ∙ c .before .before .before .before .before .before .node .given .1)))

@@ -23,7 +23,7 @@ same-length : tie.Need-same-length
 same-length c = search needs
 
 returns : tie.Need-returns
-returns c = (λ ks e n l ok q. record-did ks _ e _ n l ok _ _ (c .pre .0 .1) (c .pre .1 .1) q, (refl, refl))
+returns c = (λ ks e n l ok q. record-did ks _ e _ n l ok _ _ (c .pre .1 .0) (c .pre .0 .1) (c .pre .1 .1) q, (refl, refl))
 
 pub record-code-spec : {M : Type 1} → statement M
 record-code-spec =
