@@ -1,0 +1,46 @@
+use borrow.Author.Needs.{needs}
+use mathlib.Core.Path.{sym, ap, _∙_}
+use lib.ListN.{take, drop}
+use denote.Ref.{now}
+use Rattle.cfg_steps.specs.Columns.{lo, hi}
+use Rattle.chart.proofs.Laid.{front}
+use Rattle.chart.proofs.split_nodes.Statement.{statement}
+use Rattle.chart.proofs.split_nodes.Tie as tie
+
+split-edges-requires : tie.Need-split-edges-requires
+split-edges-requires c κs = search needs
+
+reach-requires : tie.Need-reach-requires
+reach-requires c κs = search needs
+
+same-length : tie.Need-same-length
+same-length c = search needs
+
+same-length-2 : tie.Need-same-length-2
+same-length-2 c = search needs
+
+same-length-3 : tie.Need-same-length-3
+same-length-3 c = search needs
+
+same-length-4 : tie.Need-same-length-4
+same-length-4 c = search needs
+
+returns : tie.Need-returns
+returns c =
+    let a = c .before .before .before .before .before .before .before .before .before .before .before .before .before .before .before .before .before .before .before .before .args in
+    let long = c .before .before .before .before .before .before .before .before .before .before .before .before .before .before .before .before .before .before .before .before .pre .1 in
+    let e = c .before .before .before .before .before .before .before .before .before .before .before .before .before .split-edges .ensures in
+    let r = c .before .before .before .before .reach .ensures in
+    (e .0, (e .1, (r .1, λ g f s. r .0 g (f ∙ sym (ap (take (a .n)) (e .0) ∙ front lo (a .n) (now (a .first)) (drop (a .n) (now (a .first))) long)) (s ∙ sym (ap (take (a .n)) (e .1) ∙ front hi (a .n) (now (a .first)) (drop (a .n) (now (a .second))) long)))))
+
+pub split-nodes-spec : {M : Type 1} → statement M
+split-nodes-spec =
+    tie.close
+    (tie.spec
+    split-edges-requires
+    reach-requires
+    same-length
+    same-length-2
+    same-length-3
+    same-length-4
+    returns)

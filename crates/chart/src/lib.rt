@@ -1,0 +1,103 @@
+// The chart of an admitted sheet: its graph, built in words and taken apart into the columns that are lent.
+ghost use mathlib.Core.Path.{_≡_};
+ghost use mathlib.Core.List.{List, _++_, map};
+ghost use Prim.Native.Nat.{ℕ, _<_, _≤_};
+ghost use lib.ListN.{length, take, drop};
+ghost use Rattle.flow.specs.Graph.{Graph, entry};
+ghost use Rattle.flow.specs.Reachable.{reachable as reachableFlags};
+ghost use Rattle.flow.specs.Admitted.{AdmittedSheet};
+ghost use Rattle.cfg_steps.specs.Columns.{lo, hi};
+ghost use Rattle.chart.specs.Lent.{PartsOf, columns, Wide, Charted};
+use cfg::of_block;
+use columns::split_codes;
+use columns::split_edges;
+use columns::split_names;
+use flow::Counts;
+use reach::reach;
+
+// The successors of n nodes, whose words stand in `first`, and their reachable flags. `start` is scratch memory here.
+fn split_nodes(
+    first: &mut [u64],
+    second: &mut [u64],
+    start: &mut [u64],
+    reachable: &mut [u64],
+    n: usize,
+)
+    requires { ⌜ (entry < n) × (n ≤ length (now first)) × (n ≤ length (now second)) × (n ≤ length (now start)) × (n ≤ length (now reachable)) ⌝ }
+    ensures { λ _. ⌜ now (first .exit) ≡ map lo (take n (now (first .entry))) ++ drop n (now (first .entry)) ⌝ }
+    ensures { λ _. ⌜ now (second .exit) ≡ map hi (take n (now (first .entry))) ++ drop n (now (second .entry)) ⌝ }
+    ensures { λ _. ⌜ (drop n (now (start .exit)) ≡ drop n (now (start .entry))) × (length (now (start .exit)) ≡ length (now (start .entry))) ⌝ }
+    ensures { λ _. ⌜ ((g : Graph) → g .nodes .first ≡ map lo (take n (now (first .entry))) → g .nodes .second ≡ map hi (take n (now (first .entry))) → now (reachable .exit) ≡ reachableFlags g ++ drop n (now (reachable .entry))) ⌝ }
+{
+    split_edges(first, second, n);
+    reach(first, second, reachable, start, n);
+}
+
+// The chart of the sheet with these kinds, spans and outer scope end. While the graph is built, its words stand in `first`, `code_node`
+// and `name_node`, and the labels in force in `reachable`.
+fn write_chart(
+    kinds: &[u64],
+    spans: &[u64],
+    scope_end: u64,
+    first: &mut [u64],
+    second: &mut [u64],
+    start: &mut [u64],
+    reachable: &mut [u64],
+    code_span: &mut [u64],
+    code_node: &mut [u64],
+    name_span: &mut [u64],
+    name_node: &mut [u64],
+    name_end: &mut [u64],
+) -> Counts
+    requires { ⌜ ((S : List ℕ) × PartsOf S (now kinds) (now spans) «scope_end») ⌝ }
+    requires { ⌜ Wide (columns (now first) (now second) (now start) (now reachable) (now «code_span») (now «code_node») (now «name_span») (now «name_node») (now «name_end»)) ⌝ }
+    ensures { λ r. ⌜ ((S : List ℕ) → PartsOf S (now (kinds .entry)) (now (spans .entry)) «scope_end» → Charted S (columns (now (first .entry)) (now (second .entry)) (now (start .entry)) (now (reachable .entry)) (now («code_span» .entry)) (now («code_node» .entry)) (now («name_span» .entry)) (now («name_node» .entry)) (now («name_end» .entry))) r (columns (now (first .exit)) (now (second .exit)) (now (start .exit)) (now (reachable .exit)) (now («code_span» .exit)) (now («code_node» .exit)) (now («name_span» .exit)) (now («name_node» .exit)) (now («name_end» .exit)))) ⌝ }
+{
+    let b = of_block(kinds, first, code_node, name_node, reachable, scope_end);
+    let nodes = b.nodes;
+    let codes = b.codes;
+    let names = b.names;
+    split_nodes(first, second, start, reachable, nodes);
+    split_codes(kinds, spans, code_node, code_span, start, codes, nodes);
+    split_names(spans, name_node, name_span, name_end, names);
+    Counts {
+        nodes,
+        codes,
+        names,
+    }
+}
+
+// The chart of a sheet that is admitted. Its two arrays are handed on as parts that start inside it.
+pub fn of_sheet(
+    sheet: &[u64],
+    first: &mut [u64],
+    second: &mut [u64],
+    start: &mut [u64],
+    reachable: &mut [u64],
+    code_span: &mut [u64],
+    code_node: &mut [u64],
+    name_span: &mut [u64],
+    name_node: &mut [u64],
+    name_end: &mut [u64],
+) -> Counts
+    requires { ⌜ AdmittedSheet (now sheet) ⌝ }
+    requires { ⌜ Wide (columns (now first) (now second) (now start) (now reachable) (now «code_span») (now «code_node») (now «name_span») (now «name_node») (now «name_end»)) ⌝ }
+    ensures { λ r. ⌜ Charted (now (sheet .entry)) (columns (now (first .entry)) (now (second .entry)) (now (start .entry)) (now (reachable .entry)) (now («code_span» .entry)) (now («code_node» .entry)) (now («name_span» .entry)) (now («name_node» .entry)) (now («name_end» .entry))) r (columns (now (first .exit)) (now (second .exit)) (now (start .exit)) (now (reachable .exit)) (now («code_span» .exit)) (now («code_node» .exit)) (now («name_span» .exit)) (now («name_node» .exit)) (now («name_end» .exit))) ⌝ }
+{
+    let scope_end = sheet[1];
+    let m = 2 + sheet[0] as usize;
+    write_chart(
+        &sheet[2..m],
+        &sheet[m..],
+        scope_end,
+        first,
+        second,
+        start,
+        reachable,
+        code_span,
+        code_node,
+        name_span,
+        name_node,
+        name_end,
+    )
+}
