@@ -1,0 +1,3 @@
+pub mod Bench
+pub mod Running
+pub mod Pieces

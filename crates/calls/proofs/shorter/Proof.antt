@@ -1,0 +1,15 @@
+-- `calls::shorter` meets its contract. Assumes nothing.
+use mathlib.Core.Path.{sym}
+use native.Mathlib.Nat.{min-eq-left, min-eq-right}
+use native.Mathlib.Omega.{arith}
+use Rattle.calls.proofs.shorter.Statement.{statement}
+use Rattle.calls.proofs.shorter.Tie as tie
+
+returns : tie.Need-returns
+returns c = sym (min-eq-left (omega arith))
+
+returns-2 : tie.Need-returns-2
+returns-2 c = sym (min-eq-right (omega arith))
+
+pub shorter-spec : {M : Type 1} → statement M
+shorter-spec = tie.close (tie.spec returns returns-2)
