@@ -1,0 +1,4 @@
+pub mod Facts
+pub mod Entries
+pub mod Columns
+pub mod Room

@@ -1,0 +1,39 @@
+-- What the columns of the pass over all locals stand for, and what they say of one name.
+-- Assumes nothing: these are definitions.
+use Prim.Native.Nat.{ℕ, _<_}
+use mathlib.Core.Path.{_≡_}
+use mathlib.Core.Bool.{Bool, false, _&&_, not}
+use mathlib.Core.List.{List}
+use lib.Dec.{eqb}
+use lib.ListN.{length, getD}
+use Rattle.flow.specs.Sheet.{useWords}
+use Rattle.flow.specs.Findings.{Local, noValue, tracked, writesJudged, usesOf}
+use Rattle.next_uses.specs.Uses.{byNode}
+use Rattle.locals.specs.Columns.{Charted, Named, Spanned, Located, Parts}
+use Rattle.locals.specs.Facts.{factsOf, Known}
+use Rattle.overwritten.specs.declared.LocalDeclaration.{LocalDeclaration}
+
+-- the nodes, the names and the uses are those of S and U
+pub record Pass (S U : List ℕ) (n names : ℕ) (first second start nameNode nameEnd nameSpan facts lost starts column words nodes spans : List ℕ) : Type 0 where
+  pub charted : Charted S n first second start
+  pub named : Named S n names nameNode nameEnd
+  pub spanned : Spanned S names nameSpan
+  pub known : Known S names facts
+  pub located : Located S U n names words spans nodes lost
+  pub parts : Parts (λ ℓ. byNode n (usesOf S U ℓ)) (length (useWords U)) names starts column
+
+-- a local's values are judged: it is tracked, modified and not captured, and each of its uses finds a node
+abbrev pub isJudged : Local → ℕ → Bool
+isJudged l lost = tracked l && writesJudged l && eqb lost 0
+
+-- the values of none of the first k locals are judged
+pub record NoneJudged (k : ℕ) (facts lost : List ℕ) : Type 0 where
+  pub none : (ℓ : ℕ) → ℓ < k → (l : Local) → getD facts ℓ 0 ≡ factsOf l → false ≡ isJudged l (getD lost ℓ 0)
+
+-- d is the name ℓ as the columns have it
+pub record DeclaredAt (nameNode nameEnd nameSpan facts : List ℕ) (ℓ : ℕ) (d : LocalDeclaration) : Type 0 where
+  pub number : d .local ≡ ℓ
+  pub node : d .node ≡ getD nameNode ℓ 0
+  pub scopeEnd : d .«scope_end» ≡ getD nameEnd ℓ 0
+  pub span : d .«name_span» ≡ getD nameSpan ℓ 0
+  pub hasValue : (l : Local) → getD facts ℓ 0 ≡ factsOf l → d .«has_value» ≡ not (noValue l)

@@ -1,0 +1,606 @@
+// The overwritten findings: values that a later write replaces on some path and no path reads (local_flow.rs).
+ghost use mathlib.Core.Path.{_≡_};
+ghost use mathlib.Core.Bool.{false};
+ghost use mathlib.Core.List.{List, [], _∷_, map};
+ghost use Prim.Native.Nat.{ℕ, _+_, _-_, _<_, _≤_};
+ghost use lib.ListN.{length, getD, take, drop};
+ghost use Rattle.flow.specs.Graph.{Graph};
+ghost use Rattle.flow.specs.Findings.{Local, Use, Ahead, onlyIf, ofUse, ahead, isOverwritten, overwrittenBelow, overwrittenOf, ofEach};
+ghost use Rattle.next_uses.specs.Predecessors.{Linked};
+ghost use Rattle.next_uses.specs.Uses.{byNode, table};
+ghost use Rattle.next_uses.specs.Backwards.{AheadHeld};
+ghost use Rattle.locals.specs.Facts.{factsOf};
+ghost use Rattle.locals.specs.Entries.{Room, Added};
+ghost use Rattle.overwritten.specs.Marked.{Fits, Stands, Marked, Unmarked, declared, initialOf, valuesOf};
+ghost use Rattle.overwritten.specs.Pass.{Pass, isJudged, NoneJudged, DeclaredAt};
+use locals::has_value;
+use locals::is_tracked;
+use locals::part_of;
+use locals::push_finding;
+use locals::writes_judged;
+use next_uses::build_predecessors;
+use next_uses::is_overwritten;
+use next_uses::is_overwritten_unread;
+use next_uses::mark_next_uses;
+use search::at;
+use search::cell;
+
+// A finding's word is list + 2 × local + 2^32 × (use number + 1, or 0 for an initial value).
+const OVERWRITTEN: u64 = 1;
+
+const USES: u64 = 4294967296;
+
+// A local as its LOCAL declares it.
+pub struct LocalDeclaration {
+    pub local: usize,
+    pub node: usize,
+    pub scope_end: u64,
+    pub name_span: u64,
+    pub has_value: bool,
+}
+
+// The use k listed as an overwritten write.
+fn push_write(
+    use_span: &[u64],
+    finding_word: &mut [u64],
+    finding_span: &mut [u64],
+    count: usize,
+    local: usize,
+    k: usize,
+) -> usize
+    requires { ⌜ (local < 1024) × (k < 1024) × (k < length (now «use_span»)) ⌝ }
+    requires { ⌜ Room 1 count (now «finding_word») (now «finding_span») ⌝ }
+    ensures { λ r. ⌜ r ≤ count + 1 ⌝ }
+    ensures { λ r. ⌜ ((u : Use) → u .number ≡ k → u .span ≡ getD (now («use_span» .entry)) k 0 → Added (ofUse 1 local u ∷ []) count (now («finding_word» .entry)) (now («finding_span» .entry)) r (now («finding_word» .exit)) (now («finding_span» .exit))) ⌝ }
+{
+    let word = OVERWRITTEN + 2 * local as u64 + USES * (k as u64 + 1);
+    push_finding(finding_word, finding_span, count, word, use_span[k])
+}
+
+// The use at place i listed, if it is a write that is overwritten.
+fn push_if_overwritten(
+    first: &[u64],
+    second: &[u64],
+    use_word: &[u64],
+    use_node: &[u16; 1024],
+    use_span: &[u64],
+    sorted: &[u16],
+    reads: &[u16; 1600],
+    writes: &[u16; 1600],
+    finding_word: &mut [u64],
+    finding_span: &mut [u64],
+    n: usize,
+    stamp: u16,
+    local: usize,
+    count: usize,
+    i: usize,
+) -> usize
+    requires { ⌜ Fits n (now first) (now second) (table (now «use_word») (now «use_node») (now sorted)) (now «use_span») ⌝ }
+    requires { ⌜ (i < length (now sorted)) × (local < 1024) ⌝ }
+    requires { ⌜ Room 1 count (now «finding_word») (now «finding_span») ⌝ }
+    ensures { λ r. ⌜ r ≤ count + 1 ⌝ }
+    ensures { λ r. ⌜ ((g : Graph) (a : Ahead) (us : List Use) → Marked stamp n (now (first .entry)) (now (second .entry)) (table (now («use_word» .entry)) (now («use_node» .entry)) (now (sorted .entry))) (now («use_span» .entry)) (now (reads .entry)) (now (writes .entry)) g a us → (u : Use) (after : List Use) → drop i (byNode n us) ≡ u ∷ after → Added (map (ofUse 1 local) (onlyIf (isOverwritten g a u after) (u ∷ []))) count (now («finding_word» .entry)) (now («finding_span» .entry)) r (now («finding_word» .exit)) (now («finding_span» .exit))) ⌝ }
+{
+    if is_overwritten(
+        first,
+        second,
+        use_word,
+        use_node,
+        sorted,
+        reads,
+        writes,
+        n,
+        stamp,
+        i,
+    ) {
+        let k = cell(sorted, i);
+        push_write(use_span, finding_word, finding_span, count, local, k)
+    } else {
+        count
+    }
+}
+
+// The local's overwritten writes listed, by node, in use order within a node.
+fn list_writes(
+    first: &[u64],
+    second: &[u64],
+    use_word: &[u64],
+    use_node: &[u16; 1024],
+    use_span: &[u64],
+    sorted: &[u16],
+    reads: &[u16; 1600],
+    writes: &[u16; 1600],
+    finding_word: &mut [u64],
+    finding_span: &mut [u64],
+    n: usize,
+    stamp: u16,
+    local: usize,
+    before: usize,
+) -> usize
+    requires { ⌜ Fits n (now first) (now second) (table (now «use_word») (now «use_node») (now sorted)) (now «use_span») ⌝ }
+    requires { ⌜ local < 1024 ⌝ }
+    requires { ⌜ Room (length (now sorted)) before (now «finding_word») (now «finding_span») ⌝ }
+    ensures { λ r. ⌜ r ≤ before + length (now (sorted .entry)) ⌝ }
+    ensures { λ r. ⌜ ((g : Graph) (a : Ahead) (us : List Use) → Marked stamp n (now (first .entry)) (now (second .entry)) (table (now («use_word» .entry)) (now («use_node» .entry)) (now (sorted .entry))) (now («use_span» .entry)) (now (reads .entry)) (now (writes .entry)) g a us → Added (map (ofUse 1 local) (overwrittenBelow g a n us)) before (now («finding_word» .entry)) (now («finding_span» .entry)) r (now («finding_word» .exit)) (now («finding_span» .exit))) ⌝ }
+{
+    let mut count = before;
+    let mut i = 0;
+    while i < sorted.len() {
+        count = push_if_overwritten(
+            first,
+            second,
+            use_word,
+            use_node,
+            use_span,
+            sorted,
+            reads,
+            writes,
+            finding_word,
+            finding_span,
+            n,
+            stamp,
+            local,
+            count,
+            i,
+        );
+        i += 1;
+    }
+    count
+}
+
+// The initial value listed, if the local has one that is overwritten.
+fn push_initial(
+    first: &[u64],
+    second: &[u64],
+    reads: &[u16; 1600],
+    writes: &[u16; 1600],
+    finding_word: &mut [u64],
+    finding_span: &mut [u64],
+    n: usize,
+    stamp: u16,
+    declaration: LocalDeclaration,
+    count: usize,
+) -> usize
+    requires { ⌜ (n ≤ 1600) × (n ≤ length (now first)) × (n ≤ length (now second)) × (declaration .node < n) × (declaration .local < 1024) ⌝ }
+    requires { ⌜ Room 1 count (now «finding_word») (now «finding_span») ⌝ }
+    ensures { λ r. ⌜ r ≤ count + 1 ⌝ }
+    ensures { λ r. ⌜ ((g : Graph) (a : Ahead) → g .nodes .first ≡ take n (now (first .entry)) → g .nodes .second ≡ take n (now (second .entry)) → AheadHeld stamp n (now (reads .entry)) (now (writes .entry)) a → Added (initialOf g a declaration) count (now («finding_word» .entry)) (now («finding_span» .entry)) r (now («finding_word» .exit)) (now («finding_span» .exit))) ⌝ }
+{
+    if declaration.has_value {
+        let node = declaration.node;
+        if is_overwritten_unread(first, second, reads, writes, n, stamp, node) {
+            let word = OVERWRITTEN + 2 * declaration.local as u64;
+            return push_finding(
+                finding_word,
+                finding_span,
+                count,
+                word,
+                declaration.name_span,
+            );
+        }
+    }
+    count
+}
+
+// The local's overwritten values listed, by marks that are made.
+fn list_values(
+    first: &[u64],
+    second: &[u64],
+    use_word: &[u64],
+    use_node: &[u16; 1024],
+    use_span: &[u64],
+    sorted: &[u16],
+    reads: &[u16; 1600],
+    writes: &[u16; 1600],
+    finding_word: &mut [u64],
+    finding_span: &mut [u64],
+    n: usize,
+    stamp: u16,
+    declaration: LocalDeclaration,
+    before: usize,
+) -> usize
+    requires { ⌜ Fits n (now first) (now second) (table (now «use_word») (now «use_node») (now sorted)) (now «use_span») ⌝ }
+    requires { ⌜ (declaration .node < n) × (declaration .local < 1024) ⌝ }
+    requires { ⌜ Room (1 + length (now sorted)) before (now «finding_word») (now «finding_span») ⌝ }
+    ensures { λ r. ⌜ r ≤ before + 1 + length (now (sorted .entry)) ⌝ }
+    ensures { λ r. ⌜ ((g : Graph) (a : Ahead) (us : List Use) → Marked stamp n (now (first .entry)) (now (second .entry)) (table (now («use_word» .entry)) (now («use_node» .entry)) (now (sorted .entry))) (now («use_span» .entry)) (now (reads .entry)) (now (writes .entry)) g a us → Added (valuesOf g a declaration n us) before (now («finding_word» .entry)) (now («finding_span» .entry)) r (now («finding_word» .exit)) (now («finding_span» .exit))) ⌝ }
+{
+    let count = push_initial(
+        first,
+        second,
+        reads,
+        writes,
+        finding_word,
+        finding_span,
+        n,
+        stamp,
+        declaration,
+        before,
+    );
+    let local = declaration.local;
+    list_writes(
+        first,
+        second,
+        use_word,
+        use_node,
+        use_span,
+        sorted,
+        reads,
+        writes,
+        finding_word,
+        finding_span,
+        n,
+        stamp,
+        local,
+        count,
+    )
+}
+
+// The marks of a local's next uses made, and its overwritten values listed.
+fn judge_local(
+    first: &[u64],
+    second: &[u64],
+    start: &[u64],
+    head: &[u16; 1600],
+    next_a: &[u16; 1600],
+    next_b: &[u16; 1600],
+    use_word: &[u64],
+    use_node: &[u16; 1024],
+    use_span: &[u64],
+    sorted: &[u16],
+    used: &mut [u16; 1600],
+    reads: &mut [u16; 1600],
+    writes: &mut [u16; 1600],
+    stack: &mut [u16; 1600],
+    finding_word: &mut [u64],
+    finding_span: &mut [u64],
+    n: usize,
+    declaration: LocalDeclaration,
+    count: usize,
+) -> usize
+    requires { ⌜ Fits n (now first) (now second) (table (now «use_word») (now «use_node») (now sorted)) (now «use_span») × (n ≤ length (now start)) ⌝ }
+    requires { ⌜ Linked (take n (now first)) (take n (now second)) n n (now head) (now «next_a») (now «next_b») ⌝ }
+    requires { ⌜ (declaration .node < n) × (declaration .local < 1024) ⌝ }
+    requires { ⌜ Unmarked (declaration .local + 1) (now used) (now reads) (now writes) ⌝ }
+    requires { ⌜ Room (1 + length (now sorted)) count (now «finding_word») (now «finding_span») ⌝ }
+    ensures { λ r. ⌜ r ≤ count + 1 + length (now (sorted .entry)) ⌝ }
+    ensures { λ r. ⌜ ((g : Graph) (us : List Use) → Stands n (now (first .entry)) (now (second .entry)) (now (start .entry)) (table (now («use_word» .entry)) (now («use_node» .entry)) (now (sorted .entry))) (now («use_span» .entry)) g us → Added (valuesOf g (ahead g (declared declaration) us) declaration n us) count (now («finding_word» .entry)) (now («finding_span» .entry)) r (now («finding_word» .exit)) (now («finding_span» .exit))) ⌝ }
+    ensures { λ _. ⌜ Unmarked (declaration .local + 2) (now (used .exit)) (now (reads .exit)) (now (writes .exit)) ⌝ }
+{
+    let node = declaration.node;
+    let scope_end = declaration.scope_end;
+    let stamp = (declaration.local + 1) as u16;
+    mark_next_uses(
+        start,
+        head,
+        next_a,
+        next_b,
+        use_word,
+        use_node,
+        sorted,
+        used,
+        reads,
+        writes,
+        stack,
+        n,
+        node,
+        scope_end,
+        stamp,
+    );
+    list_values(
+        first,
+        second,
+        use_word,
+        use_node,
+        use_span,
+        sorted,
+        reads,
+        writes,
+        finding_word,
+        finding_span,
+        n,
+        stamp,
+        declaration,
+        count,
+    )
+}
+
+// Whether a local's values are judged: it is tracked, modified and not captured, and each of its uses finds a node.
+fn is_judged(facts: u16, lost: u16) -> bool
+    ensures { λ r. ⌜ ((l : Local) → facts ≡ factsOf l → r ≡ isJudged l lost) ⌝ }
+{
+    if is_tracked(facts) {
+        if writes_judged(facts) {
+            lost == 0
+        } else {
+            false
+        }
+    } else {
+        false
+    }
+}
+
+// Whether the values of some local are judged. Where none are, the search needs no memory.
+fn any_judged(facts: &[u16; 1024], lost: &[u16; 1024], names: usize) -> bool
+    requires { ⌜ names ≤ 1024 ⌝ }
+    ensures { λ r. ⌜ (r ≡ false → NoneJudged names (now (facts .entry)) (now (lost .entry))) ⌝ }
+{
+    let mut i = 0;
+    while i < names {
+        if is_judged(facts[i], lost[i]) {
+            return true;
+        }
+        i += 1;
+    }
+    false
+}
+
+// A local as the columns of names have it.
+fn declaration_at(
+    name_node: &[u64],
+    name_end: &[u64],
+    name_span: &[u64],
+    facts: &[u16; 1024],
+    local: usize,
+) -> LocalDeclaration
+    requires { ⌜ (local < 1024) × (local < length (now «name_node»)) × (local < length (now «name_end»)) × (local < length (now «name_span»)) ⌝ }
+    ensures { λ r. ⌜ DeclaredAt (now («name_node» .entry)) (now («name_end» .entry)) (now («name_span» .entry)) (now (facts .entry)) local r ⌝ }
+{
+    LocalDeclaration {
+        local,
+        node: at(name_node, local),
+        scope_end: name_end[local],
+        name_span: name_span[local],
+        has_value: has_value(facts[local]),
+    }
+}
+
+// The local's overwritten values listed, if it is judged.
+fn add_local(
+    first: &[u64],
+    second: &[u64],
+    start: &[u64],
+    name_node: &[u64],
+    name_end: &[u64],
+    name_span: &[u64],
+    facts: &[u16; 1024],
+    lost: &[u16; 1024],
+    starts: &[u16; 1601],
+    by_node: &[u16; 1024],
+    use_word: &[u64],
+    use_node: &[u16; 1024],
+    use_span: &[u64],
+    head: &[u16; 1600],
+    next_a: &[u16; 1600],
+    next_b: &[u16; 1600],
+    used: &mut [u16; 1600],
+    reads: &mut [u16; 1600],
+    writes: &mut [u16; 1600],
+    stack: &mut [u16; 1600],
+    finding_word: &mut [u64],
+    finding_span: &mut [u64],
+    n: usize,
+    names: usize,
+    count: usize,
+    local: usize,
+) -> usize
+    requires { ⌜ ((S : List ℕ) × (U : List ℕ) × Pass S U n names (now first) (now second) (now start) (now «name_node») (now «name_end») (now «name_span») (now facts) (now lost) (now starts) (now «by_node») (now «use_word») (now «use_node») (now «use_span»)) ⌝ }
+    requires { ⌜ Linked (take n (now first)) (take n (now second)) n n (now head) (now «next_a») (now «next_b») ⌝ }
+    requires { ⌜ local < names ⌝ }
+    requires { ⌜ Unmarked (local + 1) (now used) (now reads) (now writes) ⌝ }
+    requires { ⌜ Room (1 + (getD (now starts) (local + 1) 0 - getD (now starts) local 0)) count (now «finding_word») (now «finding_span») ⌝ }
+    ensures { λ r. ⌜ r ≤ count + (1 + (getD (now (starts .entry)) (local + 1) 0 - getD (now (starts .entry)) local 0)) ⌝ }
+    ensures { λ r. ⌜ ((S U : List ℕ) → Pass S U n names (now (first .entry)) (now (second .entry)) (now (start .entry)) (now («name_node» .entry)) (now («name_end» .entry)) (now («name_span» .entry)) (now (facts .entry)) (now (lost .entry)) (now (starts .entry)) (now («by_node» .entry)) (now («use_word» .entry)) (now («use_node» .entry)) (now («use_span» .entry)) → Added (overwrittenOf S U local) count (now («finding_word» .entry)) (now («finding_span» .entry)) r (now («finding_word» .exit)) (now («finding_span» .exit))) ⌝ }
+    ensures { λ _. ⌜ Unmarked (local + 2) (now (used .exit)) (now (reads .exit)) (now (writes .exit)) ⌝ }
+{
+    if is_judged(facts[local], lost[local]) {
+        let declaration = declaration_at(name_node, name_end, name_span, facts, local);
+        let sorted = part_of(starts, by_node, local);
+        judge_local(
+            first,
+            second,
+            start,
+            head,
+            next_a,
+            next_b,
+            use_word,
+            use_node,
+            use_span,
+            sorted,
+            used,
+            reads,
+            writes,
+            stack,
+            finding_word,
+            finding_span,
+            n,
+            declaration,
+            count,
+        )
+    } else {
+        count
+    }
+}
+
+// The overwritten values of the locals listed, in their order.
+fn list_locals(
+    first: &[u64],
+    second: &[u64],
+    start: &[u64],
+    name_node: &[u64],
+    name_end: &[u64],
+    name_span: &[u64],
+    facts: &[u16; 1024],
+    lost: &[u16; 1024],
+    starts: &[u16; 1601],
+    by_node: &[u16; 1024],
+    use_word: &[u64],
+    use_node: &[u16; 1024],
+    use_span: &[u64],
+    head: &[u16; 1600],
+    next_a: &[u16; 1600],
+    next_b: &[u16; 1600],
+    used: &mut [u16; 1600],
+    reads: &mut [u16; 1600],
+    writes: &mut [u16; 1600],
+    stack: &mut [u16; 1600],
+    finding_word: &mut [u64],
+    finding_span: &mut [u64],
+    n: usize,
+    names: usize,
+    before: usize,
+) -> usize
+    requires { ⌜ ((S : List ℕ) × (U : List ℕ) × Pass S U n names (now first) (now second) (now start) (now «name_node») (now «name_end») (now «name_span») (now facts) (now lost) (now starts) (now «by_node») (now «use_word») (now «use_node») (now «use_span»)) ⌝ }
+    requires { ⌜ Linked (take n (now first)) (take n (now second)) n n (now head) (now «next_a») (now «next_b») ⌝ }
+    requires { ⌜ Unmarked 1 (now used) (now reads) (now writes) ⌝ }
+    requires { ⌜ Room (names + length (now «use_word»)) before (now «finding_word») (now «finding_span») ⌝ }
+    ensures { λ r. ⌜ ((S U : List ℕ) → Pass S U n names (now (first .entry)) (now (second .entry)) (now (start .entry)) (now («name_node» .entry)) (now («name_end» .entry)) (now («name_span» .entry)) (now (facts .entry)) (now (lost .entry)) (now (starts .entry)) (now («by_node» .entry)) (now («use_word» .entry)) (now («use_node» .entry)) (now («use_span» .entry)) → Added (ofEach (overwrittenOf S U) names) before (now («finding_word» .entry)) (now («finding_span» .entry)) r (now («finding_word» .exit)) (now («finding_span» .exit))) ⌝ }
+{
+    let mut count = before;
+    let mut local = 0;
+    while local < names {
+        count = add_local(
+            first,
+            second,
+            start,
+            name_node,
+            name_end,
+            name_span,
+            facts,
+            lost,
+            starts,
+            by_node,
+            use_word,
+            use_node,
+            use_span,
+            head,
+            next_a,
+            next_b,
+            used,
+            reads,
+            writes,
+            stack,
+            finding_word,
+            finding_span,
+            n,
+            names,
+            count,
+            local,
+        );
+        local += 1;
+    }
+    count
+}
+
+// The overwritten values of all locals, over chains and marks that are made here.
+fn list_judged(
+    first: &[u64],
+    second: &[u64],
+    start: &[u64],
+    name_node: &[u64],
+    name_end: &[u64],
+    name_span: &[u64],
+    facts: &[u16; 1024],
+    lost: &[u16; 1024],
+    starts: &[u16; 1601],
+    by_node: &[u16; 1024],
+    use_word: &[u64],
+    use_node: &[u16; 1024],
+    use_span: &[u64],
+    finding_word: &mut [u64],
+    finding_span: &mut [u64],
+    n: usize,
+    names: usize,
+    before: usize,
+) -> usize
+    requires { ⌜ ((S : List ℕ) × (U : List ℕ) × Pass S U n names (now first) (now second) (now start) (now «name_node») (now «name_end») (now «name_span») (now facts) (now lost) (now starts) (now «by_node») (now «use_word») (now «use_node») (now «use_span»)) ⌝ }
+    requires { ⌜ Room (names + length (now «use_word»)) before (now «finding_word») (now «finding_span») ⌝ }
+    ensures { λ r. ⌜ ((S U : List ℕ) → Pass S U n names (now (first .entry)) (now (second .entry)) (now (start .entry)) (now («name_node» .entry)) (now («name_end» .entry)) (now («name_span» .entry)) (now (facts .entry)) (now (lost .entry)) (now (starts .entry)) (now («by_node» .entry)) (now («use_word» .entry)) (now («use_node» .entry)) (now («use_span» .entry)) → Added (ofEach (overwrittenOf S U) names) before (now («finding_word» .entry)) (now («finding_span» .entry)) r (now («finding_word» .exit)) (now («finding_span» .exit))) ⌝ }
+{
+    let mut head = [0u16; 1600];
+    let mut next_a = [0u16; 1600];
+    let mut next_b = [0u16; 1600];
+    build_predecessors(first, second, &mut head, &mut next_a, &mut next_b, n);
+    let mut used = [0u16; 1600];
+    let mut reads = [0u16; 1600];
+    let mut writes = [0u16; 1600];
+    let mut stack = [0u16; 1600];
+    list_locals(
+        first,
+        second,
+        start,
+        name_node,
+        name_end,
+        name_span,
+        facts,
+        lost,
+        starts,
+        by_node,
+        use_word,
+        use_node,
+        use_span,
+        &head,
+        &next_a,
+        &next_b,
+        &mut used,
+        &mut reads,
+        &mut writes,
+        &mut stack,
+        finding_word,
+        finding_span,
+        n,
+        names,
+        before,
+    )
+}
+
+// The overwritten values of all locals added to the findings: per local the initial value, then the writes by node, use order within a node. The result is the count of findings.
+pub fn list_overwritten(
+    first: &[u64],
+    second: &[u64],
+    start: &[u64],
+    name_node: &[u64],
+    name_end: &[u64],
+    name_span: &[u64],
+    facts: &[u16; 1024],
+    lost: &[u16; 1024],
+    starts: &[u16; 1601],
+    by_node: &[u16; 1024],
+    use_word: &[u64],
+    use_node: &[u16; 1024],
+    use_span: &[u64],
+    finding_word: &mut [u64],
+    finding_span: &mut [u64],
+    n: usize,
+    names: usize,
+    before: usize,
+) -> usize
+    requires { ⌜ ((S : List ℕ) × (U : List ℕ) × Pass S U n names (now first) (now second) (now start) (now «name_node») (now «name_end») (now «name_span») (now facts) (now lost) (now starts) (now «by_node») (now «use_word») (now «use_node») (now «use_span»)) ⌝ }
+    requires { ⌜ Room (names + length (now «use_word»)) before (now «finding_word») (now «finding_span») ⌝ }
+    ensures { λ r. ⌜ ((S U : List ℕ) → Pass S U n names (now (first .entry)) (now (second .entry)) (now (start .entry)) (now («name_node» .entry)) (now («name_end» .entry)) (now («name_span» .entry)) (now (facts .entry)) (now (lost .entry)) (now (starts .entry)) (now («by_node» .entry)) (now («use_word» .entry)) (now («use_node» .entry)) (now («use_span» .entry)) → Added (ofEach (overwrittenOf S U) names) before (now («finding_word» .entry)) (now («finding_span» .entry)) r (now («finding_word» .exit)) (now («finding_span» .exit))) ⌝ }
+{
+    if any_judged(facts, lost, names) {
+        list_judged(
+            first,
+            second,
+            start,
+            name_node,
+            name_end,
+            name_span,
+            facts,
+            lost,
+            starts,
+            by_node,
+            use_word,
+            use_node,
+            use_span,
+            finding_word,
+            finding_span,
+            n,
+            names,
+            before,
+        )
+    } else {
+        before
+    }
+}

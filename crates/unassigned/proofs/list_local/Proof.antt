@@ -1,0 +1,64 @@
+-- `unassigned::list_local` meets its contract: the walk finds the local's unassigned use, if it is due.
+-- Assumes nothing.
+use Prim.Native.Nat.{_≤_}
+use mathlib.Core.Path.{sym}
+use native.Mathlib.Omega.{arith}
+use lib.ListN.{length}
+use Rattle.flow.specs.Graph.{graph}
+use Rattle.flow.specs.Findings.{localAt, usesOf, allFound}
+use Rattle.unassigned.proofs.Locals.{local-cut, local-placed, local-uses, local-adds}
+use borrow.Author.Needs.{needs}
+use Rattle.unassigned.proofs.list_local.Statement.{statement}
+use Rattle.unassigned.proofs.list_local.Tie as tie
+
+declared-at-requires : tie.Need-declared-at-requires
+declared-at-requires c κs = search needs
+
+walk-if-due-requires : tie.Need-walk-if-due-requires
+walk-if-due-requires c κs =
+    let j = c .before .before .before .before .before .before .before .before .before .before .before .before .before .pre .0 in
+    let p = j .judges .pass in
+    let r = c .before .before .before .before .before .before .before .before .before .before .before .before .before .pre .1 .0 .0 in
+    ((p .charted .long, p .charted .few), (local-cut p _ (j .inside), (local-placed p _ (j .inside), (r .fresh, r .long))))
+
+push-walked-requires : tie.Need-push-walked-requires
+push-walked-requires c κs =
+    let j = c .before .before .before .before .before .before .before .before .before .before .before .before .before .before .before .before .before .pre .0 in
+    let p = j .judges .pass in
+    let few : c .before .before .before .walk-if-due .result .first ≤ 1024 = omega (arith, c .before .before .before .walk-if-due .ensures .1 .within, p .located .few) in
+    let inside : c .before .before .before .walk-if-due .result .first ≤ length (c .before .before .before .before .before .before .before .before .before .before .before .before .before .before .before .before .before .args .use-span .now) = omega (arith, c .before .before .before .walk-if-due .ensures .1 .within, p .located .same) in
+    ((local-cut p _ (j .inside) .few, c .before .before .before .before .before .before .before .before .before .before .before .before .before .before .before .before .before .pre .1 .0 .1, few, inside), (omega (arith, c .before .before .before .before .before .before .before .before .before .before .before .before .before .before .before .before .before .pre .1 .1 .words-hold), omega (arith, c .before .before .before .before .before .before .before .before .before .before .before .before .before .before .before .before .before .pre .1 .1 .spans-hold)))
+
+same-length : tie.Need-same-length
+same-length c = search needs
+
+same-length-2 : tie.Need-same-length-2
+same-length-2 c = search needs
+
+same-length-3 : tie.Need-same-length-3
+same-length-3 c = search needs
+
+returns : tie.Need-returns
+returns c =
+    let d = c .before .before .before .before .before .before .before .before .before .before .before .before .before .declared-at in
+    let w = c .before .before .before .before .before .before .before .before .before .before .walk-if-due in
+    let q = c .before .before .before .before .before .before .push-walked .ensures in
+    let ℓ = c .before .before .before .before .before .before .before .before .before .before .before .before .before .before .before .before .before .before .before .before .before .before .before .before .args .local in (
+      λ S U names h p.
+          let us = usesOf S U ℓ in
+          let t = d .ensures .1 (localAt S ℓ) (allFound us) (p .known ℓ h) (p .located .kept ℓ h) in
+          local-adds p ℓ h (d .result) t (d .ensures .0 .0) (d .ensures .0 .1) (w .result) (w .ensures .0 (graph S) us (p .charted .charts) (local-uses p ℓ h (d .result) t) (sym (p .parts .holds ℓ h))) (q .0) (q .1 .0),
+      (record { fresh = w .ensures .1 .fresh; long = w .ensures .1 .long }, record { figure = w .result .nodes; few = w .ensures .1 .few; stored = q .1 .1 }),
+    )
+
+pub list-local-spec : {M : Type 1} → statement M
+list-local-spec =
+    tie.close
+    (tie.spec
+    declared-at-requires
+    walk-if-due-requires
+    push-walked-requires
+    same-length
+    same-length-2
+    same-length-3
+    returns)
