@@ -1,0 +1,4 @@
+pub mod Judging
+pub mod Promises
+pub mod Few
+pub mod Pieces
