@@ -1,0 +1,60 @@
+-- `waldimu::waldimu_chart` meets its contract: the word is that of the call's answer, and the columns are as the call leaves them. Assumes nothing.
+use mathlib.Core.Path.{sym, subst}
+use Rattle.waldimu.specs.Words.{ChartFits}
+use Rattle.waldimu.proofs.Fits.{chart-fits}
+use borrow.Author.Needs.{needs}
+use Rattle.waldimu.proofs.waldimu_chart.Statement.{statement}
+use Rattle.waldimu.proofs.waldimu_chart.Tie as tie
+
+chart-requires : tie.Need-chart-requires
+chart-requires c κs = tt
+
+chart-word-requires : tie.Need-chart-word-requires
+chart-word-requires c κs = subst ChartFits (sym (c .before .before .before .before .before .before .before .before .before .before .before .before .before .before .before .before .before .before .chart .ensures .answer)) (chart-fits _ _)
+
+same-length : tie.Need-same-length
+same-length c = search needs
+
+same-length-2 : tie.Need-same-length-2
+same-length-2 c = search needs
+
+same-length-3 : tie.Need-same-length-3
+same-length-3 c = search needs
+
+same-length-4 : tie.Need-same-length-4
+same-length-4 c = search needs
+
+same-length-5 : tie.Need-same-length-5
+same-length-5 c = search needs
+
+same-length-6 : tie.Need-same-length-6
+same-length-6 c = search needs
+
+same-length-7 : tie.Need-same-length-7
+same-length-7 c = search needs
+
+same-length-8 : tie.Need-same-length-8
+same-length-8 c = search needs
+
+same-length-9 : tie.Need-same-length-9
+same-length-9 c = search needs
+
+returns : tie.Need-returns
+returns c = record { answer = _; word = c .chart-word .ensures; promise = c .before .before .before .before .before .before .before .before .before .before .before .before .before .before .before .before .before .before .before .chart .ensures }
+
+pub waldimu-chart-spec : {M : Type 1} → statement M
+waldimu-chart-spec =
+    tie.close
+    (tie.spec
+    chart-requires
+    chart-word-requires
+    same-length
+    same-length-2
+    same-length-3
+    same-length-4
+    same-length-5
+    same-length-6
+    same-length-7
+    same-length-8
+    same-length-9
+    returns)

@@ -1,0 +1,72 @@
+-- `waldimu::waldimu_judge` meets its contract: the word is that of the call's answer, and the columns are as the call leaves them. Assumes nothing.
+use borrow.Author.Needs.{needs}
+use mathlib.Core.Path.{sym, subst}
+use Rattle.waldimu.specs.Words.{JudgeFits}
+use Rattle.waldimu.proofs.Fits.{judge-fits}
+use Rattle.waldimu.proofs.waldimu_judge.Statement.{statement}
+use Rattle.waldimu.proofs.waldimu_judge.Tie as tie
+
+judge-requires : tie.Need-judge-requires
+judge-requires c κs = search needs
+
+judge-word-requires : tie.Need-judge-word-requires
+judge-word-requires c κs = subst JudgeFits (sym (c .before .before .before .before .before .before .before .before .before .before .before .before .before .before .before .before .before .before .before .before .before .before .before .before .judge .ensures .answer)) (judge-fits _ _ _)
+
+same-length : tie.Need-same-length
+same-length c = search needs
+
+same-length-2 : tie.Need-same-length-2
+same-length-2 c = search needs
+
+same-length-3 : tie.Need-same-length-3
+same-length-3 c = search needs
+
+same-length-4 : tie.Need-same-length-4
+same-length-4 c = search needs
+
+same-length-5 : tie.Need-same-length-5
+same-length-5 c = search needs
+
+same-length-6 : tie.Need-same-length-6
+same-length-6 c = search needs
+
+same-length-7 : tie.Need-same-length-7
+same-length-7 c = search needs
+
+same-length-8 : tie.Need-same-length-8
+same-length-8 c = search needs
+
+same-length-9 : tie.Need-same-length-9
+same-length-9 c = search needs
+
+same-length-10 : tie.Need-same-length-10
+same-length-10 c = search needs
+
+same-length-11 : tie.Need-same-length-11
+same-length-11 c = search needs
+
+same-length-12 : tie.Need-same-length-12
+same-length-12 c = search needs
+
+returns : tie.Need-returns
+returns c = record { answer = _; word = c .judge-word .ensures; promise = c .before .before .before .before .before .before .before .before .before .before .before .before .before .before .before .before .before .before .before .before .before .before .before .before .before .judge .ensures }
+
+pub waldimu-judge-spec : {M : Type 1} → statement M
+waldimu-judge-spec =
+    tie.close
+    (tie.spec
+    judge-requires
+    judge-word-requires
+    same-length
+    same-length-2
+    same-length-3
+    same-length-4
+    same-length-5
+    same-length-6
+    same-length-7
+    same-length-8
+    same-length-9
+    same-length-10
+    same-length-11
+    same-length-12
+    returns)
