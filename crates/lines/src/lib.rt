@@ -1,0 +1,135 @@
+// The words that flowlist reads, and the lines that it prints, written into a lent output.
+ghost use mathlib.Core.Path.{_≡_};
+ghost use Prim.Native.Nat.{_-_, _≤_};
+ghost use lib.ListN.{length, take};
+ghost use Rattle.flow.specs.Refusals;
+ghost use Rattle.flow.specs.Listing;
+ghost use Rattle.lines.specs.Output.{Room, Appended, Printed, findingsOf, headLines, reportOf, found, answerLines, roomForAll};
+use flow::Counts;
+use flow::JudgeAnswer;
+use flow::Refusal;
+use writer::line;
+
+pub mod reader;
+mod writer;
+
+// Bytes that hold every output, as the specs' `roomForAll` has it.
+pub const ROOM: usize = 169140;
+
+// A word is its lower half + 2^32 × its upper half.
+const HALF: u64 = 4294967296;
+
+// A finding's lower half is its list + 2 × its local.
+const LOCALS: u64 = 2147483648;
+
+// The table's number of a refusal.
+fn number(refusal: Refusal) -> u64
+    ensures { λ r. ⌜ r ≡ Refusals.number refusal ⌝ }
+{
+    match refusal {
+        Refusal::BenchTooSmall => 1,
+        Refusal::Miscount => 2,
+        Refusal::BadItem => 3,
+        Refusal::TooDeep => 4,
+        Refusal::BadNesting => 5,
+        Refusal::OffTheLine => 6,
+        Refusal::BadName => 7,
+        Refusal::BadUse => 8,
+    }
+}
+
+// `refused K` alone.
+pub fn refused(output: &mut [u8], refusal: Refusal) -> usize
+    requires { ⌜ roomForAll ≤ length (now output) ⌝ }
+    ensures { λ r. ⌜ Printed (Listing.refused refusal) (now (output .entry)) (now (output .exit)) r ⌝ }
+{
+    let values = [number(refusal)];
+    line(output, 0, b"refused", &values)
+}
+
+// The use number of a finding, whose word has one more in its upper half. A finding without a use has 0 there, and is never unassigned.
+fn use_number(upper: u64) -> u64
+    ensures { λ r. ⌜ r ≡ upper - 1 ⌝ }
+{
+    if upper == 0 { 0 } else { upper - 1 }
+}
+
+// `unassigned LOCAL USE START END` or `overwritten LOCAL START END`.
+fn finding_line(output: &mut [u8], at: usize, word: u64, span: u64) -> usize
+    requires { ⌜ Room (Listing.findingLine (record { word = word; span = span })) at (now output) ⌝ }
+    ensures { λ r. ⌜ Appended (Listing.findingLine (record { word = word; span = span })) at (now (output .entry)) (now (output .exit)) r ⌝ }
+{
+    let local = word / 2 % LOCALS;
+    if word % 2 == 0 {
+        let values = [local, use_number(word / HALF), span % HALF, span / HALF];
+        line(output, at, b"unassigned", &values)
+    } else {
+        let values = [local, span % HALF, span / HALF];
+        line(output, at, b"overwritten", &values)
+    }
+}
+
+// A line for each of the first n findings.
+fn finding_lines(output: &mut [u8], at: usize, words: &[u64], spans: &[u64], n: usize) -> usize
+    requires { ⌜ (n ≤ length (now words)) × (n ≤ length (now spans)) ⌝ }
+    requires { ⌜ Room (Listing.findingLines (findingsOf (take n (now words)) (take n (now spans)))) at (now output) ⌝ }
+    ensures { λ r. ⌜ Appended (Listing.findingLines (findingsOf (take n (now (words .entry))) (take n (now (spans .entry))))) at (now (output .entry)) (now (output .exit)) r ⌝ }
+{
+    let mut next = at;
+    let mut i = 0;
+    while i < n {
+        next = finding_line(output, next, words[i], spans[i]);
+        i += 1;
+    }
+    next
+}
+
+// `graph NODES CODES LOCALS` and `exits` with five flags.
+fn head_lines(output: &mut [u8], counts: Counts, reachable: &[u64]) -> usize
+    requires { ⌜ 5 ≤ length (now reachable) ⌝ }
+    requires { ⌜ roomForAll ≤ length (now output) ⌝ }
+    ensures { λ r. ⌜ Appended (headLines counts (take 5 (now (reachable .entry)))) 0 (now (output .entry)) (now (output .exit)) r ⌝ }
+{
+    let values = [
+        counts.nodes as u64,
+        counts.codes as u64,
+        counts.names as u64,
+    ];
+    let next = line(output, 0, b"graph", &values);
+    line(output, next, b"exits", &reachable[..5])
+}
+
+// The report of a graph, by its counts, its nodes' flags and n findings.
+fn report(
+    output: &mut [u8],
+    counts: Counts,
+    reachable: &[u64],
+    words: &[u64],
+    spans: &[u64],
+    n: usize,
+) -> usize
+    requires { ⌜ (5 ≤ length (now reachable)) × (n ≤ length (now words)) × (n ≤ length (now spans)) ⌝ }
+    requires { ⌜ (n ≤ 3072) × (roomForAll ≤ length (now output)) ⌝ }
+    ensures { λ r. ⌜ Printed (reportOf counts (take 5 (now (reachable .entry))) (findingsOf (take n (now (words .entry))) (take n (now (spans .entry))))) (now (output .entry)) (now (output .exit)) r ⌝ }
+{
+    let next = head_lines(output, counts, reachable);
+    finding_lines(output, next, words, spans, n)
+}
+
+// What judge answered and wrote, printed.
+pub fn answered(
+    output: &mut [u8],
+    answer: JudgeAnswer,
+    reachable: &[u64],
+    words: &[u64],
+    spans: &[u64],
+) -> usize
+    requires { ⌜ (5 ≤ length (now reachable)) × (found answer ≤ length (now words)) × (found answer ≤ length (now spans)) ⌝ }
+    requires { ⌜ (found answer ≤ 3072) × (roomForAll ≤ length (now output)) ⌝ }
+    ensures { λ r. ⌜ Printed (answerLines answer (now (reachable .entry)) (now (words .entry)) (now (spans .entry))) (now (output .entry)) (now (output .exit)) r ⌝ }
+{
+    match answer {
+        JudgeAnswer::Refused(refusal) => refused(output, refusal),
+        JudgeAnswer::Judged(counts, n) => report(output, counts, reachable, words, spans, n),
+    }
+}

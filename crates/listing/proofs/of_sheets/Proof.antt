@@ -1,0 +1,128 @@
+-- `listing::of_sheets` meets its contract: judge's answer, printed by the columns that it wrote.
+-- Assumes nothing.
+use borrow.Author.Needs.{needs}
+use mathlib.Core.Path.{_≡_}
+use mathlib.Core.List.{List}
+use Prim.Native.Nat.{ℕ, _≤_}
+use native.Mathlib.Omega.{arith}
+use lib.ListN.{length}
+use Rattle.lines.specs.Output.{found, answerLines, sheetsPrint}
+use Rattle.listing.proofs.Answer.{held, prints}
+use Rattle.listing.proofs.of_sheets.Statement.{statement}
+use Rattle.listing.proofs.of_sheets.Tie as tie
+
+-- ---- where judge has answered
+
+abbrev sheet : tie.After-judge → List ℕ
+sheet c = c .before .before .before .before .before .before .before .before .before .before .before .before .before .before .before .before .args .sheet .now
+
+abbrev uses : tie.After-judge → List ℕ
+uses c = c .before .before .before .before .before .before .before .before .before .before .before .before .before .before .before .before .args .uses .now
+
+abbrev flags : tie.After-judge → List ℕ
+flags c = c .judge .last .1 .1 .1 .1 .1 .0
+
+abbrev words : tie.After-judge → List ℕ
+words c = c .judge .last .1 .1 .1 .1 .1 .1 .1 .1 .1 .1 .1 .0
+
+abbrev spans : tie.After-judge → List ℕ
+spans c = c .judge .last .1 .1 .1 .1 .1 .1 .1 .1 .1 .1 .1 .1 .0
+
+flags-long : (c : tie.After-judge) → length (flags c) ≡ 1600
+flags-long c = c .judge .kept .1 .1 .1 .1 .1 .0
+
+words-long : (c : tie.After-judge) → length (words c) ≡ 3072
+words-long c = c .judge .kept .1 .1 .1 .1 .1 .1 .1 .1 .1 .1 .1 .0
+
+spans-long : (c : tie.After-judge) → length (spans c) ≡ 3072
+spans-long c = c .judge .kept .1 .1 .1 .1 .1 .1 .1 .1 .1 .1 .1 .1 .0
+
+few : (c : tie.After-judge) → found (c .judge .result) ≤ 3072
+few c = held (sheet c) (uses c) (c .judge .ensures) (words-long c)
+
+as-the-sheets : (c : tie.After-judge) → answerLines (c .judge .result) (flags c) (words c) (spans c) ≡ sheetsPrint (sheet c) (uses c)
+as-the-sheets c = prints (sheet c) (uses c) (c .judge .ensures)
+
+slice-aggregate-judge : tie.Need-slice-aggregate-judge
+slice-aggregate-judge c = search needs
+
+slice-aggregate-judge-2 : tie.Need-slice-aggregate-judge-2
+slice-aggregate-judge-2 c = search needs
+
+slice-aggregate-judge-3 : tie.Need-slice-aggregate-judge-3
+slice-aggregate-judge-3 c = search needs
+
+slice-aggregate-judge-4 : tie.Need-slice-aggregate-judge-4
+slice-aggregate-judge-4 c = search needs
+
+slice-aggregate-judge-5 : tie.Need-slice-aggregate-judge-5
+slice-aggregate-judge-5 c = search needs
+
+slice-aggregate-judge-6 : tie.Need-slice-aggregate-judge-6
+slice-aggregate-judge-6 c = search needs
+
+slice-aggregate-judge-7 : tie.Need-slice-aggregate-judge-7
+slice-aggregate-judge-7 c = search needs
+
+slice-aggregate-judge-8 : tie.Need-slice-aggregate-judge-8
+slice-aggregate-judge-8 c = search needs
+
+slice-aggregate-judge-9 : tie.Need-slice-aggregate-judge-9
+slice-aggregate-judge-9 c = search needs
+
+slice-aggregate-judge-10 : tie.Need-slice-aggregate-judge-10
+slice-aggregate-judge-10 c = search needs
+
+slice-aggregate-judge-11 : tie.Need-slice-aggregate-judge-11
+slice-aggregate-judge-11 c = search needs
+
+slice-aggregate-judge-12 : tie.Need-slice-aggregate-judge-12
+slice-aggregate-judge-12 c = search needs
+
+judge-requires : tie.Need-judge-requires
+judge-requires c κs = search needs
+
+slice-aggregate-answered : tie.Need-slice-aggregate-answered
+slice-aggregate-answered c = search needs
+
+slice-aggregate-answered-2 : tie.Need-slice-aggregate-answered-2
+slice-aggregate-answered-2 c = search needs
+
+slice-aggregate-answered-3 : tie.Need-slice-aggregate-answered-3
+slice-aggregate-answered-3 c = search needs
+
+answered-requires : tie.Need-answered-requires
+answered-requires c κs =
+    let j = c .before .before .before .before .before .before .before .before .before .before .before .before .before .before .before .before in
+    let h = few j in
+    ((omega (arith, flags-long j), omega (arith, h, words-long j), omega (arith, h, spans-long j)), (h, c .before .before .before .before .before .before .before .before .before .before .before .before .before .before .before .before .before .before .before .before .before .before .before .before .before .before .before .before .before .before .before .before .pre))
+
+same-length : tie.Need-same-length
+same-length c = search needs
+
+returns : tie.Need-returns
+returns c = rw (← as-the-sheets (c .before .before .before .before .before .before .before .before .before .before .before .before .before .before .before .before .before .before .before)) (c .before .before .answered .ensures)
+
+pub of-sheets-spec : {M : Type 1} → statement M
+of-sheets-spec =
+    tie.close
+    (tie.spec
+    slice-aggregate-judge
+    slice-aggregate-judge-2
+    slice-aggregate-judge-3
+    slice-aggregate-judge-4
+    slice-aggregate-judge-5
+    slice-aggregate-judge-6
+    slice-aggregate-judge-7
+    slice-aggregate-judge-8
+    slice-aggregate-judge-9
+    slice-aggregate-judge-10
+    slice-aggregate-judge-11
+    slice-aggregate-judge-12
+    judge-requires
+    slice-aggregate-answered
+    slice-aggregate-answered-2
+    slice-aggregate-answered-3
+    answered-requires
+    same-length
+    returns)

@@ -1,0 +1,65 @@
+// A file's bytes in, the printed lines out.
+ghost use Prim.Native.Nat.{_≤_};
+ghost use lib.ListN.{length};
+ghost use Rattle.flow.specs.Listing;
+ghost use Rattle.lines.specs.Output.{Printed, roomForAll, sheetsPrint};
+use flow::Refusal;
+
+// What a sheet and a use sheet print.
+fn of_sheets(sheet: &[u64], uses: &[u64], output: &mut [u8]) -> usize
+    requires { ⌜ roomForAll ≤ length (now output) ⌝ }
+    ensures { λ r. ⌜ Printed (sheetsPrint (now (sheet .entry)) (now (uses .entry))) (now (output .entry)) (now (output .exit)) r ⌝ }
+{
+    let mut first = [0u64; 1600];
+    let mut second = [0u64; 1600];
+    let mut start = [0u64; 1600];
+    let mut reachable = [0u64; 1600];
+    let mut code_span = [0u64; 1024];
+    let mut code_node = [0u64; 1024];
+    let mut name_span = [0u64; 1024];
+    let mut name_node = [0u64; 1024];
+    let mut name_end = [0u64; 1024];
+    let mut words = [0u64; 3072];
+    let mut spans = [0u64; 3072];
+    let mut marks = [0u64; 1024];
+    let answer = judge::judge(
+        sheet,
+        uses,
+        &mut first,
+        &mut second,
+        &mut start,
+        &mut reachable,
+        &mut code_span,
+        &mut code_node,
+        &mut name_span,
+        &mut name_node,
+        &mut name_end,
+        &mut words,
+        &mut spans,
+        &mut marks,
+    );
+    lines::answered(output, answer, &reachable, &words, &spans)
+}
+
+// What a file's words print: the sheet ends where they say.
+fn of_words(words: &[u64], output: &mut [u8]) -> usize
+    requires { ⌜ roomForAll ≤ length (now output) ⌝ }
+    ensures { λ r. ⌜ Printed (Listing.printedWords (now (words .entry))) (now (output .entry)) (now (output .exit)) r ⌝ }
+{
+    let end = lines::reader::sheet_end(words);
+    of_sheets(&words[..end], &words[end..], output)
+}
+
+// What a file prints. The result is how many bytes of the output that takes.
+pub fn listing(input: &[u8], output: &mut [u8]) -> usize
+    requires { ⌜ roomForAll ≤ length (now output) ⌝ }
+    ensures { λ r. ⌜ Printed (Listing.printed (now (input .entry))) (now (output .entry)) (now (output .exit)) r ⌝ }
+{
+    if lines::reader::lost_or_spare(input) {
+        return lines::refused(output, Refusal::Miscount);
+    }
+    let n = input.len() / 8;
+    let mut words = [0u64; lines::reader::WORDS];
+    lines::reader::read_words(input, &mut words, n);
+    of_words(&words[..n], output)
+}
