@@ -1,11 +1,14 @@
-// One case of the stored answers: what it says of admission, against what crates/admission answers.
+// One case of the stored answers, against what the calls and crates/admission answer.
 ghost use mathlib.Core.Path.{_≡_};
-ghost use Prim.Native.Nat.{_≤_};
+ghost use Prim.Native.Nat.{_+_, _*_, _<_, _≤_};
 ghost use lib.ListN.{length};
-ghost use Rattle.flow.specs.Refusals;
 ghost use Rattle.replay.specs.Stored.{stored};
+use crate::chart::chart_agrees;
+use crate::findings::judge_agrees;
+use crate::run::refusal_agrees;
+use crate::run::runs_agree;
 use flow::Bench;
-use flow::Refusal;
+use flow::LabelAnswer;
 use flow::Verdict;
 
 // Misshapen: a length goes past the case's end. Unread: the file ends in the case, or the case is
@@ -18,38 +21,23 @@ pub enum Outcome {
     End,
 }
 
-// The table's number of a refusal.
-fn refusal_number(refusal: Refusal) -> u64
-    ensures { λ r. ⌜ r ≡ Refusals.number refusal ⌝ }
-{
-    match refusal {
-        Refusal::BenchTooSmall => 1,
-        Refusal::Miscount => 2,
-        Refusal::BadItem => 3,
-        Refusal::TooDeep => 4,
-        Refusal::BadNesting => 5,
-        Refusal::OffTheLine => 6,
-        Refusal::BadName => 7,
-        Refusal::BadUse => 8,
-    }
-}
-
 // The word that a case holds for a verdict.
 fn number(verdict: Verdict) -> u64
     ensures { λ r. ⌜ r ≡ stored verdict ⌝ }
 {
     match verdict {
         Verdict::Admitted => 0,
-        Verdict::Refused(refusal) => refusal_number(refusal),
+        Verdict::Refused(refusal) => admission::number(refusal),
     }
 }
 
-// A case's label word holds the answer too, no or yes, where the sheet is admitted.
-fn label_agrees(verdict: u64, word: u64) -> bool {
-    if verdict == 0 {
-        return word <= 1;
+// The word that a case holds for the label check.
+fn label_word(answer: LabelAnswer) -> u64 {
+    match answer {
+        LabelAnswer::Refused(refusal) => admission::number(refusal),
+        LabelAnswer::Yes => 1,
+        LabelAnswer::No => 0,
     }
-    word == verdict
 }
 
 // Whether chart and judge answer these two words over a bench.
@@ -85,7 +73,7 @@ fn small_benches_agree(sheet: &[u64], uses: &[u64], chart: u64) -> bool {
 
 // Whether the calls answer a case's three words: chart's, judge's, the label check's.
 fn answers_agree(sheet: &[u64], uses: &[u64], chart: u64, judge: u64, label: u64) -> bool {
-    if !label_agrees(number(admission::sheet_verdict(sheet)), label) {
+    if label_word(calls::label_check(sheet)) != label {
         return false;
     }
     if !both_agree(bench(1600, 1024, 1024, 3072), sheet, uses, chart, judge) {
@@ -109,6 +97,100 @@ fn list_end(case: &[u64], at: usize) -> usize
     at + 1 + n as usize
 }
 
+// Whether judge answers the findings that are stored: their number, their words, their spans.
+fn findings_agree(
+    sheet: &[u64],
+    uses: &[u64],
+    cells: &[u64],
+    n: usize,
+    c: usize,
+    l: usize,
+    found: &[u64],
+) -> bool
+    requires { ⌜ 4 * n + 2 * c + 3 * l ≤ length (now cells) ⌝ }
+{
+    if found.len() == 0 {
+        return false;
+    }
+    if found[0] > 3072 {
+        return false;
+    }
+    let findings = found[0] as usize;
+    if found.len() != 2 * findings + 1 {
+        return false;
+    }
+    judge_agrees(sheet, uses, 0, cells, n, c, l, &found[1..], findings)
+}
+
+// Whether run answers the runs that are stored: their number, then the runs. Then judge's refusal, or the findings.
+fn runs_and_findings_agree(
+    sheet: &[u64],
+    uses: &[u64],
+    judge: u64,
+    cells: &[u64],
+    n: usize,
+    c: usize,
+    l: usize,
+    rest: &[u64],
+) -> bool
+    requires { ⌜ (4 * n + 2 * c + 3 * l ≤ length (now cells)) × (0 < length (now rest)) ⌝ }
+{
+    if rest[0] > (rest.len() - 1) as u64 / 3 {
+        return false;
+    }
+    let count = rest[0] as usize;
+    if !runs_agree(sheet, &rest[1..], count) {
+        return false;
+    }
+    if judge != 0 {
+        return judge_agrees(sheet, uses, judge, cells, 0, 0, 0, cells, 0);
+    }
+    let found = 1 + 3 * count;
+    findings_agree(sheet, uses, cells, n, c, l, &rest[found..])
+}
+
+// Whether the calls answer what is stored of an admitted sheet: three counts, the chart's cells, the runs, the findings.
+fn graph_agrees(sheet: &[u64], uses: &[u64], judge: u64, stored: &[u64]) -> bool {
+    if stored.len() < 3 {
+        return false;
+    }
+    if stored[0] > 1600 {
+        return false;
+    }
+    if stored[1] > 1024 {
+        return false;
+    }
+    if stored[2] > 1024 {
+        return false;
+    }
+    let n = stored[0] as usize;
+    let c = stored[1] as usize;
+    let l = stored[2] as usize;
+    let runs = 3 + 4 * n + 2 * c + 3 * l;
+    if stored.len() <= runs {
+        return false;
+    }
+    let cells = &stored[3..];
+    if !chart_agrees(sheet, 0, cells, n, c, l) {
+        return false;
+    }
+    runs_and_findings_agree(sheet, uses, judge, cells, n, c, l, &stored[runs..])
+}
+
+// Whether the calls answer as stored, which for a refused sheet is their numbers alone.
+fn calls_agree(sheet: &[u64], uses: &[u64], chart: u64, judge: u64, stored: &[u64]) -> bool {
+    if chart == 0 {
+        return graph_agrees(sheet, uses, judge, stored);
+    }
+    if !refusal_agrees(sheet, chart) {
+        return false;
+    }
+    if !chart_agrees(sheet, chart, stored, 0, 0, 0) {
+        return false;
+    }
+    judge_agrees(sheet, uses, judge, stored, 0, 0, 0, stored, 0)
+}
+
 // The outcome for the words of a case that follow its length.
 pub fn compare(case: &[u64]) -> Outcome {
     let sheet_end = list_end(case, 0);
@@ -125,14 +207,14 @@ pub fn compare(case: &[u64]) -> Outcome {
     let uses_start = sheet_end + 1;
     let sheet = &case[1..sheet_end];
     let uses = &case[uses_start..uses_end];
-    if answers_agree(
-        sheet,
-        uses,
-        case[uses_end],
-        case[uses_end + 1],
-        case[uses_end + 2],
-    ) {
-        return Outcome::Agrees;
+    let answers = &case[uses_end..];
+    let chart = answers[0];
+    let judge = answers[1];
+    if !answers_agree(sheet, uses, chart, judge, answers[2]) {
+        return Outcome::Differs;
     }
-    Outcome::Differs
+    if !calls_agree(sheet, uses, chart, judge, &answers[3..]) {
+        return Outcome::Differs;
+    }
+    Outcome::Agrees
 }

@@ -1,10 +1,13 @@
-// Replays the stored answers of data/ as far as admission goes, and says how many cases differ.
+// Replays the stored answers of data/ and says how many cases differ.
 ghost use Prim.Native.Nat.{_≤_};
 use case::Outcome;
 use libc::STDOUT_FILENO;
 
 mod case;
+mod chart;
+mod findings;
 mod reader;
+mod run;
 
 struct Tally {
     cases: u64,

@@ -1,0 +1,180 @@
+// 01's bench pieces that are not starred: "1,024 items pass, 1,025 give 2; 64 nested DO pass, 65 give 4".
+// Prints the number that each call gives for each, 0 where it passes.
+ghost use Prim.Native.Nat.{_≤_};
+use flow::ChartAnswer;
+use flow::JudgeAnswer;
+use flow::LabelAnswer;
+use flow::RunAnswer;
+use libc::STDOUT_FILENO;
+
+// Items' words: kind + 256 × argument. The scope end of each DO is 1.
+const DO: u64 = 8193;
+
+const END: u64 = 8;
+
+const PLAIN: u64 = 18;
+
+// A span's word is start + 2^32 × end.
+const HALF: u64 = 4294967296;
+
+// n PLAIN items, one after the other.
+fn plain_items(sheet: &mut [u64; 2052], n: usize)
+    requires { ⌜ n ≤ 1025 ⌝ }
+{
+    sheet[0] = n as u64;
+    sheet[1] = n as u64;
+    let mut i = 0;
+    while i < n {
+        let start = i as u64;
+        sheet[2 + i] = PLAIN;
+        sheet[2 + n + i] = start + HALF * (start + 1);
+        i += 1;
+    }
+}
+
+// A PLAIN item in as many DO as `depth` says.
+fn nested_do(sheet: &mut [u64; 2052], depth: usize)
+    requires { ⌜ depth ≤ 65 ⌝ }
+{
+    let n = 2 * depth + 1;
+    sheet[0] = n as u64;
+    sheet[1] = 1;
+    let mut i = 0;
+    while i < depth {
+        sheet[2 + i] = DO;
+        sheet[3 + depth + i] = END;
+        i += 1;
+    }
+    sheet[2 + depth] = PLAIN;
+    sheet[2 + n + depth] = HALF;
+}
+
+fn chart_number(answer: ChartAnswer) -> u64 {
+    match answer {
+        ChartAnswer::Refused(refusal) => admission::number(refusal),
+        ChartAnswer::Charted(_) => 0,
+    }
+}
+
+fn judge_number(answer: JudgeAnswer) -> u64 {
+    match answer {
+        JudgeAnswer::Refused(refusal) => admission::number(refusal),
+        JudgeAnswer::Judged(_, _) => 0,
+    }
+}
+
+fn run_number(answer: RunAnswer) -> u64 {
+    match answer {
+        RunAnswer::Refused(refusal) => admission::number(refusal),
+        RunAnswer::Ran(_, _) => 0,
+    }
+}
+
+// A no counts as a refusal that the table has not.
+fn label_number(answer: LabelAnswer) -> u64 {
+    match answer {
+        LabelAnswer::Refused(refusal) => admission::number(refusal),
+        LabelAnswer::Yes => 0,
+        LabelAnswer::No => 9,
+    }
+}
+
+fn chart(sheet: &[u64]) -> u64 {
+    let mut first = [0u64; 1600];
+    let mut second = [0u64; 1600];
+    let mut start = [0u64; 1600];
+    let mut reachable = [0u64; 1600];
+    let mut code_span = [0u64; 1024];
+    let mut code_node = [0u64; 1024];
+    let mut name_span = [0u64; 1024];
+    let mut name_node = [0u64; 1024];
+    let mut name_end = [0u64; 1024];
+    chart_number(calls::chart(
+        sheet,
+        &mut first,
+        &mut second,
+        &mut start,
+        &mut reachable,
+        &mut code_span,
+        &mut code_node,
+        &mut name_span,
+        &mut name_node,
+        &mut name_end,
+    ))
+}
+
+// With no uses.
+fn judge(sheet: &[u64]) -> u64 {
+    let uses = [0u64; 1];
+    let mut first = [0u64; 1600];
+    let mut second = [0u64; 1600];
+    let mut start = [0u64; 1600];
+    let mut reachable = [0u64; 1600];
+    let mut code_span = [0u64; 1024];
+    let mut code_node = [0u64; 1024];
+    let mut name_span = [0u64; 1024];
+    let mut name_node = [0u64; 1024];
+    let mut name_end = [0u64; 1024];
+    let mut finding_word = [0u64; 3072];
+    let mut finding_span = [0u64; 3072];
+    let mut mark = [0u64; 1024];
+    judge_number(judge::judge(
+        sheet,
+        &uses,
+        &mut first,
+        &mut second,
+        &mut start,
+        &mut reachable,
+        &mut code_span,
+        &mut code_node,
+        &mut name_span,
+        &mut name_node,
+        &mut name_end,
+        &mut finding_word,
+        &mut finding_span,
+        &mut mark,
+    ))
+}
+
+fn tell(what: &[u8], sheet: &[u64]) {
+    io::write_all(STDOUT_FILENO, what);
+    io::write_all(STDOUT_FILENO, b": chart ");
+    io::print_decimal(STDOUT_FILENO, chart(sheet));
+    io::write_all(STDOUT_FILENO, b", judge ");
+    io::print_decimal(STDOUT_FILENO, judge(sheet));
+    io::write_all(STDOUT_FILENO, b", run ");
+    io::print_decimal(STDOUT_FILENO, run_number(calls::run(sheet, 0)));
+    io::write_all(STDOUT_FILENO, b", label check ");
+    io::print_decimal(STDOUT_FILENO, label_number(calls::label_check(sheet)));
+    io::write_all(STDOUT_FILENO, b"\n");
+}
+
+fn tell_first(what: &[u8], sheet: &[u64; 2052], words: usize)
+    requires { ⌜ words ≤ 2052 ⌝ }
+{
+    let whole = &sheet[..];
+    tell(what, &whole[0..words]);
+}
+
+fn items(what: &[u8], n: usize)
+    requires { ⌜ n ≤ 1025 ⌝ }
+{
+    let mut sheet = [0u64; 2052];
+    plain_items(&mut sheet, n);
+    tell_first(what, &sheet, 2 * n + 2);
+}
+
+fn nested(what: &[u8], depth: usize)
+    requires { ⌜ depth ≤ 65 ⌝ }
+{
+    let mut sheet = [0u64; 2052];
+    nested_do(&mut sheet, depth);
+    tell_first(what, &sheet, 4 * depth + 4);
+}
+
+fn main() {
+    items(b"1024 items", 1024);
+    items(b"1025 items", 1025);
+    nested(b"64 nested DO", 64);
+    nested(b"65 nested DO", 65);
+}
