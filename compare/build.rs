@@ -1,7 +1,8 @@
 //! Points the library at luck's own files, which stay where they are.
 //!
 //! `LUCK_SRC` names the folder that holds `crates/`; without it the folder
-//! beside the repository is taken.
+//! beside the repository is taken. `WALDIMU_ARCHIVE` names the static library
+//! to link, if any.
 
 use std::path::{Path, PathBuf};
 use std::{env, fs};
@@ -34,6 +35,18 @@ fn main() {
         modules += &format!("#[path = {taken:?}]\npub(crate) mod {name};\n");
     }
     fs::write(out.join("luck.rs"), modules).unwrap();
+    link_archive();
+}
+
+/// With the archive, `cfg(library)` holds and the program calls it.
+fn link_archive() {
+    println!("cargo::rustc-check-cfg=cfg(library)");
+    println!("cargo::rerun-if-env-changed=WALDIMU_ARCHIVE");
+    if let Ok(archive) = env::var("WALDIMU_ARCHIVE") {
+        println!("cargo::rerun-if-changed={archive}");
+        println!("cargo::rustc-link-arg-bins={archive}");
+        println!("cargo::rustc-cfg=library");
+    }
 }
 
 /// The graph's fields are private to its module, so a child module reads

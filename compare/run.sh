@@ -1,23 +1,41 @@
 #!/bin/sh
 # A bounded comparison: luck's own Rust, the reading of document 01 and, where
 # FLOWLIST names the program, the Rattle side. Ends with the first difference.
+# `run.sh library` lets the static library answer too: the one that
+# WALDIMU_ARCHIVE names, or else one that is built first.
 # LUCK_SRC names the folder with luck's files, if it is not the usual one.
 set -eu
 here=$(cd "$(dirname "$0")" && pwd)
 luck=${LUCK_SRC:-$here/../../shared/docs/src}
 
-if ! command -v cargo >/dev/null 2>&1; then
-    echo "compare: skipped, there is no cargo here"
+skip() {
+    echo "compare: skipped, $1"
     exit 0
-fi
-if [ ! -r "$luck/crates/luck_linter/src/cfg.rs" ]; then
-    echo "compare: skipped, luck's files are not at hand (LUCK_SRC)"
-    exit 0
-fi
+}
+
+command -v cargo >/dev/null 2>&1 || skip "there is no cargo here"
+[ -r "$luck/crates/luck_linter/src/cfg.rs" ] || skip "luck's files are not at hand (LUCK_SRC)"
 LUCK_SRC=$(cd "$luck" && pwd)
 export LUCK_SRC
-
 cd "$here"
+
+if [ "${1:-}" = library ]; then
+    WALDIMU_ARCHIVE=${WALDIMU_ARCHIVE-$(../examples/archive.sh)}
+    [ -n "$WALDIMU_ARCHIVE" ] || skip "there is no static library"
+    export WALDIMU_ARCHIVE
+    cargo build --release --offline --quiet --target-dir target/library
+    compare=target/library/release/compare
+    $compare short --length 3
+    $compare short --length 3 --uses 2
+    $compare pairs --pairs 200000 --seed 3
+    if command -v cc >/dev/null 2>&1; then
+        cc -Wall -Werror -I../include -o target/stack stack.c "$WALDIMU_ARCHIVE" -lpthread
+        echo "bytes of stack:"
+        target/stack
+    fi
+    exit 0
+fi
+
 cargo build --release --offline --quiet --target-dir target
 compare=target/release/compare
 
@@ -31,6 +49,19 @@ echo "sides with a known fault: each found"
 for program in luac5.2 luac5.3; do
     $compare luac $program --pairs 1000 --seed 1
 done
+for example in ../examples/*/; do
+    $compare print <"$example"sheet.bin >target/printed.txt
+    sed -n 's/^= //p' "$example"sheet.txt | cmp -s - target/printed.txt || {
+        echo "luck prints other lines for ${example}sheet.bin"
+        exit 1
+    }
+    name=$(basename "$example")
+    $compare columns <"$example"sheet.bin | sed '/^finding/d' | cmp -s - "../docs/pictures/$name.columns" || {
+        echo "docs/pictures/$name.columns holds other columns than luck's"
+        exit 1
+    }
+done
+echo "examples: lines and columns are luck's"
 if command -v python3 >/dev/null 2>&1; then
     for piece in pieces/*.txt; do
         $compare words "$piece" >target/piece.bin

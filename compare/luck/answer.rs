@@ -1,5 +1,6 @@
 //! Scopes, symbols and references of an admitted pair, and luck's answers.
 
+use std::hint::black_box;
 use std::sync::OnceLock;
 
 use crate::cfg::{Exit, FlowGraph, cells};
@@ -41,37 +42,70 @@ impl Flow {
 
 /// luck's answers for a pair that 01 admits.
 pub fn flow_of(sheet: &[u64], uses: &[u64]) -> Flow {
-    let items = items_of(sheet);
-    let block = TreeMaker::whole(&items, sheet[1] as u32);
-    let semantic = SemanticAnalysis {
-        scope_tree: scope_tree(&items, uses),
-        extra_globals: FxHashSet::default(),
-        version: LuaVersion,
-        environment: StdlibEnvironment::Standalone,
-        symbol_shapes: FxHashMap::default(),
-    };
-    let mut uninitialized_locals = UninitializedLocals::default();
-    each_stmt(&block, &mut |stmt| uninitialized_locals.record(stmt));
-    uninitialized_locals.sort();
+    Script::new(sheet, uses).flow()
+}
 
-    let context = LintContext {
-        block: &block,
-        blocks: &[&block],
-        function_blocks: &[&block],
-        uninitialized_locals: &uninitialized_locals,
-        semantic: &semantic,
-        source: "",
-        comments: &[],
-        config: &LintConfig,
-        local_flow: OnceLock::new(),
-    };
-    let (finding_word, finding_span) =
-        findings(&LocalFlow::compute(&context), &semantic.scope_tree);
+/// What luck has before it asks for the flow: the tree, its scopes, and the
+/// names without a value.
+pub struct Script {
+    block: Block,
+    semantic: SemanticAnalysis,
+    uninitialized_locals: UninitializedLocals,
+}
 
-    let flow_graph = FlowGraph::of_block(&block, &semantic);
-    let exits = [Exit::End, Exit::Break, Exit::ReturnValue, Exit::ReturnEmpty, Exit::Error]
-        .map(|exit| flow_graph.reaches(exit));
-    Flow { graph: cells::read(&flow_graph), exits, finding_word, finding_span, flow_graph }
+impl Script {
+    pub fn new(sheet: &[u64], uses: &[u64]) -> Self {
+        let items = items_of(sheet);
+        let block = TreeMaker::whole(&items, sheet[1] as u32);
+        let semantic = SemanticAnalysis {
+            scope_tree: scope_tree(&items, uses),
+            extra_globals: FxHashSet::default(),
+            version: LuaVersion,
+            environment: StdlibEnvironment::Standalone,
+            symbol_shapes: FxHashMap::default(),
+        };
+        let mut uninitialized_locals = UninitializedLocals::default();
+        each_stmt(&block, &mut |stmt| uninitialized_locals.record(stmt));
+        uninitialized_locals.sort();
+        Self { block, semantic, uninitialized_locals }
+    }
+
+    fn local_flow(&self) -> LocalFlow {
+        LocalFlow::compute(&LintContext {
+            block: &self.block,
+            blocks: &[&self.block],
+            function_blocks: &[&self.block],
+            uninitialized_locals: &self.uninitialized_locals,
+            semantic: &self.semantic,
+            source: "",
+            comments: &[],
+            config: &LintConfig,
+            local_flow: OnceLock::new(),
+        })
+    }
+
+    fn flow_graph(&self) -> FlowGraph {
+        FlowGraph::of_block(&self.block, &self.semantic)
+    }
+
+    fn flow(&self) -> Flow {
+        let (finding_word, finding_span) = findings(&self.local_flow(), &self.semantic.scope_tree);
+        let flow_graph = self.flow_graph();
+        let exits = [Exit::End, Exit::Break, Exit::ReturnValue, Exit::ReturnEmpty, Exit::Error]
+            .map(|exit| flow_graph.reaches(exit));
+        Flow { graph: cells::read(&flow_graph), exits, finding_word, finding_span, flow_graph }
+    }
+
+    /// `FlowGraph::of_block` alone, for its time. Gives the number of nodes.
+    pub fn build_graph(&self) -> usize {
+        black_box(self.flow_graph()).node_count()
+    }
+
+    /// `LocalFlow::compute` alone, for its time. Gives the number of findings.
+    pub fn compute_flow(&self) -> usize {
+        let flow = black_box(self.local_flow());
+        flow.first_unassigned_uses.len() + flow.overwritten_values.len()
+    }
 }
 
 fn findings(flow: &LocalFlow, tree: &ScopeTree) -> (Vec<u64>, Vec<u64>) {

@@ -21,17 +21,31 @@ pub const COLUMNS: [(&str, usize); 12] = [
 const MARK: usize = 11;
 const WORKING_LEAST: usize = 1600;
 
-#[derive(Clone, Copy, PartialEq, Eq)]
+#[derive(Debug, Clone, Copy, PartialEq, Eq)]
 pub enum Call {
     Chart,
     Judge,
+    Run,
+    LabelCheck,
 }
 
 impl Call {
+    pub const ALL: [Self; 4] = [Self::Chart, Self::Judge, Self::Run, Self::LabelCheck];
+
+    pub fn name(self) -> &'static str {
+        match self {
+            Self::Chart => "chart",
+            Self::Judge => "judge",
+            Self::Run => "run",
+            Self::LabelCheck => "label check",
+        }
+    }
+
     fn columns(self) -> usize {
         match self {
             Self::Chart => 9,
             Self::Judge => 12,
+            Self::Run | Self::LabelCheck => 0,
         }
     }
 }
@@ -48,7 +62,7 @@ pub type Returned = Answer<Vec<u64>>;
 /// What an accepted call writes, column by column, or a refusal's number.
 pub type Wanted = Answer<Vec<Vec<u64>>>;
 
-/// The four calls of a library that writes into what it is lent.
+/// The calls of a library that writes into what it is lent.
 pub trait Lending {
     fn name(&self) -> String;
     fn working_columns(&self, call: Call) -> usize;
@@ -69,7 +83,7 @@ pub struct Lender<L: Lending> {
 
 /// Short columns are lent with sheets of at most this many words, as there
 /// are many columns and the sheet matters little.
-const TINY: usize = 12;
+const TINY: usize = 6;
 
 impl<L: Lending> Lender<L> {
     pub fn new(library: L) -> Self {
@@ -90,30 +104,64 @@ impl<L: Lending> Lender<L> {
         Lent { written, working }
     }
 
-    fn call(&mut self, call: Call, case: &Case, before: &Lent, wanted: &Wanted) -> Option<String> {
-        let mut after = before.clone();
-        let (name, returned) = match call {
-            Call::Chart => ("chart", self.library.chart(&case.sheet, &mut after)),
-            Call::Judge => ("judge", self.library.judge(&case.sheet, &case.uses, &mut after)),
+    /// A call over whole columns and, with a tiny sheet, over short ones.
+    fn lent(
+        &mut self,
+        call: Call,
+        case: &Case,
+        wanted: &Wanted,
+        made: impl Fn(&mut L, &mut Lent) -> Returned,
+    ) -> Option<String> {
+        let answer = |library: &mut L, before: &Lent, wanted: &Wanted| {
+            let mut after = before.clone();
+            let returned = made(library, &mut after);
+            lent_difference(call.name(), wanted, &returned, before, &after)
         };
-        lent_difference(name, wanted, &returned, before, &after)
-    }
-
-    /// Each column in turn too short by a cell, or empty.
-    fn short_columns(&mut self, call: Call, case: &Case) -> Option<String> {
         let whole = self.lend(call);
+        let what = answer(&mut self.library, &whole, wanted);
+        if what.is_some() || case.sheet.len() > TINY {
+            return what;
+        }
         (0..call.columns() + whole.working.len()).find_map(|at| {
-            let mut short = whole.clone();
-            let working = at.checked_sub(call.columns());
-            let (name, least) = working.map_or_else(|| COLUMNS[at], |_| ("working", WORKING_LEAST));
-            let column = match working {
-                Some(place) => &mut short.working[place],
-                None => &mut short.written[at],
-            };
-            column.truncate(if self.random.percent(20) { 0 } else { least - 1 });
-            let what = self.call(call, case, &short, &Err(1));
+            let (name, short) = self.shortened(call, &whole, at);
+            let what = answer(&mut self.library, &short, &Err(1));
             what.map(|what| format!("with the column '{name}' too short, {what}"))
         })
+    }
+
+    /// One column too short by a cell, or empty.
+    fn shortened(&mut self, call: Call, whole: &Lent, at: usize) -> (&'static str, Lent) {
+        let mut short = whole.clone();
+        let working = at.checked_sub(call.columns());
+        let (name, least) = working.map_or_else(|| COLUMNS[at], |_| ("working", WORKING_LEAST));
+        let column = match working {
+            Some(place) => &mut short.working[place],
+            None => &mut short.written[at],
+        };
+        column.truncate(if self.random.percent(20) { 0 } else { least - 1 });
+        (name, short)
+    }
+
+    fn ask(&mut self, call: Call, case: &Case, expected: &Answers) -> Option<String> {
+        let Case { sheet, uses, .. } = case;
+        match call {
+            Call::Chart => {
+                let wanted = expected.chart.clone().map(|chart| columns_of(&chart.columns()));
+                self.lent(call, case, &wanted, |library, lent| library.chart(sheet, lent))
+            }
+            Call::Judge => {
+                let wanted = expected.judge.clone().map(|judged| columns_of(&judged.columns()));
+                self.lent(call, case, &wanted, |library, lent| library.judge(sheet, uses, lent))
+            }
+            Call::Run => expected.runs.iter().find_map(|(offset, want)| {
+                let have = self.library.run(sheet, *offset);
+                answer_difference(&format!("run {offset}"), want, &have, plain_difference)
+            }),
+            Call::LabelCheck => {
+                let have = self.library.label_check(sheet);
+                answer_difference(call.name(), &expected.labels, &have, plain_difference)
+            }
+        }
     }
 }
 
@@ -123,27 +171,7 @@ impl<L: Lending> Side for Lender<L> {
     }
 
     fn difference(&mut self, case: &Case, expected: &Answers) -> Option<String> {
-        let chart = expected.chart.clone().map(|chart| columns_of(&chart.columns()));
-        let judge = expected.judge.clone().map(|judged| columns_of(&judged.columns()));
-        for (call, wanted) in [(Call::Chart, chart), (Call::Judge, judge)] {
-            let before = self.lend(call);
-            if let Some(what) = self.call(call, case, &before, &wanted) {
-                return Some(what);
-            }
-            if case.sheet.len() <= TINY
-                && let Some(what) = self.short_columns(call, case)
-            {
-                return Some(what);
-            }
-        }
-        let runs = expected.runs.iter().find_map(|(offset, want)| {
-            let have = self.library.run(&case.sheet, *offset);
-            answer_difference(&format!("run {offset}"), want, &have, plain_difference)
-        });
-        runs.or_else(|| {
-            let have = self.library.label_check(&case.sheet);
-            answer_difference("labels", &expected.labels, &have, plain_difference)
-        })
+        Call::ALL.into_iter().find_map(|call| self.ask(call, case, expected))
     }
 }
 

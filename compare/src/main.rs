@@ -3,11 +3,14 @@
 
 mod admitted;
 mod answers;
+mod bench;
 mod cases;
 mod damage;
 mod draft;
 mod flowlist;
 mod lent;
+#[cfg(library)]
+mod library;
 mod limits;
 mod luac;
 mod luck_side;
@@ -49,14 +52,17 @@ impl Options {
 
 fn sides(options: &Options) -> Vec<Box<dyn Side>> {
     let mut sides: Vec<Box<dyn Side>> = vec![Box::new(luck_side::Luck)];
+    #[cfg(library)]
+    sides.push(Box::new(lent::Lender::new(library::Library)));
     if let Some(program) = options.text("--flowlist") {
         sides.push(Box::new(flowlist::Flowlist { program: program.into() }));
     }
     sides
 }
 
-fn tell(what: &str, tally: &Tally, options: &Options) {
-    println!("{what}: {} pairs, no difference", tally.pairs);
+fn tell(what: &str, sides: &[Box<dyn Side>], tally: &Tally, options: &Options) {
+    let names: Vec<String> = sides.iter().map(|side| side.name()).collect();
+    println!("{what}: {} pairs, no difference from {}", tally.pairs, names.join(", "));
     println!("  admitted {}, refused with 2 to 8: {:?}", tally.refused[0], &tally.refused[2..]);
     println!(
         "  findings: {} unassigned, {} overwritten; label check yes: {}; most nodes, uses, findings: {:?}",
@@ -80,7 +86,7 @@ fn pairs(options: &Options) -> Result<(), String> {
         run::check(&made, &mut sides, &mut tally)
             .map_err(|what| format!("seed {seed}, pair {number}: {what}"))?;
     }
-    tell(&format!("limits, and pairs of seed {seed}"), &tally, options);
+    tell(&format!("limits, and pairs of seed {seed}"), &sides, &tally, options);
     Ok(())
 }
 
@@ -101,7 +107,7 @@ fn every_short(options: &Options) -> Result<(), String> {
         }
         outcome?;
     }
-    tell(&format!("every sequence of up to {longest} kinds, uses {uses}"), &tally, options);
+    tell(&format!("every sequence of up to {longest} kinds, uses {uses}"), &sides, &tally, options);
     Ok(())
 }
 
@@ -147,6 +153,7 @@ fn main() -> ExitCode {
         "stored" => stored::check(options.plain().as_ref()),
         "print" => print(),
         "columns" => columns(),
+        "bench" => bench::command(&options),
         "words" => words(options.plain()),
         _ => Err("no such command; README.md describes them".to_owned()),
     };
