@@ -15,7 +15,7 @@ use Rattle.flow.specs.Reachable.{chart}
 use Rattle.flow.specs.Admitted.{AdmittedSheet, AdmittedChart}
 use Rattle.flow.proofs.Admission.{admitted, of-chart}
 use Rattle.chart.specs.Lent.{Columns, Wide, Charted}
-use Rattle.calls.specs.Lent.{shortest, chartBench, ChartPromise}
+use Rattle.calls.specs.Lent.{shortest, shorter, chartBench, ChartPromise}
 
 -- none of four is shorter than the shortest
 pub all-long : {n : ℕ} (a b c d : List ℕ) → n ≤ shortest a b c d → (n ≤ length a) × (n ≤ length b) × (n ≤ length c) × (n ≤ length d)
@@ -28,6 +28,9 @@ all-long a b c d h =
       omega (arith, min-le-right (length c) (length d)),
     )
 
+pub both-long : {n : ℕ} (a b : List ℕ) → n ≤ shorter a b → (n ≤ length a) × (n ≤ length b)
+both-long a b h = (omega (arith, min-le-left (length a) (length b)), omega (arith, min-le-right (length a) (length b)))
+
 module _ (x : Columns) (S : List ℕ) (e : chartVerdict (chartBench x) S ≡ Admitted) where
   bench : AdmittedChart (chartBench x) S
   bench = of-chart (chartBench x) S e
@@ -39,7 +42,7 @@ module _ (x : Columns) (S : List ℕ) (e : chartVerdict (chartBench x) S ≡ Adm
   unfolding chartBench
   wide =
       let n = all-long (x .first) (x .second) (x .start) (x .reachable) (bench .nodes) in
-      let c = all-long (x .codeSpan) (x .codeNode) (x .codeSpan) (x .codeNode) (bench .codes) in
+      let c = both-long (x .codeSpan) (x .codeNode) (bench .codes) in
       let l = all-long (x .nameSpan) (x .nameNode) (x .nameEnd) (x .nameEnd) (bench .locals) in
       record { first = n .0; second = n .1; start = n .2; reachable = n .3; codeSpan = c .0; codeNode = c .1; nameSpan = l .0; nameNode = l .1; nameEnd = l .2 }
 

@@ -13,16 +13,20 @@ use Rattle.flow.specs.Reachable.{chart}
 use Rattle.chart.specs.Lent.{Columns, chartOf}
 
 -- "columns lent below 1,600 nodes, 1,024 codes, 1,024 locals": the shortest column of each sort tells
+abbrev pub least : ℕ → ℕ → ℕ → ℕ → ℕ
+least a b c d = min (min a b) (min c d)
+
 abbrev pub shortest : List ℕ → List ℕ → List ℕ → List ℕ → ℕ
-shortest a b c d = min (min (length a) (length b)) (min (length c) (length d))
+shortest a b c d = least (length a) (length b) (length c) (length d)
+
+abbrev pub shorter : List ℕ → List ℕ → ℕ
+shorter a b = min (length a) (length b)
+
+abbrev pub benchOf : ℕ → ℕ → ℕ → ℕ → Bench
+benchOf n c l f = record { nodes = n; codes = c; locals = l; findings = f }
 
 unfoldable pub chartBench : Columns → Bench
-chartBench x = record {
-  nodes = shortest (x .first) (x .second) (x .start) (x .reachable);
-  codes = shortest (x .codeSpan) (x .codeNode) (x .codeSpan) (x .codeNode);
-  locals = shortest (x .nameSpan) (x .nameNode) (x .nameEnd) (x .nameEnd);
-  findings = 0;
-}
+chartBench x = benchOf (shortest (x .first) (x .second) (x .start) (x .reachable)) (shorter (x .codeSpan) (x .codeNode)) (shortest (x .nameSpan) (x .nameNode) (x .nameEnd) (x .nameEnd)) 0
 
 -- "A refusal writes nothing."
 abbrev pub chartLeaves : Verdict → List ℕ → Columns → Columns

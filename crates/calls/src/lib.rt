@@ -7,7 +7,7 @@ ghost use Rattle.flow.specs.Reachable.{runAnswer, run as runs};
 ghost use Rattle.flow.specs.Admitted.{AdmittedSheet};
 ghost use Rattle.flow.specs.Labels.{labelCheck};
 ghost use Rattle.chart.specs.Lent.{columns, Wide};
-ghost use Rattle.calls.specs.Lent.{ChartPromise};
+ghost use Rattle.calls.specs.Lent.{least, benchOf, ChartPromise};
 use flow::Bench;
 use flow::ChartAnswer;
 use flow::LabelAnswer;
@@ -21,12 +21,37 @@ fn shorter(a: usize, b: usize) -> usize
     if a < b { a } else { b }
 }
 
-pub fn shortest(a: usize, b: usize, c: usize, d: usize) -> usize
-    ensures { λ r. ⌜ r ≡ min (min a b) (min c d) ⌝ }
+fn shortest(a: usize, b: usize, c: usize, d: usize) -> usize
+    ensures { λ r. ⌜ r ≡ least a b c d ⌝ }
 {
     let e = shorter(a, b);
     let f = shorter(c, d);
     shorter(e, f)
+}
+
+// What is lent for each sort, by the lengths of its columns: the shortest tells.
+pub fn bench_of(
+    first: usize,
+    second: usize,
+    start: usize,
+    reachable: usize,
+    code_span: usize,
+    code_node: usize,
+    name_span: usize,
+    name_node: usize,
+    name_end: usize,
+    mark: usize,
+    finding_word: usize,
+    finding_span: usize,
+) -> Bench
+    ensures { λ r. ⌜ r ≡ benchOf (least first second start reachable) (min «code_span» «code_node») (least «name_span» «name_node» «name_end» mark) (min «finding_word» «finding_span») ⌝ }
+{
+    Bench {
+        nodes: shortest(first, second, start, reachable),
+        codes: shorter(code_span, code_node),
+        locals: shortest(name_span, name_node, name_end, mark),
+        findings: shorter(finding_word, finding_span),
+    }
 }
 
 // The graph of a sheet, in the columns that are lent.
@@ -44,25 +69,20 @@ pub fn chart(
 ) -> ChartAnswer
     ensures { λ r. ⌜ ChartPromise (now (sheet .entry)) (columns (now (first .entry)) (now (second .entry)) (now (start .entry)) (now (reachable .entry)) (now («code_span» .entry)) (now («code_node» .entry)) (now («name_span» .entry)) (now («name_node» .entry)) (now («name_end» .entry))) r (columns (now (first .exit)) (now (second .exit)) (now (start .exit)) (now (reachable .exit)) (now («code_span» .exit)) (now («code_node» .exit)) (now («name_span» .exit)) (now («name_node» .exit)) (now («name_end» .exit))) ⌝ }
 {
-    let nodes = shortest(first.len(), second.len(), start.len(), reachable.len());
-    let codes = shortest(
+    let bench = bench_of(
+        first.len(),
+        second.len(),
+        start.len(),
+        reachable.len(),
         code_span.len(),
         code_node.len(),
-        code_span.len(),
-        code_node.len(),
-    );
-    let locals = shortest(
         name_span.len(),
         name_node.len(),
         name_end.len(),
         name_end.len(),
+        0,
+        0,
     );
-    let bench = Bench {
-        nodes,
-        codes,
-        locals,
-        findings: 0,
-    };
     let verdict = admission::chart_verdict(bench, sheet);
     if let Verdict::Refused(refusal) = verdict {
         return ChartAnswer::Refused(refusal);

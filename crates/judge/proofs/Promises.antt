@@ -19,7 +19,7 @@ use Rattle.flow.specs.Admitted.{AdmittedJudge}
 use Rattle.flow.proofs.Admission.{of-judge}
 use Rattle.flow.proofs.Judged.{judged}
 use Rattle.chart.specs.Lent.{over, Columns, Wide}
-use Rattle.calls.proofs.Bench.{all-long}
+use Rattle.calls.proofs.Bench.{all-long, both-long}
 use Rattle.judge.specs.Lent.{judgeBench, foundIn, MarksLeft, JudgePromise}
 use Rattle.judge.specs.Accepted.{Accepted}
 
@@ -49,14 +49,14 @@ module _ (S U : List ℕ) (x : Columns) (words spans marks : List ℕ) where
     unfolding judgeBench
     wide =
         let n = all-long (x .first) (x .second) (x .start) (x .reachable) (ok .chart .nodes) in
-        let c = all-long (x .codeSpan) (x .codeNode) (x .codeSpan) (x .codeNode) (ok .chart .codes) in
+        let c = both-long (x .codeSpan) (x .codeNode) (ok .chart .codes) in
         let l = all-long (x .nameSpan) (x .nameNode) (x .nameEnd) marks (ok .chart .locals) in
         record { first = n .0; second = n .1; start = n .2; reachable = n .3; codeSpan = c .0; codeNode = c .1; nameSpan = l .0; nameNode = l .1; nameEnd = l .2 }
 
     pub long : (3072 ≤ length words) × (3072 ≤ length spans) × (1024 ≤ length marks)
     unfolding judgeBench
     long =
-        let f = all-long words spans words spans (ok .findings) in
+        let f = both-long words spans (ok .findings) in
         let l = all-long (x .nameSpan) (x .nameNode) (x .nameEnd) marks (ok .chart .locals) in
         (f .0, f .1, l .3)
 

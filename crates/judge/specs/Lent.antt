@@ -14,16 +14,12 @@ use Rattle.flow.specs.Graph.{nodeCount, graph}
 use Rattle.flow.specs.Findings.{locals, findings, wordsOf, spansOf, judge}
 use Rattle.flow.specs.Demand.{Demand3}
 use Rattle.chart.specs.Lent.{over, Columns}
-use Rattle.calls.specs.Lent.{shortest, chartLeaves}
+use Rattle.calls.specs.Lent.{shortest, shorter, benchOf, chartLeaves}
 
 -- judge's columns beside chart's: the words and spans of findings, and the mark figures
 unfoldable pub judgeBench : Columns → List ℕ → List ℕ → List ℕ → Bench
-judgeBench x words spans marks = record {
-  nodes = shortest (x .first) (x .second) (x .start) (x .reachable);
-  codes = shortest (x .codeSpan) (x .codeNode) (x .codeSpan) (x .codeNode);
-  locals = shortest (x .nameSpan) (x .nameNode) (x .nameEnd) marks;
-  findings = shortest words spans words spans;
-}
+judgeBench x words spans marks =
+    benchOf (shortest (x .first) (x .second) (x .start) (x .reachable)) (shorter (x .codeSpan) (x .codeNode)) (shortest (x .nameSpan) (x .nameNode) (x .nameEnd) marks) (shorter words spans)
 
 -- "A refusal writes nothing."
 abbrev pub leaves : Verdict → List ℕ → List ℕ → List ℕ

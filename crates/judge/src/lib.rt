@@ -10,7 +10,6 @@ ghost use Rattle.local_flow.specs.Sheets.{Sheets};
 ghost use Rattle.chart.specs.Lent.{columns, Wide};
 ghost use Rattle.judge.specs.Lent.{JudgePromise};
 ghost use Rattle.judge.specs.Accepted.{Found, Accepted};
-use flow::Bench;
 use flow::Counts;
 use flow::JudgeAnswer;
 use flow::Verdict;
@@ -131,26 +130,20 @@ pub fn judge(
 ) -> JudgeAnswer
     ensures { λ r. ⌜ JudgePromise (now (sheet .entry)) (now (uses .entry)) (columns (now (first .entry)) (now (second .entry)) (now (start .entry)) (now (reachable .entry)) (now («code_span» .entry)) (now («code_node» .entry)) (now («name_span» .entry)) (now («name_node» .entry)) (now («name_end» .entry))) (now («finding_word» .entry)) (now («finding_span» .entry)) (now (mark .entry)) r (columns (now (first .exit)) (now (second .exit)) (now (start .exit)) (now (reachable .exit)) (now («code_span» .exit)) (now («code_node» .exit)) (now («name_span» .exit)) (now («name_node» .exit)) (now («name_end» .exit))) (now («finding_word» .exit)) (now («finding_span» .exit)) (now (mark .exit)) ⌝ }
 {
-    let nodes = calls::shortest(first.len(), second.len(), start.len(), reachable.len());
-    let codes = calls::shortest(
+    let bench = calls::bench_of(
+        first.len(),
+        second.len(),
+        start.len(),
+        reachable.len(),
         code_span.len(),
         code_node.len(),
-        code_span.len(),
-        code_node.len(),
-    );
-    let locals = calls::shortest(name_span.len(), name_node.len(), name_end.len(), mark.len());
-    let findings = calls::shortest(
-        finding_word.len(),
-        finding_span.len(),
+        name_span.len(),
+        name_node.len(),
+        name_end.len(),
+        mark.len(),
         finding_word.len(),
         finding_span.len(),
     );
-    let bench = Bench {
-        nodes,
-        codes,
-        locals,
-        findings,
-    };
     let verdict = admission::judge_verdict(bench, sheet, uses);
     if let Verdict::Refused(refusal) = verdict {
         return JudgeAnswer::Refused(refusal);

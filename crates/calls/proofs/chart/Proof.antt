@@ -15,28 +15,19 @@ use Rattle.calls.proofs.chart.Tie as tie
 
 module _ (c : tie.After-chart-verdict) where
   abbrev S : List ℕ
-  S = now (c .before .before .before .before .before .before .before .before .before .before .before .before .before .before .args .sheet)
+  S = now (c .before .before .before .before .before .before .before .before .before .before .before .before .args .sheet)
 
   abbrev x : Columns
   x =
-      let a = c .before .before .before .before .before .before .before .before .before .before .before .before .before .before .args in
+      let a = c .before .before .before .before .before .before .before .before .before .before .before .before .args in
       columns (now (a .first)) (now (a .second)) (now (a .start)) (now (a .reachable)) (now (a .code-span)) (now (a .code-node)) (now (a .name-span)) (now (a .name-node)) (now (a .name-end))
 
-  bench-is : _≡_ {A = Bench} (record { nodes = c .before .before .before .shortest .result; codes = c .before .before .shortest2 .result; locals = c .before .shortest3 .result; findings = 0 }) (chartBench x)
-  unfolding chartBench
-  bench-is i = record { nodes = c .before .before .before .shortest .ensures i; codes = c .before .before .shortest2 .ensures i; locals = c .before .shortest3 .ensures i; findings = 0 }
-
   verdict-is : chartVerdict (chartBench x) S ≡ c .chart-verdict .result
-  verdict-is = sym (c .chart-verdict .ensures ∙ ap (λ (b : Bench). chartVerdict b S) bench-is)
+  unfolding chartBench
+  verdict-is = sym (c .chart-verdict .ensures ∙ ap (λ (b : Bench). chartVerdict b S) (c .before .bench-of .ensures))
 
-shortest-requires : tie.Need-shortest-requires
-shortest-requires c κs = search needs
-
-shortest-requires-2 : tie.Need-shortest-requires-2
-shortest-requires-2 c κs = search needs
-
-shortest-requires-3 : tie.Need-shortest-requires-3
-shortest-requires-3 c κs = search needs
+bench-of-requires : tie.Need-bench-of-requires
+bench-of-requires c κs = search needs
 
 chart-verdict-requires : tie.Need-chart-verdict-requires
 chart-verdict-requires c κs = search needs
@@ -87,9 +78,7 @@ pub chart-spec : {M : Type 1} → statement M
 chart-spec =
     tie.close
     (tie.spec
-    shortest-requires
-    shortest-requires-2
-    shortest-requires-3
+    bench-of-requires
     chart-verdict-requires
     enum-known-verdict
     returns

@@ -16,43 +16,31 @@ use Rattle.judge.proofs.judge.Tie as tie
 
 module _ (c : tie.After-judge-verdict) where
   abbrev S : List ℕ
-  S = now (c .before .before .before .before .before .before .before .before .before .before .before .before .before .before .before .before .before .before .before .args .sheet)
+  S = now (c .before .before .before .before .before .before .before .before .before .before .before .before .before .before .before .before .args .sheet)
 
   abbrev U : List ℕ
-  U = now (c .before .before .before .before .before .before .before .before .before .before .before .before .before .before .before .before .before .before .before .args .uses)
+  U = now (c .before .before .before .before .before .before .before .before .before .before .before .before .before .before .before .before .args .uses)
 
   abbrev x : Columns
   x =
-      let a = c .before .before .before .before .before .before .before .before .before .before .before .before .before .before .before .before .before .before .before .args in
+      let a = c .before .before .before .before .before .before .before .before .before .before .before .before .before .before .before .before .args in
       columns (now (a .first)) (now (a .second)) (now (a .start)) (now (a .reachable)) (now (a .code-span)) (now (a .code-node)) (now (a .name-span)) (now (a .name-node)) (now (a .name-end))
 
   abbrev words : List ℕ
-  words = now (c .before .before .before .before .before .before .before .before .before .before .before .before .before .before .before .before .before .before .before .args .finding-word)
+  words = now (c .before .before .before .before .before .before .before .before .before .before .before .before .before .before .before .before .args .finding-word)
 
   abbrev spans : List ℕ
-  spans = now (c .before .before .before .before .before .before .before .before .before .before .before .before .before .before .before .before .before .before .before .args .finding-span)
+  spans = now (c .before .before .before .before .before .before .before .before .before .before .before .before .before .before .before .before .args .finding-span)
 
   abbrev marks : List ℕ
-  marks = now (c .before .before .before .before .before .before .before .before .before .before .before .before .before .before .before .before .before .before .before .args .mark)
-
-  bench-is : _≡_ {A = Bench} (record { nodes = c .before .before .before .before .shortest .result; codes = c .before .before .before .shortest2 .result; locals = c .before .before .shortest3 .result; findings = c .before .shortest4 .result }) (judgeBench x words spans marks)
-  unfolding judgeBench
-  bench-is i = record { nodes = c .before .before .before .before .shortest .ensures i; codes = c .before .before .before .shortest2 .ensures i; locals = c .before .before .shortest3 .ensures i; findings = c .before .shortest4 .ensures i }
+  marks = now (c .before .before .before .before .before .before .before .before .before .before .before .before .before .before .before .before .args .mark)
 
   verdict-is : judgeVerdict (judgeBench x words spans marks) S U ≡ c .judge-verdict .result
-  verdict-is = sym (c .judge-verdict .ensures ∙ ap (λ (b : Bench). judgeVerdict b S U) bench-is)
+  unfolding judgeBench
+  verdict-is = sym (c .judge-verdict .ensures ∙ ap (λ (b : Bench). judgeVerdict b S U) (c .before .bench-of .ensures))
 
-shortest-requires : tie.Need-shortest-requires
-shortest-requires c κs = search needs
-
-shortest-requires-2 : tie.Need-shortest-requires-2
-shortest-requires-2 c κs = search needs
-
-shortest-requires-3 : tie.Need-shortest-requires-3
-shortest-requires-3 c κs = search needs
-
-shortest-requires-4 : tie.Need-shortest-requires-4
-shortest-requires-4 c κs = search needs
+bench-of-requires : tie.Need-bench-of-requires
+bench-of-requires c κs = search needs
 
 judge-verdict-requires : tie.Need-judge-verdict-requires
 judge-verdict-requires c κs = search needs
@@ -116,10 +104,7 @@ pub judge-spec : {M : Type 1} → statement M
 judge-spec =
     tie.close
     (tie.spec
-    shortest-requires
-    shortest-requires-2
-    shortest-requires-3
-    shortest-requires-4
+    bench-of-requires
     judge-verdict-requires
     enum-known-verdict
     returns
