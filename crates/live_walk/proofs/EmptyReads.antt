@@ -17,7 +17,7 @@ use Rattle.flow.specs.Findings.{Use, node, isRead, isWrite, onlyIf, isEmptyRead
 use Rattle.flow.proofs.Members.{in-append, in-oneOf}
 use Rattle.live_walk.specs.Stamps.{flagsOf, Fresh}
 use Rattle.live_walk.specs.Walk.{inClosureOf, useAt, Spells, OfLocal, markIf}
-use Rattle.live_walk.proofs.Stamps.{flags-set, length-flags, flag-at, fresh-set}
+use Rattle.live_walk.proofs.Stamps.{flags-set, flagged, flag-at, fresh-set}
 use Rattle.live_walk.proofs.Walk.{heads, tails, spells-tail}
 
 -- ---- a node that is marked, and one that is written, are the same to a read
@@ -65,11 +65,11 @@ flag-test true = refl
 flag-test false = refl
 
 module _ (stamp n : ℕ) (m : List ℕ) (u : Use) where
-  pub empty-when : n ≤ length m → node u < n → (a b : Bool) → isRead u ≡ a → u .inClosure ≡ b → isEmptyRead (flagsOf stamp n m) [] u ≡ (a && not b && not (eqb (getD m (node u) 0) stamp))
+  pub empty-when : node u < length m → node u < n → (a b : Bool) → isRead u ≡ a → u .inClosure ≡ b → isEmptyRead (flagsOf stamp n m) [] u ≡ (a && not b && not (eqb (getD m (node u) 0) stamp))
   unfolding isEmptyRead
   empty-when l h a b p q =
       and-true (isRead u && not (u .inClosure) && not (eqb (getD (flagsOf stamp n m) (node u) 0) 1))
-      ∙ (λ i. p i && not (q i) && not ((ap (λ (x : ℕ). eqb x 1) (flag-at stamp n m l (node u) h) ∙ flag-test (eqb (getD m (node u) 0) stamp)) i))
+      ∙ (λ i. p i && not (q i) && not ((ap (λ (x : ℕ). eqb x 1) (flag-at stamp n m (node u) l h) ∙ flag-test (eqb (getD m (node u) 0) stamp)) i))
 
 -- ---- the use at a place
 
@@ -98,11 +98,11 @@ flags-if : (stamp n : ℕ) (m : List ℕ) (b : Bool) (v : ℕ) → v < n → fla
 flags-if stamp n m true v h = flags-set stamp n m v h
 flags-if stamp n m false v h = refl
 
-pub fresh-if : (stamp v : ℕ) (m : List ℕ) (b : Bool) → Fresh (stamp + 1) m → v < 1600 → Fresh (stamp + 1) (markIf b v stamp m)
+pub fresh-if : {n : ℕ} (stamp v : ℕ) (m : List ℕ) (b : Bool) → Fresh (stamp + 1) n m → v < length m → Fresh (stamp + 1) n (markIf b v stamp m)
 fresh-if stamp v m true f h = fresh-set stamp v m f h
 fresh-if stamp v m false f h = f
 
-module _ (captured : Bool) (stamp n : ℕ) (us : List Use) (mine words nodes m : List ℕ) (o : OfLocal captured n us mine words nodes) (long : length m ≡ 1600) where
+module _ (captured : Bool) (stamp n : ℕ) (us : List Use) (mine words nodes m : List ℕ) (o : OfLocal captured n us mine words nodes) where
   module _ (i : ℕ) (h : i < length mine) where
     here : There captured words nodes us i (getD mine i 0)
     here = there captured words nodes us mine (o .spells) (o .closures) i h
@@ -114,13 +114,13 @@ module _ (captured : Bool) (stamp n : ℕ) (us : List Use) (mine words nodes m :
     found e =
         ap (firstEmptyRead (flagsOf stamp n m) []) (here .split) ∙ first-here (flagsOf stamp n m) (here .one) (drop (suc i) us) (tested ∙ e) ∙ ap (take 1) (sym (here .split))
 
-    pub passed : isEmptyRead (flagsOf stamp n m) [] (useAt captured words nodes (getD mine i 0)) ≡ false → firstEmptyRead (flagsOf stamp n m) [] (drop i us) ≡ firstEmptyRead (flagsOf stamp n (markIf (isWrite (useAt false words nodes (getD mine i 0))) (getD nodes (getD mine i 0) 0) stamp m)) [] (drop (i + 1) us)
-    passed e =
+    pub passed : getD nodes (getD mine i 0) 0 < length m → isEmptyRead (flagsOf stamp n m) [] (useAt captured words nodes (getD mine i 0)) ≡ false → firstEmptyRead (flagsOf stamp n m) [] (drop i us) ≡ firstEmptyRead (flagsOf stamp n (markIf (isWrite (useAt false words nodes (getD mine i 0))) (getD nodes (getD mine i 0) 0) stamp m)) [] (drop (i + 1) us)
+    passed l e =
         let v : ℕ = getD nodes (getD mine i 0) 0 in
         let b : Bool = isWrite (useAt false words nodes (getD mine i 0)) in
         let p : v < n = o .placed i h .placed in
         ap (firstEmptyRead (flagsOf stamp n m) []) (here .split)
-        ∙ first-past (flagsOf stamp n m) (here .one) (drop (suc i) us) (tested ∙ e) (omega (arith, here .node-is, length-flags stamp n m (omega (arith, o .few))))
+        ∙ first-past (flagsOf stamp n m) (here .one) (drop (suc i) us) (tested ∙ e) (omega (arith, here .node-is, flagged stamp n m v l p))
         ∙ (λ j. firstEmptyRead (markIf (not (eqb (here .kind-is j) 0)) (here .node-is j) 1 (flagsOf stamp n m)) [] (drop (sym (add-one i) j) us))
         ∙ ap (λ (l : List ℕ). firstEmptyRead l [] (drop (i + 1) us)) (sym (flags-if stamp n m b v p))
 

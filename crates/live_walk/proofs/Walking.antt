@@ -16,15 +16,15 @@ use Rattle.live_walk.proofs.Stamps.{length-flags, fresh-none, fresh-rea
 pub record Walking (g : Search) (stamp : ℕ) (m k : List ℕ) (t count : ℕ) : Type 0 where
   pub few : g .n ≤ 1600
   pub going : Going g (view stamp (g .n) m k t) (view stamp (g .n) m k t)
-  pub long : length k ≡ 1600
-  pub fresh : Fresh (stamp + 1) m
+  pub long : g .n ≤ length k
+  pub fresh : Fresh (stamp + 1) (g .n) m
   pub counted : count + waiting (g .n) (view stamp (g .n) m k t) ≡ g .n
 
 module _ (g : Search) (stamp : ℕ) where
   abbrev seen : List ℕ → List ℕ → ℕ → State
   seen m k t = view stamp (g .n) m k t
 
-  pub walking-begins : (m k m′ k′ : List ℕ) (t : ℕ) → g .n ≤ 1600 → Fresh stamp m → length k ≡ 1600 → Leaves stamp (g .n) m′ k′ t (pushAll (g .starts) (seen m k 0)) → Walking g stamp m′ k′ t 0
+  pub walking-begins : (m k m′ k′ : List ℕ) (t : ℕ) → g .n ≤ 1600 → Fresh stamp (g .n) m → g .n ≤ length k → Leaves stamp (g .n) m′ k′ t (pushAll (g .starts) (seen m k 0)) → Walking g stamp m′ k′ t 0
   walking-begins m k m′ k′ t few f long l =
       let r : Ready stamp (g .n) m k 0 = fresh-ready stamp (g .n) m k f few long in
       let none : (v : ℕ) → v < g .n → getD (flagsOf stamp (g .n) m) v 0 ≡ 0 = fresh-none stamp (g .n) m k f few long in
@@ -33,7 +33,7 @@ module _ (g : Search) (stamp : ℕ) where
       record {
         few = few;
         going = rebase g h;
-        long = h .moved .stack-len ∙ long;
+        long = omega (arith, h .moved .stack-len);
         fresh = l .fresh;
         counted = omega (arith, w, zeros-all (g .n) (flagsOf stamp (g .n) m) (r .room .marks-long) none);
       }
@@ -57,12 +57,12 @@ module _ (g : Search) (stamp : ℕ) where
       walking-on =
           let h : Going g (seen m k t) (seen m′ k′ t′) = turn g (w .going) p (seen m′ k′ t′) (l .state) in
           let e : waiting (g .n) (seen m′ k′ t′) ≡ waiting (g .n) (seen m k (t - 1)) = ap (waiting (g .n)) (l .state) ∙ all-waiting (g .n) (g .next (getD k (t - 1) 0)) (seen m k (t - 1)) (g .next-in (getD k (t - 1) 0)) (popped .fits) in
-          record { few = w .few; going = rebase g h; long = h .moved .stack-len ∙ w .long; fresh = l .fresh; counted = omega (arith, e, w .counted) }
+          record { few = w .few; going = rebase g h; long = omega (arith, h .moved .stack-len, w .long); fresh = l .fresh; counted = omega (arith, e, w .counted) }
 
   module _ {m k : List ℕ} {t count : ℕ} (w : Walking g stamp m k t count) (z : t ≡ 0) where
     pub walking-ends : flagsOf stamp (g .n) m ≡ flags g
     walking-ends =
-        let rest : drop (g .n) (flagsOf stamp (g .n) m) ≡ [] = drop-of-length-le (flagsOf stamp (g .n) m) {i = g .n} (omega (arith, length-flags stamp (g .n) m (omega (arith, w .few, w .fresh .cells)))) in
+        let rest : drop (g .n) (flagsOf stamp (g .n) m) ≡ [] = drop-of-length-le (flagsOf stamp (g .n) m) {i = g .n} (omega (arith, length-flags stamp (g .n) m (w .fresh .cells))) in
         marks-are g (w .going) z ∙ ap (λ (l : List ℕ). flags g ++ l) rest ∙ append-nil (flags g)
 
     pub walking-count : count + zeros (g .n) (flagsOf stamp (g .n) m) ≡ g .n

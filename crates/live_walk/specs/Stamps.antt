@@ -15,9 +15,9 @@ flag stamp x = cond (eqb x stamp) 1 0
 unfoldable pub flagsOf : ℕ → ℕ → List ℕ → List ℕ
 flagsOf stamp n marks = map (flag stamp) (take n marks)
 
--- 1,600 cells, each below the stamp
-pub record Fresh (stamp : ℕ) (marks : List ℕ) : Type 0 where
-  pub cells : length marks ≡ 1600
+-- at least n cells, each below the stamp
+pub record Fresh (stamp n : ℕ) (marks : List ℕ) : Type 0 where
+  pub cells : n ≤ length marks
   pub below : (v : ℕ) → getD marks v 0 < stamp
 
 -- the worklist that columns with stamps stand for
@@ -28,9 +28,9 @@ view stamp n marks stack top = st (flagsOf stamp n marks) stack top
 pub record Ready (stamp n : ℕ) (marks stack : List ℕ) (top : ℕ) : Type 0 where
   pub few : n ≤ 1600
   pub room : Room n (view stamp n marks stack top)
-  pub fresh : Fresh (stamp + 1) marks
+  pub fresh : Fresh (stamp + 1) n marks
 
 -- the columns stand for the worklist s, and no mark is past the stamp
 pub record Leaves (stamp n : ℕ) (marks stack : List ℕ) (top : ℕ) (s : State) : Type 0 where
   pub state : view stamp n marks stack top ≡ s
-  pub fresh : Fresh (stamp + 1) marks
+  pub fresh : Fresh (stamp + 1) n marks

@@ -62,9 +62,9 @@ pub record Spells (us : List Use) (mine words nodes : List ℕ) : Type 0 where
   pub kinds : map (λ u. u .kind) us ≡ map (λ k. useKindOf (getD words k 0)) mine
   pub places : map node us ≡ map (λ k. getD nodes k 0) mine
 
--- use k has its word, and a node below n
+-- use k has its word and its node, a node below n
 pub record Placed (n : ℕ) (words nodes : List ℕ) (k : ℕ) : Type 0 where
-  pub numbered : k < 1024
+  pub numbered : k < length nodes
   pub worded : k < length words
   pub placed : getD nodes k 0 < n
 
@@ -73,7 +73,6 @@ AllPlaced n mine words nodes = (i : ℕ) → i < length mine → Placed n words 
 
 -- us are the uses of a local in a graph of n nodes
 pub record OfLocal (captured : Bool) (n : ℕ) (us : List Use) (mine words nodes : List ℕ) : Type 0 where
-  pub few : n ≤ 1600
   pub placed : AllPlaced n mine words nodes
   pub spells : Spells us mine words nodes
   pub closures : map (λ u. u .inClosure) us ≡ map (λ k. inClosureOf captured (getD words k 0)) mine

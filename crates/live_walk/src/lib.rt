@@ -34,8 +34,8 @@ pub fn is_alive_at(start: &[u64], node: usize, scope_end: u64, v: usize) -> bool
 
 // v marked and pushed, unless it is marked. The result is the stack's height.
 fn push_if_new(
-    visited: &mut [u16; 1600],
-    stack: &mut [u16; 1600],
+    visited: &mut [u16],
+    stack: &mut [u16],
     n: usize,
     top: usize,
     stamp: u16,
@@ -57,8 +57,8 @@ fn push_if_new(
 // v pushed where a live path can enter it; what is no node is passed over.
 fn push_alive(
     start: &[u64],
-    visited: &mut [u16; 1600],
-    stack: &mut [u16; 1600],
+    visited: &mut [u16],
+    stack: &mut [u16],
     n: usize,
     top: usize,
     node: usize,
@@ -86,8 +86,8 @@ fn expand(
     first: &[u64],
     second: &[u64],
     start: &[u64],
-    visited: &mut [u16; 1600],
-    stack: &mut [u16; 1600],
+    visited: &mut [u16],
+    stack: &mut [u16],
     n: usize,
     top: usize,
     node: usize,
@@ -125,9 +125,9 @@ fn expand_write(
     second: &[u64],
     start: &[u64],
     use_word: &[u64],
-    use_node: &[u16; 1024],
-    visited: &mut [u16; 1600],
-    stack: &mut [u16; 1600],
+    use_node: &[u16],
+    visited: &mut [u16],
+    stack: &mut [u16],
     n: usize,
     top: usize,
     node: usize,
@@ -166,10 +166,10 @@ fn seed(
     second: &[u64],
     start: &[u64],
     use_word: &[u64],
-    use_node: &[u16; 1024],
+    use_node: &[u16],
     mine: &[u16],
-    visited: &mut [u16; 1600],
-    stack: &mut [u16; 1600],
+    visited: &mut [u16],
+    stack: &mut [u16],
     n: usize,
     node: usize,
     scope_end: u64,
@@ -210,10 +210,10 @@ pub fn live_walk(
     second: &[u64],
     start: &[u64],
     use_word: &[u64],
-    use_node: &[u16; 1024],
+    use_node: &[u16],
     mine: &[u16],
-    visited: &mut [u16; 1600],
-    stack: &mut [u16; 1600],
+    visited: &mut [u16],
+    stack: &mut [u16],
     n: usize,
     node: usize,
     scope_end: u64,
@@ -221,9 +221,9 @@ pub fn live_walk(
 ) -> usize
     requires { ⌜ Long n (now first) (now second) (now start) × (n ≤ 1600) ⌝ }
     requires { ⌜ AllPlaced n (now mine) (now «use_word») (now «use_node») ⌝ }
-    requires { ⌜ Fresh stamp (now visited) × (length (now stack) ≡ 1600) ⌝ }
+    requires { ⌜ Fresh stamp n (now visited) × (n ≤ length (now stack)) ⌝ }
     ensures { λ _. ⌜ ((g : Graph) → Charts g n (now (first .entry)) (now (second .entry)) (now (start .entry)) → (us : List Use) → Spells us (now (mine .entry)) (now («use_word» .entry)) (now («use_node» .entry)) → flagsOf stamp n (now (visited .exit)) ≡ liveAfterWrites g (declared node «scope_end») us) ⌝ }
-    ensures { λ _. ⌜ Fresh (stamp + 1) (now (visited .exit)) × (length (now (stack .exit)) ≡ 1600) ⌝ }
+    ensures { λ _. ⌜ Fresh (stamp + 1) n (now (visited .exit)) × (n ≤ length (now (stack .exit))) ⌝ }
     ensures { λ r. ⌜ r + zeros n (flagsOf stamp n (now (visited .exit))) ≡ n ⌝ }
 {
     let mut top = seed(
@@ -279,14 +279,14 @@ fn is_in_closure(word: u64, captured: bool) -> bool
 // Whether use k is a read outside closures at a node that is not marked.
 fn is_empty_read(
     use_word: &[u64],
-    use_node: &[u16; 1024],
+    use_node: &[u16],
     captured: bool,
-    visited: &[u16; 1600],
+    visited: &[u16],
     stamp: u16,
     k: usize,
 ) -> bool
-    requires { ⌜ Placed 1600 (now «use_word») (now «use_node») k × (length (now visited) ≡ 1600) ⌝ }
-    ensures { λ r. ⌜ ((n : ℕ) → n ≤ 1600 → getD (now («use_node» .entry)) k 0 < n → r ≡ isEmptyRead (flagsOf stamp n (now (visited .entry))) [] (useAt captured (now («use_word» .entry)) (now («use_node» .entry)) k)) ⌝ }
+    requires { ⌜ Placed (length (now visited)) (now «use_word») (now «use_node») k ⌝ }
+    ensures { λ r. ⌜ ((n : ℕ) → getD (now («use_node» .entry)) k 0 < n → r ≡ isEmptyRead (flagsOf stamp n (now (visited .entry))) [] (useAt captured (now («use_word» .entry)) (now («use_node» .entry)) k)) ⌝ }
 {
     let word = use_word[k];
     if is_read(word) {
@@ -302,14 +302,8 @@ fn is_empty_read(
 }
 
 // The node of use k marked, if it is a write: a later read in the statement that wrote sees the value.
-fn mark_write(
-    use_word: &[u64],
-    use_node: &[u16; 1024],
-    visited: &mut [u16; 1600],
-    stamp: u16,
-    k: usize,
-)
-    requires { ⌜ Placed 1600 (now «use_word») (now «use_node») k ⌝ }
+fn mark_write(use_word: &[u64], use_node: &[u16], visited: &mut [u16], stamp: u16, k: usize)
+    requires { ⌜ Placed (length (now visited)) (now «use_word») (now «use_node») k ⌝ }
     ensures { λ _. ⌜ now (visited .exit) ≡ markIf (isWrite (useAt false (now («use_word» .entry)) (now («use_node» .entry)) k)) (getD (now («use_node» .entry)) k 0) stamp (now (visited .entry)) ⌝ }
 {
     if is_write(use_word[k]) {
@@ -322,16 +316,15 @@ fn mark_write(
 // The marks are those of live_walk. A read is tested before its own node is marked: a ReadWrite reads first.
 pub fn first_unassigned_use(
     use_word: &[u64],
-    use_node: &[u16; 1024],
+    use_node: &[u16],
     captured: bool,
     mine: &[u16],
-    visited: &mut [u16; 1600],
+    visited: &mut [u16],
     stamp: u16,
 ) -> FirstUse
-    requires { ⌜ AllPlaced 1600 (now mine) (now «use_word») (now «use_node») ⌝ }
-    requires { ⌜ Fresh (stamp + 1) (now visited) ⌝ }
+    requires { ⌜ AllPlaced (length (now visited)) (now mine) (now «use_word») (now «use_node») ⌝ }
     ensures { λ r. ⌜ ((n : ℕ) (us : List Use) → OfLocal captured n us (now (mine .entry)) (now («use_word» .entry)) (now («use_node» .entry)) → firstEmptyRead (flagsOf stamp n (now (visited .entry))) [] us ≡ chosen r us) ⌝ }
-    ensures { λ r. ⌜ InFirst (length (now (mine .entry))) r × Fresh (stamp + 1) (now (visited .exit)) ⌝ }
+    ensures { λ r. ⌜ InFirst (length (now (mine .entry))) r × ((n : ℕ) → Fresh (stamp + 1) n (now (visited .entry)) → Fresh (stamp + 1) n (now (visited .exit))) ⌝ }
 {
     let mut i = 0;
     while i < mine.len() {

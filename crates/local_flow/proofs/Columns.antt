@@ -1,25 +1,28 @@
 -- From the columns of a chart and a use sheet to what both passes ask, and from what both list to the findings of the specification.
 -- Assumes nothing.
-use Prim.Native.Nat.{ℕ, _+_, _≤_, _<_}
-use mathlib.Core.Path.{_≡_, ap, subst, _∙_}
+use Prim.Native.Nat.{ℕ, suc, _+_, _≤_, _<_}
+use mathlib.Core.Path.{_≡_, sym, ap, subst, _∙_}
 use mathlib.Core.Bool.{false}
 use mathlib.Core.List.{List, [], _++_}
 use native.Mathlib.Omega.{arith}
-use native.Mathlib.Decide.{ℕ-discrete}
 use lib.ListN.{length, getD, drop, replicate, length-append, length-drop, length-replicate, getD-replicate, List·getD-append}
 use lib.Seq.{drop-append-seam}
 use Rattle.flow.specs.Sheet.{kindWords, useWords, useSpans}
-use Rattle.flow.specs.Findings.{Local, locals, tracked, localAt, firstUnassignedUse, unassignedOf, overwrittenOf, ofEach, findings}
-use Rattle.uses.specs.Uses.{UseTable, placeOf, LocalsAre, Located as LocatedUses, Sorted as SortedUses}
-use Rattle.locals.specs.Facts.{factsOf, localsIn, Known, Stored}
-use Rattle.locals.specs.Columns.{Named, Located}
+use Rattle.flow.specs.Findings.{locals, tracked, localAt, firstUnassignedUse, unassignedOf, overwrittenOf, ofEach, findings}
+use Rattle.uses.specs.Uses.{UseTable, Room, placeOf, LocalsAre, Located as LocatedUses, Sorted as SortedUses}
+use Rattle.locals.specs.Facts.{localsIn, Known, Stored, NoneTracked}
+use Rattle.locals.specs.Columns.{Located}
 use Rattle.locals.specs.Entries.{Added}
 use Rattle.locals.proofs.Facts.{names-counted, names-known}
 use Rattle.locals.proofs.Columns.{uses-located, parts-in-order, parts-by-node}
-use Rattle.locals.proofs.Entries.{added-none, added-append}
+use Rattle.locals.proofs.Entries.{added-none}
 use Rattle.unassigned.specs.Pass.{Marked}
+use Rattle.live_walk.proofs.Stamps.{fresh-first}
 use Rattle.overwritten.proofs.Judged.{none-listed, each-none}
-use Rattle.local_flow.specs.Sheets.{Sheets, Passes, NoneTracked}
+use Rattle.overwritten.proofs.Locals.{lent}
+use Rattle.both_lists.specs.Passes.{Passes, Walks}
+use Rattle.local_flow.specs.Sheets.{Sheets, Given}
+use Rattle.local_flow.specs.Memory.{Memory}
 
 -- ---- what the passes ask
 
@@ -38,63 +41,85 @@ module _ {S U : List ℕ} {n codes : ℕ} {kinds first second start codeSpan cod
   pub few-names : names ≤ 1024
   few-names = omega (arith, counted, p .named .few)
 
-  pub few-uses : length words ≤ 1024
-  few-uses = p .use-table .few
+  pub given : names ≤ length facts → Given S U n codes names first second start codeSpan codeNode nameSpan nameNode nameEnd facts words spans
+  given long = record {
+    charted = p .charted;
+    code-spans = p .code-spans;
+    code-nodes = p .code-nodes;
+    code-table = p .code-table;
+    named = rw counted at (p .named);
+    spanned = rw counted at (p .spanned);
+    known = known;
+    facts-long = long;
+    words-are = p .words-are;
+    spans-are = p .spans-are;
+    use-table = rw counted at (p .use-table);
+  }
 
-  pub table : UseTable names words spans
-  table = rw counted at (p .use-table)
+module _ {S U : List ℕ} {n codes names : ℕ} {first second start codeSpan codeNode nameSpan nameNode nameEnd facts words spans : List ℕ}
+    (p : Given S U n codes names first second start codeSpan codeNode nameSpan nameNode nameEnd facts words spans)
+    {use-local nodes lost starts byLocals byNodes : List ℕ} (named : LocalsAre words use-local)
+    (located : LocatedUses (length words) names (placeOf codes codeSpan codeNode spans) use-local nodes lost)
+    (sorted : SortedUses (length words) names n use-local nodes starts byLocals byNodes)
+    {use-local₀ nodes₀ lost₀ order₀ starts₀ byLocals₀ byNodes₀ : List ℕ} (room : Room (length words) names n use-local₀ nodes₀ lost₀ order₀ starts₀ byLocals₀ byNodes₀)
+    (l₁ : length nodes ≡ length nodes₀) (l₂ : length lost ≡ length lost₀) (l₃ : length starts ≡ length starts₀) (l₄ : length byLocals ≡ length byLocals₀) (l₅ : length byNodes ≡ length byNodes₀) where
+  are : LocalsAre (useWords U) use-local
+  are = rw (p .words-are) at named
 
-  module _ {use-local nodes lost starts byLocals byNodes : List ℕ} (named : LocalsAre words use-local)
-      (located : LocatedUses (length words) names (placeOf codes codeSpan codeNode spans) use-local nodes lost)
-      (sorted : SortedUses (length words) names n use-local nodes starts byLocals byNodes) where
-    are : LocalsAre (useWords U) use-local
-    are = rw (p .words-are) at named
+  at : LocatedUses (length (useWords U)) names (placeOf codes codeSpan codeNode (useSpans U)) use-local nodes lost
+  at = rw (p .words-are, p .spans-are) at located
 
-    at : LocatedUses (length (useWords U)) names (placeOf codes codeSpan codeNode (useSpans U)) use-local nodes lost
-    at = rw (p .words-are, p .spans-are) at located
+  by : SortedUses (length (useWords U)) names n use-local nodes starts byLocals byNodes
+  by = rw (p .words-are) at sorted
 
-    by : SortedUses (length (useWords U)) names n use-local nodes starts byLocals byNodes
-    by = rw (p .words-are) at sorted
+  many : length (useWords U) ≡ length words
+  many = ap length (sym (p .words-are))
 
-    uses-are : Located S U n names words spans nodes lost
-    uses-are =
-        let t : UseTable names (useWords U) (useSpans U) = rw (p .words-are, p .spans-are) at table in
-        rw (p .words-are, p .spans-are) (uses-located S U n names codes codeSpan codeNode use-local nodes lost starts byLocals byNodes (p .code-spans) (p .code-nodes) are at by (t .few) (t .same))
+  uses-are : Located S U n names words spans nodes lost
+  uses-are =
+      let t : UseTable names (useWords U) (useSpans U) = rw (p .words-are, p .spans-are) at (p .use-table) in
+      rw (p .words-are, p .spans-are) (uses-located S U n names codes codeSpan codeNode use-local nodes lost starts byLocals byNodes (p .code-spans) (p .code-nodes) are at by (t .few) (t .same) (omega (arith, room .nodes-long, l₁, many)) (omega (arith, room .lost-long, l₂)))
 
-    names-are : Named S n names nameNode nameEnd
-    names-are = rw counted at (p .named)
+  starts-long : names < length starts
+  starts-long = omega (arith, room .name-starts, l₃)
 
-    pub passes : Passes S U n names first second start nameNode nameEnd nameSpan facts words spans nodes lost starts byLocals byNodes
-    passes = record {
-      unassigned = record {
-        charted = p .charted;
-        named = names-are;
-        known = known;
-        located = uses-are;
-        parts = parts-in-order S U n names codes codeSpan codeNode use-local nodes lost starts byLocals byNodes (p .code-spans) (p .code-nodes) are at by;
-      };
-      overwritten = record {
-        charted = p .charted;
-        named = names-are;
-        spanned = rw counted at (p .spanned);
-        known = known;
-        located = uses-are;
-        parts = parts-by-node S U n names codes codeSpan codeNode use-local nodes lost starts byLocals byNodes (p .code-spans) (p .code-nodes) are at by;
-      };
+  pub passes : Passes S U n names first second start nameNode nameEnd nameSpan facts words spans nodes lost starts byLocals byNodes
+  passes = record {
+    unassigned = record {
+      charted = p .charted;
+      named = p .named;
+      known = p .known;
+      facts-long = p .facts-long;
+      located = uses-are;
+      parts = parts-in-order S U n names codes codeSpan codeNode use-local nodes lost starts byLocals byNodes (p .code-spans) (p .code-nodes) are at by starts-long (omega (arith, room .by-local-long, l₄, many));
+    };
+    overwritten = record {
+      charted = p .charted;
+      named = p .named;
+      spanned = p .spanned;
+      known = p .known;
+      facts-long = p .facts-long;
+      located = uses-are;
+      parts = parts-by-node S U n names codes codeSpan codeNode use-local nodes lost starts byLocals byNodes (p .code-spans) (p .code-nodes) are at by starts-long (omega (arith, room .by-node-long, l₅, many));
+    };
+  }
+
+-- ---- the memory
+
+abbrev zeros : ℕ → List ℕ
+zeros k = replicate k 0
+
+-- columns of k zeros are memory for all that has at most k nodes, names and uses
+pub memory : {n names uses : ℕ} (k : ℕ) → n ≤ k → names ≤ k → uses ≤ k → Memory n names uses (zeros k) (zeros k) (zeros k) (zeros k) (zeros (suc k)) (zeros k) (zeros k) (zeros k) (zeros k) (zeros k) (zeros k) (zeros k) (zeros k) (zeros k)
+memory {n} k h i j =
+    let l : length (zeros k) ≡ k = length-replicate {A = ℕ} k 0 in
+    let m : length (zeros (suc k)) ≡ suc k = length-replicate {A = ℕ} (suc k) 0 in
+    record {
+      sorting = record { locals-long = omega (arith, l); nodes-long = omega (arith, l); lost-long = omega (arith, l); order-long = omega (arith, l); name-starts = omega (arith, m); node-starts = omega (arith, m); by-local-long = omega (arith, l); by-node-long = omega (arith, l) };
+      walks = record { ready = record { fresh = fresh-first k h; long = omega (arith, l) }; lent = lent n k h };
     }
 
 -- ---- no local tracked
-
-pub none-first : {facts : List ℕ} → NoneTracked 0 facts
-none-first = record { none = λ ℓ h l e. absurd (omega arith) }
-
-pub none-more : {facts : List ℕ} {k : ℕ} → NoneTracked k facts → ((l : Local) → getD facts k 0 ≡ factsOf l → false ≡ tracked l) → NoneTracked (k + 1) facts
-none-more {facts} {k} d t = record {
-  none = λ ℓ h l e. elim (ℕ-discrete ℓ k) [
-    | yes q ↦ t l (rw q at e)
-    | no q ↦ d .none ℓ (omega arith) l e
-  ];
-}
 
 module _ (S U : List ℕ) (ℓ : ℕ) (e : false ≡ tracked (localAt S ℓ)) where
   no-unassigned : unassignedOf S U ℓ ≡ []
@@ -119,10 +144,3 @@ zero-marked {n} {names} {old} {new} h e =
       rest = rw e (subst (λ (k : ℕ). drop k (replicate names 0 ++ drop names old) ≡ drop names old) long (drop-append-seam (replicate names 0) (drop names old)));
       long = ap length e ∙ length-append (replicate names 0) (drop names old) ∙ omega (arith, long, length-drop names old);
     }
-
--- ---- what both list
-
-pub both-listed : (S U : List ℕ) {names count r : ℕ} {words spans words′ spans′ words″ spans″ : List ℕ} → length (locals S) ≡ names → count ≤ length words → count ≤ length spans
-    → Added (ofEach (unassignedOf S U) names) 0 words spans count words′ spans′ → Added (ofEach (overwrittenOf S U) names) count words′ spans′ r words″ spans″ → Added (findings S U) 0 words spans r words″ spans″
-unfolding findings
-both-listed S U e h l a b = rw e (added-append h l a b)

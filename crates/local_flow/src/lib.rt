@@ -1,71 +1,81 @@
 // The findings of all locals, from the columns of a chart and a use sheet (local_flow.rs).
 ghost use mathlib.Core.Path.{_≡_};
-ghost use mathlib.Core.Bool.{false};
+ghost use mathlib.Core.Bool.{true};
 ghost use mathlib.Core.List.{List};
-ghost use Prim.Native.Nat.{ℕ, _+_, _≤_};
+ghost use Prim.Native.Nat.{ℕ, _≤_};
 ghost use lib.ListN.{length};
 ghost use Rattle.flow.specs.Findings.{locals as localsOf, findings};
 ghost use Rattle.locals.specs.Entries.{Room, Added};
 ghost use Rattle.unassigned.specs.Pass.{Marked};
-ghost use Rattle.local_flow.specs.Sheets.{Sheets, AnySheets, Passes, AnyPasses, NoneTracked};
+ghost use Rattle.local_flow.specs.Sheets.{Sheets, AnySheets, Given, AnyGiven};
+ghost use Rattle.local_flow.specs.Memory.{Memory};
+use both_lists::list_findings;
+use locals::any_tracked;
 use locals::find_names;
-use locals::is_tracked;
-use overwritten::list_overwritten;
 use search::clear;
-use unassigned::list_unassigned;
 use uses::sort_uses;
 
-// Unassigned uses first, then overwritten values, and the mark figures. The result is the number of findings.
-fn list_findings(
+// So many nodes, names and uses a small sheet has at most.
+const SMALL: usize = 128;
+
+// The findings, in memory that is lent: the uses are sorted there, and then the walks take place there. The stack of the walks is
+// scratch memory of the sorting.
+fn compute_in(
     first: &[u64],
     second: &[u64],
     start: &[u64],
+    code_span: &[u64],
+    code_node: &[u64],
+    name_span: &[u64],
     name_node: &[u64],
     name_end: &[u64],
-    name_span: &[u64],
-    facts: &[u16; 1024],
     use_word: &[u64],
     use_span: &[u64],
-    use_node: &[u16; 1024],
-    lost: &[u16; 1024],
-    starts: &[u16; 1601],
-    by_local: &[u16; 1024],
-    by_node: &[u16; 1024],
+    facts: &[u16],
+    use_local: &mut [u16],
+    use_node: &mut [u16],
+    lost: &mut [u16],
+    stack: &mut [u16],
+    starts: &mut [u16],
+    by_local: &mut [u16],
+    by_node: &mut [u16],
+    visited: &mut [u16],
+    head: &mut [u16],
+    next_a: &mut [u16],
+    next_b: &mut [u16],
+    used: &mut [u16],
+    reads: &mut [u16],
+    writes: &mut [u16],
     finding_word: &mut [u64],
     finding_span: &mut [u64],
     mark: &mut [u64],
     n: usize,
+    codes: usize,
     names: usize,
 ) -> usize
-    requires { ⌜ AnyPasses n names (now first) (now second) (now start) (now «name_node») (now «name_end») (now «name_span») (now facts) (now «use_word») (now «use_span») (now «use_node») (now lost) (now starts) (now «by_local») (now «by_node») ⌝ }
-    requires { ⌜ Room (names + (names + length (now «use_word»))) 0 (now «finding_word») (now «finding_span») × (names ≤ length (now mark)) ⌝ }
-    ensures { λ r. ⌜ ((S U : List ℕ) → Passes S U n names (now (first .entry)) (now (second .entry)) (now (start .entry)) (now («name_node» .entry)) (now («name_end» .entry)) (now («name_span» .entry)) (now (facts .entry)) (now («use_word» .entry)) (now («use_span» .entry)) (now («use_node» .entry)) (now (lost .entry)) (now (starts .entry)) (now («by_local» .entry)) (now («by_node» .entry)) → Added (findings S U) 0 (now («finding_word» .entry)) (now («finding_span» .entry)) r (now («finding_word» .exit)) (now («finding_span» .exit))) ⌝ }
+    requires { ⌜ AnyGiven n codes names (now first) (now second) (now start) (now «code_span») (now «code_node») (now «name_span») (now «name_node») (now «name_end») (now facts) (now «use_word») (now «use_span») ⌝ }
+    requires { ⌜ Room 3072 0 (now «finding_word») (now «finding_span») × (1024 ≤ length (now mark)) ⌝ }
+    requires { ⌜ Memory n names (length (now «use_word»)) (now «use_local») (now «use_node») (now lost) (now stack) (now starts) (now «by_local») (now «by_node») (now visited) (now head) (now «next_a») (now «next_b») (now used) (now reads) (now writes) ⌝ }
+    ensures { λ r. ⌜ ((S U : List ℕ) → Given S U n codes names (now (first .entry)) (now (second .entry)) (now (start .entry)) (now («code_span» .entry)) (now («code_node» .entry)) (now («name_span» .entry)) (now («name_node» .entry)) (now («name_end» .entry)) (now (facts .entry)) (now («use_word» .entry)) (now («use_span» .entry)) → Added (findings S U) 0 (now («finding_word» .entry)) (now («finding_span» .entry)) r (now («finding_word» .exit)) (now («finding_span» .exit))) ⌝ }
     ensures { λ r. ⌜ Marked n names (now (mark .entry)) (now (mark .exit)) ⌝ }
 {
-    let mut visited = [0u16; 1600];
-    let mut stack = [0u16; 1600];
-    let count = list_unassigned(
-        first,
-        second,
-        start,
-        name_node,
-        name_end,
-        facts,
+    sort_uses(
+        code_span,
+        code_node,
+        codes,
+        n,
         use_word,
         use_span,
+        names,
+        use_local,
         use_node,
         lost,
+        stack,
         starts,
         by_local,
-        &mut visited,
-        &mut stack,
-        finding_word,
-        finding_span,
-        mark,
-        n,
-        names,
+        by_node,
     );
-    list_overwritten(
+    list_findings(
         first,
         second,
         start,
@@ -73,31 +83,186 @@ fn list_findings(
         name_end,
         name_span,
         facts,
+        use_word,
+        use_span,
+        use_node,
         lost,
         starts,
+        by_local,
         by_node,
-        use_word,
-        use_node,
-        use_span,
+        visited,
+        stack,
+        head,
+        next_a,
+        next_b,
+        used,
+        reads,
+        writes,
         finding_word,
         finding_span,
+        mark,
         n,
         names,
-        count,
     )
 }
 
-// Whether some local is tracked. Where none is, nothing is searched and no memory is needed for it.
-fn any_tracked(facts: &[u16; 1024], names: usize) -> bool
-    requires { ⌜ names ≤ 1024 ⌝ }
-    ensures { λ r. ⌜ (r ≡ false → NoneTracked names (now (facts .entry))) ⌝ }
+// The findings of a small sheet: most function bodies are small, and to clear what a large one needs would take longer than all else.
+fn compute_small(
+    first: &[u64],
+    second: &[u64],
+    start: &[u64],
+    code_span: &[u64],
+    code_node: &[u64],
+    name_span: &[u64],
+    name_node: &[u64],
+    name_end: &[u64],
+    use_word: &[u64],
+    use_span: &[u64],
+    facts: &[u16],
+    finding_word: &mut [u64],
+    finding_span: &mut [u64],
+    mark: &mut [u64],
+    n: usize,
+    codes: usize,
+    names: usize,
+) -> usize
+    requires { ⌜ AnyGiven n codes names (now first) (now second) (now start) (now «code_span») (now «code_node») (now «name_span») (now «name_node») (now «name_end») (now facts) (now «use_word») (now «use_span») ⌝ }
+    requires { ⌜ Room 3072 0 (now «finding_word») (now «finding_span») × (1024 ≤ length (now mark)) ⌝ }
+    requires { ⌜ (n ≤ 128) × (names ≤ 128) × (length (now «use_word») ≤ 128) ⌝ }
+    ensures { λ r. ⌜ ((S U : List ℕ) → Given S U n codes names (now (first .entry)) (now (second .entry)) (now (start .entry)) (now («code_span» .entry)) (now («code_node» .entry)) (now («name_span» .entry)) (now («name_node» .entry)) (now («name_end» .entry)) (now (facts .entry)) (now («use_word» .entry)) (now («use_span» .entry)) → Added (findings S U) 0 (now («finding_word» .entry)) (now («finding_span» .entry)) r (now («finding_word» .exit)) (now («finding_span» .exit))) ⌝ }
+    ensures { λ r. ⌜ Marked n names (now (mark .entry)) (now (mark .exit)) ⌝ }
 {
-    let mut i = 0;
-    while i < names {
-        if is_tracked(facts[i]) {
-            return true;
+    let mut use_local = [0u16; 128];
+    let mut use_node = [0u16; 128];
+    let mut lost = [0u16; 128];
+    let mut stack = [0u16; 128];
+    let mut starts = [0u16; 129];
+    let mut by_local = [0u16; 128];
+    let mut by_node = [0u16; 128];
+    let mut visited = [0u16; 128];
+    let mut head = [0u16; 128];
+    let mut next_a = [0u16; 128];
+    let mut next_b = [0u16; 128];
+    let mut used = [0u16; 128];
+    let mut reads = [0u16; 128];
+    let mut writes = [0u16; 128];
+    compute_in(
+        first,
+        second,
+        start,
+        code_span,
+        code_node,
+        name_span,
+        name_node,
+        name_end,
+        use_word,
+        use_span,
+        facts,
+        &mut use_local,
+        &mut use_node,
+        &mut lost,
+        &mut stack,
+        &mut starts,
+        &mut by_local,
+        &mut by_node,
+        &mut visited,
+        &mut head,
+        &mut next_a,
+        &mut next_b,
+        &mut used,
+        &mut reads,
+        &mut writes,
+        finding_word,
+        finding_span,
+        mark,
+        n,
+        codes,
+        names,
+    )
+}
+
+// The findings of any sheet.
+fn compute_large(
+    first: &[u64],
+    second: &[u64],
+    start: &[u64],
+    code_span: &[u64],
+    code_node: &[u64],
+    name_span: &[u64],
+    name_node: &[u64],
+    name_end: &[u64],
+    use_word: &[u64],
+    use_span: &[u64],
+    facts: &[u16],
+    finding_word: &mut [u64],
+    finding_span: &mut [u64],
+    mark: &mut [u64],
+    n: usize,
+    codes: usize,
+    names: usize,
+) -> usize
+    requires { ⌜ AnyGiven n codes names (now first) (now second) (now start) (now «code_span») (now «code_node») (now «name_span») (now «name_node») (now «name_end») (now facts) (now «use_word») (now «use_span») ⌝ }
+    requires { ⌜ Room 3072 0 (now «finding_word») (now «finding_span») × (1024 ≤ length (now mark)) ⌝ }
+    ensures { λ r. ⌜ ((S U : List ℕ) → Given S U n codes names (now (first .entry)) (now (second .entry)) (now (start .entry)) (now («code_span» .entry)) (now («code_node» .entry)) (now («name_span» .entry)) (now («name_node» .entry)) (now («name_end» .entry)) (now (facts .entry)) (now («use_word» .entry)) (now («use_span» .entry)) → Added (findings S U) 0 (now («finding_word» .entry)) (now («finding_span» .entry)) r (now («finding_word» .exit)) (now («finding_span» .exit))) ⌝ }
+    ensures { λ r. ⌜ Marked n names (now (mark .entry)) (now (mark .exit)) ⌝ }
+{
+    let mut use_local = [0u16; 1600];
+    let mut use_node = [0u16; 1600];
+    let mut lost = [0u16; 1600];
+    let mut stack = [0u16; 1600];
+    let mut starts = [0u16; 1601];
+    let mut by_local = [0u16; 1600];
+    let mut by_node = [0u16; 1600];
+    let mut visited = [0u16; 1600];
+    let mut head = [0u16; 1600];
+    let mut next_a = [0u16; 1600];
+    let mut next_b = [0u16; 1600];
+    let mut used = [0u16; 1600];
+    let mut reads = [0u16; 1600];
+    let mut writes = [0u16; 1600];
+    compute_in(
+        first,
+        second,
+        start,
+        code_span,
+        code_node,
+        name_span,
+        name_node,
+        name_end,
+        use_word,
+        use_span,
+        facts,
+        &mut use_local,
+        &mut use_node,
+        &mut lost,
+        &mut stack,
+        &mut starts,
+        &mut by_local,
+        &mut by_node,
+        &mut visited,
+        &mut head,
+        &mut next_a,
+        &mut next_b,
+        &mut used,
+        &mut reads,
+        &mut writes,
+        finding_word,
+        finding_span,
+        mark,
+        n,
+        codes,
+        names,
+    )
+}
+
+// Whether a sheet has so few nodes, names and uses that little memory will do.
+fn is_small(n: usize, names: usize, uses: usize) -> bool
+    ensures { λ r. ⌜ (r ≡ true → (n ≤ 128) × (names ≤ 128) × (uses ≤ 128)) ⌝ }
+{
+    if n <= SMALL {
+        if names <= SMALL {
+            return uses <= SMALL;
         }
-        i += 1;
     }
     false
 }
@@ -131,48 +296,44 @@ pub fn compute(
         clear(mark, names);
         return 0;
     }
-    let mut use_local = [0u16; 1024];
-    let mut use_node = [0u16; 1024];
-    let mut lost = [0u16; 1024];
-    let mut order = [0u16; 1024];
-    let mut starts = [0u16; 1601];
-    let mut by_local = [0u16; 1024];
-    let mut by_node = [0u16; 1024];
-    sort_uses(
-        code_span,
-        code_node,
-        codes,
-        n,
-        use_word,
-        use_span,
-        names,
-        &mut use_local,
-        &mut use_node,
-        &mut lost,
-        &mut order,
-        &mut starts,
-        &mut by_local,
-        &mut by_node,
-    );
-    list_findings(
+    if is_small(n, names, use_word.len()) {
+        return compute_small(
+            first,
+            second,
+            start,
+            code_span,
+            code_node,
+            name_span,
+            name_node,
+            name_end,
+            use_word,
+            use_span,
+            &facts,
+            finding_word,
+            finding_span,
+            mark,
+            n,
+            codes,
+            names,
+        );
+    }
+    compute_large(
         first,
         second,
         start,
+        code_span,
+        code_node,
+        name_span,
         name_node,
         name_end,
-        name_span,
-        &facts,
         use_word,
         use_span,
-        &use_node,
-        &lost,
-        &starts,
-        &by_local,
-        &by_node,
+        &facts,
         finding_word,
         finding_span,
         mark,
         n,
+        codes,
         names,
     )
 }

@@ -34,20 +34,24 @@ module _ (S U : List ℕ) (n names codes : ℕ) (codeSpan codeNode locals nodes 
     (named : LocalsAre (useWords U) locals)
     (located : LocatedUses (length (useWords U)) names (placeOf codes codeSpan codeNode (useSpans U)) locals nodes lost)
     (sorted : SortedUses (length (useWords U)) names n locals nodes starts byLocal byNodes) where
-  pub uses-located : length (useWords U) ≤ 1024 → length (useSpans U) ≡ length (useWords U) → Located S U n names (useWords U) (useSpans U) nodes lost
-  uses-located few same = record {
+  pub uses-located : length (useWords U) ≤ 1024 → length (useSpans U) ≡ length (useWords U) → length (useWords U) ≤ length nodes → names ≤ length lost → Located S U n names (useWords U) (useSpans U) nodes lost
+  uses-located few same nodes-long lost-long = record {
     words-are = refl;
     spans-are = refl;
     few = few;
     same = same;
+    nodes-long = nodes-long;
+    lost-long = lost-long;
     within = sorted .node;
     node = node-is S U locals named 0 codes codeSpan codeNode e f names nodes lost located;
     kept = λ ℓ h. kept-law S U locals named ℓ codes codeSpan codeNode e f names nodes lost located h;
   }
 
   -- each local's uses in use order
-  pub parts-in-order : Parts (usesOf S U) (length (useWords U)) names starts byLocal
-  parts-in-order = record {
+  pub parts-in-order : names < length starts → length (useWords U) ≤ length byLocal → Parts (usesOf S U) (length (useWords U)) names starts byLocal
+  parts-in-order starts-long column-long = record {
+    starts-long = starts-long;
+    column-long = column-long;
     rising = sorted .rising;
     within = sorted .within;
     holds = λ ℓ h. mine-part S U locals named ℓ codes codeSpan codeNode e f names nodes lost located n starts byLocal byNodes sorted h;
@@ -55,8 +59,10 @@ module _ (S U : List ℕ) (n names codes : ℕ) (codeSpan codeNode locals nodes 
   }
 
   -- and by node
-  pub parts-by-node : Parts (λ ℓ. byNode n (usesOf S U ℓ)) (length (useWords U)) names starts byNodes
-  parts-by-node = record {
+  pub parts-by-node : names < length starts → length (useWords U) ≤ length byNodes → Parts (λ ℓ. byNode n (usesOf S U ℓ)) (length (useWords U)) names starts byNodes
+  parts-by-node starts-long column-long = record {
+    starts-long = starts-long;
+    column-long = column-long;
     rising = sorted .rising;
     within = sorted .within;
     holds = λ ℓ h. sorted-part S U locals named ℓ codes codeSpan codeNode e f names nodes lost located n starts byLocal byNodes sorted h ∙ ap (map (λ u. u .number)) (same-grouped n (usesOf S U ℓ));
@@ -105,17 +111,17 @@ module _ (S U : List ℕ) (n names : ℕ) (words spans nodes lost : List ℕ) (l
     abbrev pub own : List ℕ
     own = partAt ℓ starts column
 
-    pub own-cut : names ≤ 1024 → {list : ℕ → List Use} → Parts list (length (useWords U)) names starts column → Cut ℓ starts
-    own-cut few p = record {
-      few = omega arith;
+    pub own-cut : {list : ℕ → List Use} → Parts list (length (useWords U)) names starts column → Cut ℓ starts column
+    own-cut p = record {
+      inside = omega (arith, p .starts-long);
       rising = p .rising ℓ h;
-      within = omega (arith, p .within (ℓ + 1) (omega arith), l .few, ap length (l .words-are));
+      within = omega (arith, p .within (ℓ + 1) (omega arith), p .column-long);
     }
 
     own-placed : ((i : ℕ) → i < length own → getD own i 0 < length (useWords U)) → AllPlaced n own words nodes
     own-placed q i k =
         let b : getD own i 0 < length words = rw (l .words-are) (q i k) in
-        record { numbered = omega (arith, b, l .few); worded = b; placed = l .within (getD own i 0) b }
+        record { numbered = omega (arith, b, l .nodes-long); worded = b; placed = l .within (getD own i 0) b }
 
     -- in use order
     module _ (p : Parts (usesOf S U) (length (useWords U)) names starts column) where
@@ -131,10 +137,9 @@ module _ (S U : List ℕ) (n names : ℕ) (words spans nodes lost : List ℕ) (l
         places = ap (map node) entries ∙ map-told node (entry S U ℓ) (λ k. getD nodes k 0) own (λ i q. node-of ℓ (getD own i 0) (p .numbers ℓ h i q));
       }
 
-      pub mine-local : n ≤ 1600 → OfLocal (captured (localAt S ℓ)) n (usesOf S U ℓ) own words nodes
+      pub mine-local : OfLocal (captured (localAt S ℓ)) n (usesOf S U ℓ) own words nodes
       unfolding isInClosure
-      mine-local few = record {
-        few = few;
+      mine-local = record {
         placed = mine-placed;
         spells = mine-spelled;
         closures = ap (map (λ u. u .inClosure)) entries ∙ map-told (λ u. u .inClosure) (entry S U ℓ) (λ k. isInClosure (localAt S ℓ) (getD words k 0)) own (λ i q. closure-of ℓ (getD own i 0));

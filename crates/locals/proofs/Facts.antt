@@ -14,7 +14,7 @@ use lib.Seq.{getD-take, drop-cons, drop-drop, take-suc-set, drop-set-lt, length-
 use Rattle.flow.specs.Sheet.{kindOf, argumentOf, kindWords, spanWords, together}
 use Rattle.flow.specs.Kinds.{kinds}
 use Rattle.flow.specs.Findings.{Local, noLocal, onlyIf, captured, noValue, writesJudged, tracked, localsFrom, locals}
-use Rattle.locals.specs.Facts.{factsOf, valuesAfter, beforeAfter, nameHere, localsIn, Stored, Known}
+use Rattle.locals.specs.Facts.{factsOf, valuesAfter, beforeAfter, nameHere, localsIn, Stored, Known, NoneTracked}
 open record kinds using (NAME)
 
 -- ---- the flags and the value
@@ -198,3 +198,16 @@ module _ (S : List ℕ) (same : length (spanWords S) ≡ length (kindWords S)) {
       sym (getD-take names facts ℓ 0 h)
       ∙ ap (λ (l : List ℕ). getD l ℓ 0) (s .cells ∙ ap (map factsOf) (sym all-names))
       ∙ facts-at (locals S) ℓ (omega (arith, names-counted))
+
+-- ---- no local tracked
+
+pub none-first : {facts : List ℕ} → NoneTracked 0 facts
+none-first = record { none = λ ℓ h l e. absurd (omega arith) }
+
+pub none-more : {facts : List ℕ} {k : ℕ} → NoneTracked k facts → ((l : Local) → getD facts k 0 ≡ factsOf l → false ≡ tracked l) → NoneTracked (k + 1) facts
+none-more {facts} {k} d t = record {
+  none = λ ℓ h l e. elim (ℕ-discrete ℓ k) [
+    | yes q ↦ t l (rw q at e)
+    | no q ↦ d .none ℓ (omega arith) l e
+  ];
+}

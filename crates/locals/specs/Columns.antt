@@ -42,22 +42,26 @@ pub record Located (S U : List ℕ) (n names : ℕ) (words spans nodes lost : Li
   pub spans-are : spans ≡ useSpans U
   pub few : length words ≤ 1024
   pub same : length spans ≡ length words
+  pub nodes-long : length words ≤ length nodes
+  pub lost-long : names ≤ length lost
   pub within : (u : ℕ) → u < length words → getD nodes u 0 < n
   pub node : (u : ℕ) → u < length words → nodeOf (nodeAt (graph S) (startOf (getD (useSpans U) u 0))) ≡ getD nodes u 0
   pub kept : (ℓ : ℕ) → ℓ < names → (getD lost ℓ 0 ≡ 0) ↔ (allFound (usesOf S U ℓ) ≡ true)
 
 -- a column of use numbers, m in all, with a part for each local: the numbers of its uses in some order
 pub record Parts (list : ℕ → List Use) (m names : ℕ) (starts column : List ℕ) : Type 0 where
+  pub starts-long : names < length starts
+  pub column-long : m ≤ length column
   pub rising : (ℓ : ℕ) → ℓ < names → getD starts ℓ 0 ≤ getD starts (ℓ + 1) 0
   pub within : (ℓ : ℕ) → ℓ ≤ names → getD starts ℓ 0 ≤ m
   pub holds : (ℓ : ℕ) → ℓ < names → part (getD starts ℓ 0) (getD starts (ℓ + 1) 0) column ≡ map (λ u. u .number) (list ℓ)
   pub numbers : (ℓ : ℕ) → ℓ < names → (i : ℕ) → i < length (part (getD starts ℓ 0) (getD starts (ℓ + 1) 0) column) → getD (part (getD starts ℓ 0) (getD starts (ℓ + 1) 0) column) i 0 < m
 
--- the local ℓ has a part, by its start and the next one's
-pub record Cut (ℓ : ℕ) (starts : List ℕ) : Type 0 where
-  pub few : ℓ < 1024
+-- the local ℓ has a part of a column, by its start and the next one's
+pub record Cut (ℓ : ℕ) (starts column : List ℕ) : Type 0 where
+  pub inside : ℓ + 1 < length starts
   pub rising : getD starts ℓ 0 ≤ getD starts (ℓ + 1) 0
-  pub within : getD starts (ℓ + 1) 0 ≤ 1024
+  pub within : getD starts (ℓ + 1) 0 ≤ length column
 
 abbrev pub partAt : ℕ → List ℕ → List ℕ → List ℕ
 partAt ℓ starts column = part (getD starts ℓ 0) (getD starts (ℓ + 1) 0) column

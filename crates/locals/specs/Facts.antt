@@ -2,13 +2,13 @@
 -- Assumes nothing: these are definitions.
 use Prim.Native.Nat.{ℕ, _+_, _*_, _%_, _<_}
 use mathlib.Core.Path.{_≡_}
-use mathlib.Core.Bool.{cond}
+use mathlib.Core.Bool.{false, cond}
 use mathlib.Core.List.{List, [], _∷_, _++_, map}
 use lib.Dec.{eqb}
 use lib.ListN.{length, getD, take, drop}
 use Rattle.flow.specs.Sheet.{kindOf, argumentOf}
 use Rattle.flow.specs.Kinds.{kinds}
-use Rattle.flow.specs.Findings.{Local, onlyIf, noValue, localAt}
+use Rattle.flow.specs.Findings.{Local, onlyIf, noValue, localAt, tracked}
 open record kinds using (LOCAL, NAME)
 
 -- "argument 0 to 7: 1 begins with underscore, 2 modified, 4 captured", and 8 where it has no value
@@ -40,3 +40,7 @@ pub record Stored (ls : List Local) (k : ℕ) (old new : List ℕ) (r : ℕ) : T
 -- the first cells are the facts of the names of a sheet
 abbrev pub Known : List ℕ → ℕ → List ℕ → Type 0
 Known S names facts = (ℓ : ℕ) → ℓ < names → getD facts ℓ 0 ≡ factsOf (localAt S ℓ)
+
+-- none of the first k locals is tracked
+pub record NoneTracked (k : ℕ) (facts : List ℕ) : Type 0 where
+  pub none : (ℓ : ℕ) → ℓ < k → (l : Local) → getD facts ℓ 0 ≡ factsOf l → false ≡ tracked l

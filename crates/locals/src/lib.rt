@@ -1,11 +1,11 @@
 // What the passes over locals share: the facts of each name, a local's part of the uses, and the list of findings that they write (local_flow.rs).
 ghost use mathlib.Core.Path.{_≡_};
-ghost use mathlib.Core.Bool.{not};
+ghost use mathlib.Core.Bool.{false, not};
 ghost use mathlib.Core.List.{[], _∷_};
 ghost use Prim.Native.Nat.{_+_, _/_, _<_, _≤_};
 ghost use lib.ListN.{length};
 ghost use Rattle.flow.specs.Findings.{Local, noValue, tracked, writesJudged, captured};
-ghost use Rattle.locals.specs.Facts.{factsOf, valuesAfter, beforeAfter, nameHere, localsIn, Stored};
+ghost use Rattle.locals.specs.Facts.{factsOf, valuesAfter, beforeAfter, nameHere, localsIn, Stored, NoneTracked};
 ghost use Rattle.locals.specs.Columns.{Cut, partAt};
 ghost use Rattle.locals.specs.Entries.{Listed};
 use search::cell;
@@ -128,15 +128,29 @@ pub fn is_tracked(facts: u16) -> bool
     }
 }
 
+// Whether some local is tracked. Where none is, nothing is searched and no memory is needed for it.
+pub fn any_tracked(facts: &[u16], names: usize) -> bool
+    requires { ⌜ names ≤ length (now facts) ⌝ }
+    ensures { λ r. ⌜ (r ≡ false → NoneTracked names (now (facts .entry))) ⌝ }
+{
+    let mut i = 0;
+    while i < names {
+        if is_tracked(facts[i]) {
+            return true;
+        }
+        i += 1;
+    }
+    false
+}
+
 // A local's part of a column of use numbers.
-pub fn part_of<'a>(starts: &[u16; 1601], column: &'a [u16; 1024], local: usize) -> &'a [u16]
-    requires { ⌜ Cut local (now starts) ⌝ }
+pub fn part_of<'a>(starts: &[u16], column: &'a [u16], local: usize) -> &'a [u16]
+    requires { ⌜ Cut local (now starts) (now column) ⌝ }
     ensures { λ r. ⌜ now r ≡ partAt local (now (starts .entry)) (now (column .entry)) ⌝ }
 {
     let from = cell(starts, local);
     let to = cell(starts, local + 1);
-    let all = &column[..];
-    &all[from..to]
+    &column[from..to]
 }
 
 // One finding at the end of the list. The result is the list's length.

@@ -17,7 +17,7 @@ use Rattle.search.specs.Worklist.{State}
 use Rattle.search.specs.Stamps.{stampAll, stampWhen, Ready}
 use Rattle.search.proofs.Closure.{Nodes}
 use Rattle.search.proofs.Stamps.{all-ready, when-all, when-one, when-nodes}
-use Rattle.next_uses.specs.Predecessors.{predsOf, lastTo, lastHalf, Linked, Chained, linkHead, linkNext, Chain, nodeOfEdge, edgeAfter}
+use Rattle.next_uses.specs.Predecessors.{predsOf, lastTo, lastHalf, Blank, Linked, Chained, linkHead, linkNext, Chain, nodeOfEdge, edgeAfter}
 
 -- a test of numbers, with what it shows
 by-eqb : (P : Bool → Type 0) (a b : ℕ) → (a ≡ b → P true) → ((a ≡ b → ⊥) → P false) → P (eqb a b)
@@ -87,18 +87,18 @@ next-other : (n u v : ℕ) (h x : List ℕ) (w : ℕ) → w < u → getD (linkNe
 next-other n u v h x w l =
     by-ltb (λ t. getD (cond t (set x u (getD h v 0)) x) w 0 ≡ getD x w 0) v n (λ _. getD-set-other x u w (getD h v 0) 0 (omega arith)) (λ _. refl)
 
--- the chains of the nodes below k, in columns that hold n nodes
-pub record Linking (f s : List ℕ) (n k : ℕ) (h a b : List ℕ) : Type 0 where
-  pub linked : Linked f s n k h a b
-  pub head-holds : n ≤ length h
-  pub a-holds : n ≤ length a
-  pub b-holds : n ≤ length b
+pub linked-none : (f s : List ℕ) (n : ℕ) (h a b : List ℕ) → Blank n h a b → Linked f s n 0 h a b
+linked-none f s n h a b z =
+    record {
+      head-holds = z .head-holds;
+      a-holds = z .a-holds;
+      b-holds = z .b-holds;
+      heads = z .none;
+      firsts = λ u l. absurd (omega arith);
+      seconds = λ u l. absurd (omega arith);
+    }
 
-pub linking-none : (f s : List ℕ) (n : ℕ) (h a b : List ℕ) → ((v : ℕ) → v < n → getD h v 0 ≡ 0) → n ≤ length h → n ≤ length a → n ≤ length b → Linking f s n 0 h a b
-linking-none f s n h a b z lh la lb =
-    record { linked = record { heads = z; firsts = λ u l. absurd (omega arith); seconds = λ u l. absurd (omega arith) }; head-holds = lh; a-holds = la; b-holds = lb }
-
-module _ (f s : List ℕ) (n k : ℕ) (h a b : List ℕ) (g : Linking f s n k h a b) (hk : k < n) where
+module _ (f s : List ℕ) (n k : ℕ) (h a b : List ℕ) (g : Linked f s n k h a b) (hk : k < n) where
   abbrev x : ℕ
   x = getD f k 0
 
@@ -109,35 +109,29 @@ module _ (f s : List ℕ) (n k : ℕ) (h a b : List ℕ) (g : Linking f s n k h 
   h₁ = linkHead n x (k + k + 1) h
 
   half-heads : (v : ℕ) → v < n → getD h₁ v 0 ≡ lastHalf f s v k
-  half-heads v hv = head-at n x (k + k + 1) h v hv (g .head-holds) ∙ ap (cond (eqb x v) (k + k + 1)) (g .linked .heads v hv)
+  half-heads v hv = head-at n x (k + k + 1) h v hv (g .head-holds) ∙ ap (cond (eqb x v) (k + k + 1)) (g .heads v hv)
 
   linked-suc : Linked f s n (suc k) (linkHead n y (k + k + 2) h₁) (linkNext n k x h a) (linkNext n k y h₁ b)
   linked-suc =
       record {
-        heads = λ v hv. head-at n y (k + k + 2) h₁ v hv (omega (arith, head-long n x (k + k + 1) h, g .head-holds)) ∙ ap (cond (eqb y v) (k + k + 2)) (half-heads v hv);
-        firsts = λ u hu hn. elim (ℕ-discrete u k) [
-          | yes e ↦ rw e (next-at n k x h a (subst (λ (z : ℕ). getD f z 0 < n) e hn) (omega (arith, g .a-holds)) ∙ g .linked .heads x (subst (λ (z : ℕ). getD f z 0 < n) e hn))
-          | no q ↦ next-other n k x h a u (omega arith) ∙ g .linked .firsts u (omega arith) hn
-        ];
-        seconds = λ u hu hn. elim (ℕ-discrete u k) [
-          | yes e ↦ rw e (next-at n k y h₁ b (subst (λ (z : ℕ). getD s z 0 < n) e hn) (omega (arith, g .b-holds)) ∙ half-heads y (subst (λ (z : ℕ). getD s z 0 < n) e hn))
-          | no q ↦ next-other n k y h₁ b u (omega arith) ∙ g .linked .seconds u (omega arith) hn
-        ];
-      }
-
-  linking-suc : Linking f s n (suc k) (linkHead n y (k + k + 2) h₁) (linkNext n k x h a) (linkNext n k y h₁ b)
-  linking-suc =
-      record {
-        linked = linked-suc;
         head-holds = omega (arith, head-long n y (k + k + 2) h₁, head-long n x (k + k + 1) h, g .head-holds);
         a-holds = omega (arith, next-long n k x h a, g .a-holds);
         b-holds = omega (arith, next-long n k y h₁ b, g .b-holds);
+        heads = λ v hv. head-at n y (k + k + 2) h₁ v hv (omega (arith, head-long n x (k + k + 1) h, g .head-holds)) ∙ ap (cond (eqb y v) (k + k + 2)) (half-heads v hv);
+        firsts = λ u hu hn. elim (ℕ-discrete u k) [
+          | yes e ↦ rw e (next-at n k x h a (subst (λ (z : ℕ). getD f z 0 < n) e hn) (omega (arith, g .a-holds)) ∙ g .heads x (subst (λ (z : ℕ). getD f z 0 < n) e hn))
+          | no q ↦ next-other n k x h a u (omega arith) ∙ g .firsts u (omega arith) hn
+        ];
+        seconds = λ u hu hn. elim (ℕ-discrete u k) [
+          | yes e ↦ rw e (next-at n k y h₁ b (subst (λ (z : ℕ). getD s z 0 < n) e hn) (omega (arith, g .b-holds)) ∙ half-heads y (subst (λ (z : ℕ). getD s z 0 < n) e hn))
+          | no q ↦ next-other n k y h₁ b u (omega arith) ∙ g .seconds u (omega arith) hn
+        ];
       }
 
 -- a turn of the code that builds the chains
-pub linking-turn : (f s : List ℕ) (n k : ℕ) (h a b : List ℕ) → Linking f s n k h a b → k < n → (x y : ℕ) (h₁ h₂ a′ b′ : List ℕ) → x ≡ getD f k 0 → y ≡ getD s k 0 → h₁ ≡ linkHead n x (k + k + 1) h → a′ ≡ linkNext n k x h a → h₂ ≡ linkHead n y (k + k + 2) h₁ → b′ ≡ linkNext n k y h₁ b → Linking f s n (k + 1) h₂ a′ b′
-linking-turn f s n k h a b g hk x y h₁ h₂ a′ b′ ex ey e₁ ea e₂ eb =
-    rw (e₂, ea, eb, e₁, ex, ey, add-one k) (linking-suc f s n k h a b g hk)
+pub linked-turn : (f s : List ℕ) (n k : ℕ) (h a b : List ℕ) → Linked f s n k h a b → k < n → (x y : ℕ) (h₁ h₂ a′ b′ : List ℕ) → x ≡ getD f k 0 → y ≡ getD s k 0 → h₁ ≡ linkHead n x (k + k + 1) h → a′ ≡ linkNext n k x h a → h₂ ≡ linkHead n y (k + k + 2) h₁ → b′ ≡ linkNext n k y h₁ b → Linked f s n (k + 1) h₂ a′ b′
+linked-turn f s n k h a b g hk x y h₁ h₂ a′ b′ ex ey e₁ ea e₂ eb =
+    rw (e₂, ea, eb, e₁, ex, ey, add-one k) (linked-suc f s n k h a b g hk)
 
 -- ---- predecessors are nodes
 
@@ -179,11 +173,6 @@ module _ (n : ℕ) (a b : List ℕ) where
           let z : (e - 1) % 2 ≡ 1 = omega (arith, d .0) in
           let x : edgeAfter a b e ≡ getD b u 0 = rw (z, p) in
           record { rest = us; node = omega (arith, c .0); list = ap (λ (x : ℕ). x ∷ us) (sym p); less = rw x (d .1); more = rw x (d .2) }
-
-  -- a code below an edge's bound
-  pub code-le : (e : ℕ) (us : List ℕ) → Chain n a b e us → e ≤ n + n
-  code-le e [] c = omega arith
-  code-le e (u ∷ us) c = ⊎-elim (λ d. omega (arith, c .0, d .0)) (λ d. omega (arith, c .0, d .0)) (c .1)
 
   chain-unique : (us vs : List ℕ) (e : ℕ) → Chain n a b e us → Chain n a b e vs → us ≡ vs
   chain-unique [] [] e c d = refl

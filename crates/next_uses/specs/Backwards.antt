@@ -1,6 +1,6 @@
 -- The search backwards from a local's uses, as the code goes: where it starts, and which predecessors it goes through.
 -- Assumes nothing: these are definitions.
-use Prim.Native.Nat.{ℕ, zero, suc}
+use Prim.Native.Nat.{ℕ, zero, suc, _≤_}
 use mathlib.Core.Path.{_≡_}
 use mathlib.Core.Bool.{Bool, true, false, _&&_, not}
 use mathlib.Core.List.{List, [], _++_}
@@ -8,7 +8,7 @@ use lib.ListN.{length, getD, take}
 use lib.Dec.{eqb, ltb}
 use Rattle.search.specs.Search.{cons-if, keep, closure}
 use Rattle.flow.specs.Graph.{Graph, nodeCount}
-use Rattle.search.specs.Stamps.{flagsOf}
+use Rattle.search.specs.Stamps.{flagsOf, Fresh}
 use Rattle.flow.specs.Findings.{Meeting, Ahead, isARead, isAPureWrite}
 use Rattle.next_uses.specs.Predecessors.{predsOf, Linked}
 use Rattle.next_uses.specs.Uses.{Table, nodeAt, kindAt, opensNode}
@@ -50,6 +50,16 @@ startsTo s t pure (suc i) = startsTo s t pure i ++ cons-if (startsHere s t pure 
 abbrev pub backFlags : Scope → Table → Bool → ℕ → List ℕ → List ℕ → List ℕ → ℕ → List ℕ
 backFlags s t pure stamp used first second n =
     closure (startsTo s t pure (length (t .sorted))) (λ v. keep (passes s stamp used) (predsOf first second v n)) n
+
+-- the columns of a search hold n nodes, and the stamp is new in each column of marks
+pub record Unmarked (stamp n : ℕ) (used reads writes stack : List ℕ) : Type 0 where
+  pub used-holds : n ≤ length used
+  pub reads-hold : n ≤ length reads
+  pub writes-hold : n ≤ length writes
+  pub stack-holds : n ≤ length stack
+  pub used-new : Fresh stamp used
+  pub reads-new : Fresh stamp reads
+  pub writes-new : Fresh stamp writes
 
 -- the columns are those of a graph of n nodes
 pub record Columns (g : Graph) (n : ℕ) (start head a b : List ℕ) : Type 0 where

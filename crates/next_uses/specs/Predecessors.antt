@@ -1,11 +1,11 @@
 -- A node's predecessors, as a list and as a chain through three columns: `head` has a code for each node, `a` and `b` one for each node's first and second edge. Node u's first edge has the code u + u + 1, its second u + u + 2, and 0 ends a chain.
 -- Assumes nothing: these are definitions.
-use Prim.Native.Nat.{ℕ, zero, suc, _+_, _-_, _/_, _%_, _<_}
+use Prim.Native.Nat.{ℕ, zero, suc, _+_, _-_, _/_, _%_, _≤_, _<_}
 use mathlib.Core.Path.{_≡_}
 use mathlib.Core.Logic.{_⊎_}
 use mathlib.Core.Bool.{cond}
 use mathlib.Core.List.{List, [], _∷_}
-use lib.ListN.{getD, set}
+use lib.ListN.{length, getD, set}
 use lib.Dec.{ltb, eqb}
 use Rattle.search.specs.Search.{cons-if}
 
@@ -22,8 +22,18 @@ lastTo first second v (suc k) = cond (eqb (getD second k 0) v) (k + k + 2) (cond
 abbrev pub lastHalf : List ℕ → List ℕ → ℕ → ℕ → ℕ
 lastHalf first second v k = cond (eqb (getD first k 0) v) (k + k + 1) (lastTo first second v k)
 
--- the chains of n nodes hold the edges of the nodes below k
+-- the columns hold n nodes, and each chain is empty
+pub record Blank (n : ℕ) (head a b : List ℕ) : Type 0 where
+  pub head-holds : n ≤ length head
+  pub a-holds : n ≤ length a
+  pub b-holds : n ≤ length b
+  pub none : (v : ℕ) → v < n → getD head v 0 ≡ 0
+
+-- the columns hold n nodes, and their chains have the edges of the nodes below k
 pub record Linked (first second : List ℕ) (n k : ℕ) (head a b : List ℕ) : Type 0 where
+  pub head-holds : n ≤ length head
+  pub a-holds : n ≤ length a
+  pub b-holds : n ≤ length b
   pub heads : (v : ℕ) → v < n → getD head v 0 ≡ lastTo first second v k
   pub firsts : (u : ℕ) → u < k → getD first u 0 < n → getD a u 0 ≡ lastTo first second (getD first u 0) u
   pub seconds : (u : ℕ) → u < k → getD second u 0 < n → getD b u 0 ≡ lastHalf first second (getD second u 0) u

@@ -38,7 +38,7 @@ opensNode nodes sorted (suc i) = not (nextInNode nodes sorted i)
 
 -- each use has its cell, and its node is below n
 pub record Placed (n : ℕ) (nodes sorted : List ℕ) : Type 0 where
-  pub numbers : (i : ℕ) → i < length sorted → getD sorted i 0 < 1024
+  pub numbers : (i : ℕ) → i < length sorted → getD sorted i 0 < length nodes
   pub below : (i : ℕ) → i < length sorted → nodeAt nodes sorted i < n
 
 -- the cells that hold the stamp are the nodes of the first i uses

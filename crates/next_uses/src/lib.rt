@@ -12,17 +12,16 @@ ghost use Rattle.flow.specs.Sheet.{useKindOf};
 ghost use Rattle.flow.specs.Graph.{Graph};
 ghost use Rattle.flow.specs.Reachable.{successors};
 ghost use Rattle.flow.specs.Findings.{Use, Ahead, ahead, anyFlag, isOverwrittenUnread, isOverwritten};
-ghost use Rattle.next_uses.specs.Predecessors.{Linked, Chained, linkHead, linkNext, Chain, edgeAfter};
+ghost use Rattle.next_uses.specs.Predecessors.{Blank, Linked, Chained, linkHead, linkNext, Chain, nodeOfEdge, edgeAfter};
 ghost use Rattle.next_uses.specs.Uses.{byNode, table, nodeAt, Placed, Listed, Sorted, nextInNode, opensNode, Used};
-ghost use Rattle.next_uses.specs.Backwards.{scope, aliveIn, passes as goesOn, ofSort, startsHere, startsTo, backFlags, Columns, AheadHeld};
+ghost use Rattle.next_uses.specs.Backwards.{scope, aliveIn, passes as goesOn, ofSort, startsHere, startsTo, backFlags, Unmarked, Columns, AheadHeld};
 use search::at;
 use search::cell;
 use search::insert;
-use search::sized;
 
 // An edge of node u to v put in front of v's chain.
-fn link(head: &mut [u16; 1600], next: &mut [u16; 1600], n: usize, u: usize, v: usize, code: usize)
-    requires { ⌜ (n ≤ 1600) × (u < 1600) × (code < 65536) ⌝ }
+fn link(head: &mut [u16], next: &mut [u16], n: usize, u: usize, v: usize, code: usize)
+    requires { ⌜ (n ≤ length (now head)) × (u < length (now next)) × (code < 65536) ⌝ }
     ensures { λ _. ⌜ now (head .exit) ≡ linkHead n v code (now (head .entry)) ⌝ }
     ensures { λ _. ⌜ now (next .exit) ≡ linkNext n u v (now (head .entry)) (now (next .entry)) ⌝ }
 {
@@ -36,18 +35,15 @@ fn link(head: &mut [u16; 1600], next: &mut [u16; 1600], n: usize, u: usize, v: u
 pub fn build_predecessors(
     first: &[u64],
     second: &[u64],
-    head: &mut [u16; 1600],
-    next_a: &mut [u16; 1600],
-    next_b: &mut [u16; 1600],
+    head: &mut [u16],
+    next_a: &mut [u16],
+    next_b: &mut [u16],
     n: usize,
 )
     requires { ⌜ (n ≤ 1600) × (n ≤ length (now first)) × (n ≤ length (now second)) ⌝ }
-    requires { ⌜ ((v : ℕ) → v < n → getD (now head) v 0 ≡ 0) ⌝ }
+    requires { ⌜ Blank n (now head) (now «next_a») (now «next_b») ⌝ }
     ensures { λ _. ⌜ Linked (take n (now (first .entry))) (take n (now (second .entry))) n n (now (head .exit)) (now («next_a» .exit)) (now («next_b» .exit)) ⌝ }
 {
-    sized(head);
-    sized(next_a);
-    sized(next_b);
     let mut u = 0;
     while u < n {
         let a = at(first, u);
@@ -59,8 +55,8 @@ pub fn build_predecessors(
 }
 
 // The code of the edge that follows in a chain.
-fn edge_after(next_a: &[u16; 1600], next_b: &[u16; 1600], e: usize) -> usize
-    requires { ⌜ (0 < e) × (e ≤ 3200) ⌝ }
+fn edge_after(next_a: &[u16], next_b: &[u16], e: usize) -> usize
+    requires { ⌜ (0 < e) × (nodeOfEdge e < length (now «next_a»)) × (nodeOfEdge e < length (now «next_b»)) ⌝ }
     ensures { λ r. ⌜ r ≡ edgeAfter (now («next_a» .entry)) (now («next_b» .entry)) e ⌝ }
 {
     let u = (e - 1) / 2;
@@ -84,15 +80,8 @@ fn is_alive_at(start: &[u64], node: usize, scope_end: u64, v: usize) -> bool
 }
 
 // Whether a path goes on through v: past a use its next use is that one.
-fn passes(
-    start: &[u64],
-    used: &[u16; 1600],
-    node: usize,
-    scope_end: u64,
-    stamp: u16,
-    v: usize,
-) -> bool
-    requires { ⌜ (v < length (now start)) × (v < 1600) ⌝ }
+fn passes(start: &[u64], used: &[u16], node: usize, scope_end: u64, stamp: u16, v: usize) -> bool
+    requires { ⌜ (v < length (now start)) × (v < length (now used)) ⌝ }
     ensures { λ r. ⌜ r ≡ goesOn (scope (now (start .entry)) node «scope_end») stamp (now (used .entry)) v ⌝ }
 {
     if used[v] == stamp {
@@ -105,17 +94,17 @@ fn passes(
 // A predecessor v pushed, if a path goes on through it.
 fn push_back(
     start: &[u64],
-    used: &[u16; 1600],
-    marks: &mut [u16; 1600],
-    stack: &mut [u16; 1600],
+    used: &[u16],
+    marks: &mut [u16],
+    stack: &mut [u16],
     node: usize,
     scope_end: u64,
     stamp: u16,
     top: usize,
     v: usize,
 ) -> usize
-    requires { ⌜ (v < length (now start)) × (v < 1600) ⌝ }
-    requires { ⌜ ((getD (now marks) v 0 ≡ stamp → ⊥) → top < 1600) ⌝ }
+    requires { ⌜ (v < length (now start)) × (v < length (now used)) × (v < length (now marks)) × (v < 65536) ⌝ }
+    requires { ⌜ ((getD (now marks) v 0 ≡ stamp → ⊥) → top < length (now stack)) ⌝ }
     ensures { λ r. ⌜ st (now (marks .exit)) (now (stack .exit)) r ≡ stampWhen stamp (goesOn (scope (now (start .entry)) node «scope_end») stamp (now (used .entry)) v) v (st (now (marks .entry)) (now (stack .entry)) top) ⌝ }
 {
     if passes(start, used, node, scope_end, stamp, v) {
@@ -128,11 +117,11 @@ fn push_back(
 // The predecessors on a chain pushed.
 fn push_chain(
     start: &[u64],
-    next_a: &[u16; 1600],
-    next_b: &[u16; 1600],
-    used: &[u16; 1600],
-    marks: &mut [u16; 1600],
-    stack: &mut [u16; 1600],
+    next_a: &[u16],
+    next_b: &[u16],
+    used: &[u16],
+    marks: &mut [u16],
+    stack: &mut [u16],
     n: usize,
     node: usize,
     scope_end: u64,
@@ -140,7 +129,7 @@ fn push_chain(
     top0: usize,
     code: usize,
 ) -> usize
-    requires { ⌜ (n ≤ 1600) × (n ≤ length (now start)) ⌝ }
+    requires { ⌜ (n ≤ 1600) × (n ≤ length (now start)) × (n ≤ length (now «next_a»)) × (n ≤ length (now «next_b»)) × (n ≤ length (now used)) ⌝ }
     requires { ⌜ Ready stamp n (st (now marks) (now stack) top0) ⌝ }
     requires { ⌜ ((us : List ℕ) × Chain n (now «next_a») (now «next_b») code us) ⌝ }
     ensures { λ r. ⌜ ((us : List ℕ) → Chain n (now («next_a» .entry)) (now («next_b» .entry)) code us → st (now (marks .exit)) (now (stack .exit)) r ≡ stampAll stamp (keep (goesOn (scope (now (start .entry)) node «scope_end») stamp (now (used .entry))) us) (st (now (marks .entry)) (now (stack .entry)) top0)) ⌝ }
@@ -164,9 +153,9 @@ fn use_kind(use_word: &[u64], k: usize) -> u64
 }
 
 // Whether the next place holds a use at the same node.
-fn next_in_node(use_node: &[u16; 1024], sorted: &[u16], i: usize) -> bool
+fn next_in_node(use_node: &[u16], sorted: &[u16], i: usize) -> bool
     requires { ⌜ i < length (now sorted) ⌝ }
-    requires { ⌜ ((j : ℕ) → j < length (now sorted) → getD (now sorted) j 0 < 1024) ⌝ }
+    requires { ⌜ ((j : ℕ) → j < length (now sorted) → getD (now sorted) j 0 < length (now «use_node»)) ⌝ }
     ensures { λ r. ⌜ r ≡ nextInNode (now («use_node» .entry)) (now (sorted .entry)) i ⌝ }
 {
     let next = i + 1;
@@ -180,9 +169,9 @@ fn next_in_node(use_node: &[u16; 1024], sorted: &[u16], i: usize) -> bool
 }
 
 // Whether place i is the first of its node.
-fn opens_node(use_node: &[u16; 1024], sorted: &[u16], i: usize) -> bool
+fn opens_node(use_node: &[u16], sorted: &[u16], i: usize) -> bool
     requires { ⌜ i < length (now sorted) ⌝ }
-    requires { ⌜ ((j : ℕ) → j < length (now sorted) → getD (now sorted) j 0 < 1024) ⌝ }
+    requires { ⌜ ((j : ℕ) → j < length (now sorted) → getD (now sorted) j 0 < length (now «use_node»)) ⌝ }
     ensures { λ r. ⌜ r ≡ opensNode (now («use_node» .entry)) (now (sorted .entry)) i ⌝ }
 {
     if i == 0 {
@@ -205,7 +194,7 @@ fn is_of_sort(use_word: &[u64], pure: bool, k: usize) -> bool
 fn starts_here(
     start: &[u64],
     use_word: &[u64],
-    use_node: &[u16; 1024],
+    use_node: &[u16],
     sorted: &[u16],
     n: usize,
     node: usize,
@@ -234,10 +223,10 @@ fn starts_here(
 fn push_start(
     start: &[u64],
     use_word: &[u64],
-    use_node: &[u16; 1024],
+    use_node: &[u16],
     sorted: &[u16],
-    marks: &mut [u16; 1600],
-    stack: &mut [u16; 1600],
+    marks: &mut [u16],
+    stack: &mut [u16],
     n: usize,
     node: usize,
     scope_end: u64,
@@ -246,9 +235,9 @@ fn push_start(
     top: usize,
     i: usize,
 ) -> usize
-    requires { ⌜ (i < length (now sorted)) × (n ≤ length (now start)) × (n ≤ 1600) ⌝ }
+    requires { ⌜ (i < length (now sorted)) × (n ≤ length (now start)) × (n ≤ length (now marks)) × (n ≤ 1600) ⌝ }
     requires { ⌜ Listed n (table (now «use_word») (now «use_node») (now sorted)) ⌝ }
-    requires { ⌜ ((getD (now marks) (nodeAt (now «use_node») (now sorted) i) 0 ≡ stamp → ⊥) → top < 1600) ⌝ }
+    requires { ⌜ ((getD (now marks) (nodeAt (now «use_node») (now sorted) i) 0 ≡ stamp → ⊥) → top < length (now stack)) ⌝ }
     ensures { λ r. ⌜ st (now (marks .exit)) (now (stack .exit)) r ≡ stampWhen stamp (startsHere (scope (now (start .entry)) node «scope_end») (table (now («use_word» .entry)) (now («use_node» .entry)) (now (sorted .entry))) pure i) (nodeAt (now («use_node» .entry)) (now (sorted .entry)) i) (st (now (marks .entry)) (now (stack .entry)) top) ⌝ }
 {
     if starts_here(
@@ -274,10 +263,10 @@ fn push_start(
 fn push_starts(
     start: &[u64],
     use_word: &[u64],
-    use_node: &[u16; 1024],
+    use_node: &[u16],
     sorted: &[u16],
-    marks: &mut [u16; 1600],
-    stack: &mut [u16; 1600],
+    marks: &mut [u16],
+    stack: &mut [u16],
     n: usize,
     node: usize,
     scope_end: u64,
@@ -314,30 +303,28 @@ fn push_starts(
 // The nodes from which some path's next use is of the sort, marked by the stamp.
 fn search_back(
     start: &[u64],
-    head: &[u16; 1600],
-    next_a: &[u16; 1600],
-    next_b: &[u16; 1600],
+    head: &[u16],
+    next_a: &[u16],
+    next_b: &[u16],
     use_word: &[u64],
-    use_node: &[u16; 1024],
+    use_node: &[u16],
     sorted: &[u16],
-    used: &[u16; 1600],
-    marks: &mut [u16; 1600],
-    stack: &mut [u16; 1600],
+    used: &[u16],
+    marks: &mut [u16],
+    stack: &mut [u16],
     n: usize,
     node: usize,
     scope_end: u64,
     stamp: u16,
     pure: bool,
 )
-    requires { ⌜ (n ≤ 1600) × (n ≤ length (now start)) ⌝ }
+    requires { ⌜ (n ≤ 1600) × (n ≤ length (now start)) × (n ≤ length (now used)) × (n ≤ length (now marks)) × (n ≤ length (now stack)) ⌝ }
     requires { ⌜ Listed n (table (now «use_word») (now «use_node») (now sorted)) ⌝ }
     requires { ⌜ Chained n (now head) (now «next_a») (now «next_b») ⌝ }
     requires { ⌜ Fresh stamp (now marks) ⌝ }
     ensures { λ _. ⌜ ((f s : List ℕ) → Linked f s n n (now (head .entry)) (now («next_a» .entry)) (now («next_b» .entry)) → flagsOf stamp n (now (marks .exit)) ≡ backFlags (scope (now (start .entry)) node «scope_end») (table (now («use_word» .entry)) (now («use_node» .entry)) (now (sorted .entry))) pure stamp (now (used .entry)) f s n) ⌝ }
     ensures { λ _. ⌜ Stamped stamp (now (marks .exit)) ⌝ }
 {
-    sized(marks);
-    sized(stack);
     let mut top = push_starts(
         start,
         use_word,
@@ -373,13 +360,12 @@ fn search_back(
 }
 
 // The nodes that hold a use marked by the stamp.
-fn mark_used(use_node: &[u16; 1024], sorted: &[u16], used: &mut [u16; 1600], stamp: u16)
-    requires { ⌜ Placed 1600 (now «use_node») (now sorted) ⌝ }
+fn mark_used(use_node: &[u16], sorted: &[u16], used: &mut [u16], stamp: u16)
+    requires { ⌜ Placed (length (now used)) (now «use_node») (now sorted) ⌝ }
     requires { ⌜ Fresh stamp (now used) ⌝ }
     ensures { λ _. ⌜ Used stamp (now («use_node» .entry)) (now (sorted .entry)) (length (now (sorted .entry))) (now (used .exit)) ⌝ }
     ensures { λ _. ⌜ Stamped stamp (now (used .exit)) ⌝ }
 {
-    sized(used);
     let mut i = 0;
     while i < sorted.len() {
         let k = cell(sorted, i);
@@ -392,16 +378,16 @@ fn mark_used(use_node: &[u16; 1024], sorted: &[u16], used: &mut [u16; 1600], sta
 // Each node from which some path's next use of the local is a read, and each from which it is a pure write, marked by the stamp.
 pub fn mark_next_uses(
     start: &[u64],
-    head: &[u16; 1600],
-    next_a: &[u16; 1600],
-    next_b: &[u16; 1600],
+    head: &[u16],
+    next_a: &[u16],
+    next_b: &[u16],
     use_word: &[u64],
-    use_node: &[u16; 1024],
+    use_node: &[u16],
     sorted: &[u16],
-    used: &mut [u16; 1600],
-    reads: &mut [u16; 1600],
-    writes: &mut [u16; 1600],
-    stack: &mut [u16; 1600],
+    used: &mut [u16],
+    reads: &mut [u16],
+    writes: &mut [u16],
+    stack: &mut [u16],
     n: usize,
     node: usize,
     scope_end: u64,
@@ -410,7 +396,7 @@ pub fn mark_next_uses(
     requires { ⌜ (n ≤ 1600) × (n ≤ length (now start)) ⌝ }
     requires { ⌜ Listed n (table (now «use_word») (now «use_node») (now sorted)) ⌝ }
     requires { ⌜ Chained n (now head) (now «next_a») (now «next_b») ⌝ }
-    requires { ⌜ Fresh stamp (now used) × Fresh stamp (now reads) × Fresh stamp (now writes) ⌝ }
+    requires { ⌜ Unmarked stamp n (now used) (now reads) (now writes) (now stack) ⌝ }
     ensures { λ _. ⌜ ((g : Graph) (us : List Use) → Columns g n (now (start .entry)) (now (head .entry)) (now («next_a» .entry)) (now («next_b» .entry)) → Sorted n (table (now («use_word» .entry)) (now («use_node» .entry)) (now (sorted .entry))) us → AheadHeld stamp n (now (reads .exit)) (now (writes .exit)) (ahead g (record { node = node; scopeEnd = «scope_end» }) us)) ⌝ }
     ensures { λ _. ⌜ Stamped stamp (now (used .exit)) × Stamped stamp (now (reads .exit)) × Stamped stamp (now (writes .exit)) ⌝ }
 {
@@ -452,23 +438,16 @@ pub fn mark_next_uses(
 }
 
 // Whether v is a node that is marked.
-fn is_marked(marks: &[u16; 1600], n: usize, stamp: u16, v: usize) -> bool
-    requires { ⌜ n ≤ 1600 ⌝ }
+fn is_marked(marks: &[u16], n: usize, stamp: u16, v: usize) -> bool
+    requires { ⌜ n ≤ length (now marks) ⌝ }
     ensures { λ r. ⌜ r ≡ (ltb v n && eqb (getD (now (marks .entry)) v 0) stamp) ⌝ }
 {
     if v < n { marks[v] == stamp } else { false }
 }
 
 // Whether a successor of v is marked.
-fn is_ahead(
-    first: &[u64],
-    second: &[u64],
-    marks: &[u16; 1600],
-    n: usize,
-    stamp: u16,
-    v: usize,
-) -> bool
-    requires { ⌜ (n ≤ 1600) × (n ≤ length (now first)) × (n ≤ length (now second)) × (v < n) ⌝ }
+fn is_ahead(first: &[u64], second: &[u64], marks: &[u16], n: usize, stamp: u16, v: usize) -> bool
+    requires { ⌜ (n ≤ length (now first)) × (n ≤ length (now second)) × (n ≤ length (now marks)) × (v < n) ⌝ }
     ensures { λ r. ⌜ ((g : Graph) → g .nodes .first ≡ take n (now (first .entry)) → g .nodes .second ≡ take n (now (second .entry)) → r ≡ anyFlag (flagsOf stamp n (now (marks .entry))) (successors g v)) ⌝ }
 {
     let a = at(first, v);
@@ -484,13 +463,13 @@ fn is_ahead(
 pub fn is_overwritten_unread(
     first: &[u64],
     second: &[u64],
-    reads: &[u16; 1600],
-    writes: &[u16; 1600],
+    reads: &[u16],
+    writes: &[u16],
     n: usize,
     stamp: u16,
     v: usize,
 ) -> bool
-    requires { ⌜ (n ≤ 1600) × (n ≤ length (now first)) × (n ≤ length (now second)) × (v < n) ⌝ }
+    requires { ⌜ (n ≤ length (now first)) × (n ≤ length (now second)) × (n ≤ length (now reads)) × (n ≤ length (now writes)) × (v < n) ⌝ }
     ensures { λ r. ⌜ ((g : Graph) (a : Ahead) → g .nodes .first ≡ take n (now (first .entry)) → g .nodes .second ≡ take n (now (second .entry)) → AheadHeld stamp n (now (reads .entry)) (now (writes .entry)) a → r ≡ isOverwrittenUnread g a v) ⌝ }
 {
     if is_ahead(first, second, reads, n, stamp, v) {
@@ -505,15 +484,15 @@ pub fn is_overwritten(
     first: &[u64],
     second: &[u64],
     use_word: &[u64],
-    use_node: &[u16; 1024],
+    use_node: &[u16],
     sorted: &[u16],
-    reads: &[u16; 1600],
-    writes: &[u16; 1600],
+    reads: &[u16],
+    writes: &[u16],
     n: usize,
     stamp: u16,
     i: usize,
 ) -> bool
-    requires { ⌜ (n ≤ 1600) × (n ≤ length (now first)) × (n ≤ length (now second)) × (i < length (now sorted)) ⌝ }
+    requires { ⌜ (n ≤ length (now first)) × (n ≤ length (now second)) × (n ≤ length (now reads)) × (n ≤ length (now writes)) × (i < length (now sorted)) ⌝ }
     requires { ⌜ Listed n (table (now «use_word») (now «use_node») (now sorted)) ⌝ }
     ensures { λ r. ⌜ ((g : Graph) (a : Ahead) (us : List Use) → g .nodes .first ≡ take n (now (first .entry)) → g .nodes .second ≡ take n (now (second .entry)) → AheadHeld stamp n (now (reads .entry)) (now (writes .entry)) a → Sorted n (table (now («use_word» .entry)) (now («use_node» .entry)) (now (sorted .entry))) us → (u : Use) (after : List Use) → drop i (byNode n us) ≡ u ∷ after → r ≡ isOverwritten g a u after) ⌝ }
 {

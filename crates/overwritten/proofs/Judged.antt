@@ -108,8 +108,8 @@ module _ {S U : List ℕ} {n names : ℕ} {first second start nameNode nameEnd n
       let valued : d .«has_value» ≡ not (noValue (localAt S ℓ)) = k .hasValue (localAt S ℓ) (p .known ℓ h) in
       rw (valued, span, k .number, node, end, ← p .charted .count) (all-listed S U ℓ (tested e))
 
-  pub cut : Cut ℓ starts
-  cut = own-cut S U n names words spans nodes lost (p .located) starts column ℓ h (p .named .few) (p .parts)
+  pub cut : Cut ℓ starts column
+  cut = own-cut S U n names words spans nodes lost (p .located) starts column ℓ h (p .parts)
 
   -- the local's uses are those of its part
   module _ {sorted : List ℕ} (e : sorted ≡ part (getD starts ℓ 0) (getD starts (ℓ + 1) 0) column) where
@@ -120,6 +120,7 @@ module _ {S U : List ℕ} {n names : ℕ} {first second start nameNode nameEnd n
           firsts = p .charted .long .firsts;
           seconds = p .charted .long .seconds;
           listed = rw e (own-listed S U n names words spans nodes lost (p .located) starts column ℓ h (p .parts));
+          uses-few = p .located .few;
           spanned = p .located .same;
         }
 

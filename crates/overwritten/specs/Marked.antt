@@ -7,7 +7,6 @@ use lib.ListN.{length, getD, take}
 use mathlib.Core.Bool.{_&&_}
 use Rattle.flow.specs.Graph.{Graph}
 use Rattle.flow.specs.Findings.{Use, Ahead, Finding, Declaration, onlyIf, ofInitial, ofUse, isOverwrittenUnread, overwrittenBelow}
-use Rattle.search.specs.Stamps.{Fresh}
 use Rattle.live_walk.specs.Walk.{Charts}
 use Rattle.next_uses.specs.Uses.{Table, Listed, Sorted}
 use Rattle.next_uses.specs.Backwards.{AheadHeld}
@@ -19,6 +18,7 @@ pub record Fits (n : ℕ) (first second : List ℕ) (t : Table) (spans : List �
   pub firsts : n ≤ length first
   pub seconds : n ≤ length second
   pub listed : Listed n t
+  pub uses-few : length (t .words) ≤ 1024
   pub spanned : length spans ≡ length (t .words)
 
 -- the nodes are those of g, and the local's uses are us
@@ -34,12 +34,6 @@ pub record Marked (stamp n : ℕ) (first second : List ℕ) (t : Table) (spans r
   pub held : AheadHeld stamp n reads writes a
   pub sorted : Sorted n t us
   pub spans-are : (u : Use) → List·Memᴰ u us → u .span ≡ getD spans (u .number) 0
-
--- the stamp is new in each column of marks
-pub record Unmarked (stamp : ℕ) (used reads writes : List ℕ) : Type 0 where
-  pub used-new : Fresh stamp used
-  pub reads-new : Fresh stamp reads
-  pub writes-new : Fresh stamp writes
 
 abbrev pub declared : LocalDeclaration → Declaration
 declared d = record { node = d .node; scopeEnd = d .«scope_end» }

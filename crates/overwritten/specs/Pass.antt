@@ -1,6 +1,6 @@
 -- What the columns of the pass over all locals stand for, and what they say of one name.
 -- Assumes nothing: these are definitions.
-use Prim.Native.Nat.{ℕ, _<_}
+use Prim.Native.Nat.{ℕ, _<_, _≤_}
 use mathlib.Core.Path.{_≡_}
 use mathlib.Core.Bool.{Bool, false, _&&_, not}
 use mathlib.Core.List.{List}
@@ -8,7 +8,9 @@ use lib.Dec.{eqb}
 use lib.ListN.{length, getD}
 use Rattle.flow.specs.Sheet.{useWords}
 use Rattle.flow.specs.Findings.{Local, noValue, tracked, writesJudged, usesOf}
+use Rattle.next_uses.specs.Predecessors.{Blank}
 use Rattle.next_uses.specs.Uses.{byNode}
+use Rattle.next_uses.specs.Backwards.{Unmarked}
 use Rattle.locals.specs.Columns.{Charted, Named, Spanned, Located, Parts}
 use Rattle.locals.specs.Facts.{factsOf, Known}
 use Rattle.overwritten.specs.declared.LocalDeclaration.{LocalDeclaration}
@@ -19,8 +21,14 @@ pub record Pass (S U : List ℕ) (n names : ℕ) (first second start nameNode na
   pub named : Named S n names nameNode nameEnd
   pub spanned : Spanned S names nameSpan
   pub known : Known S names facts
+  pub facts-long : names ≤ length facts
   pub located : Located S U n names words spans nodes lost
   pub parts : Parts (λ ℓ. byNode n (usesOf S U ℓ)) (length (useWords U)) names starts column
+
+-- the work columns as the pass begins: they hold n nodes, no chain has an edge, and no mark is set
+pub record Lent (n : ℕ) (head a b used reads writes stack : List ℕ) : Type 0 where
+  pub blank : Blank n head a b
+  pub unmarked : Unmarked 1 n used reads writes stack
 
 -- a local's values are judged: it is tracked, modified and not captured, and each of its uses finds a node
 abbrev pub isJudged : Local → ℕ → Bool

@@ -8,11 +8,11 @@ ghost use Rattle.flow.specs.Graph.{Graph};
 ghost use Rattle.flow.specs.Findings.{Local, Use, Ahead, onlyIf, ofUse, ahead, isOverwritten, overwrittenBelow, overwrittenOf, ofEach};
 ghost use Rattle.next_uses.specs.Predecessors.{Linked};
 ghost use Rattle.next_uses.specs.Uses.{byNode, table};
-ghost use Rattle.next_uses.specs.Backwards.{AheadHeld};
+ghost use Rattle.next_uses.specs.Backwards.{Unmarked, AheadHeld};
 ghost use Rattle.locals.specs.Facts.{factsOf};
 ghost use Rattle.locals.specs.Entries.{Room, Added};
-ghost use Rattle.overwritten.specs.Marked.{Fits, Stands, Marked, Unmarked, declared, initialOf, valuesOf};
-ghost use Rattle.overwritten.specs.Pass.{Pass, isJudged, NoneJudged, DeclaredAt};
+ghost use Rattle.overwritten.specs.Marked.{Fits, Stands, Marked, declared, initialOf, valuesOf};
+ghost use Rattle.overwritten.specs.Pass.{Pass, Lent, isJudged, NoneJudged, DeclaredAt};
 use locals::has_value;
 use locals::is_tracked;
 use locals::part_of;
@@ -62,11 +62,11 @@ fn push_if_overwritten(
     first: &[u64],
     second: &[u64],
     use_word: &[u64],
-    use_node: &[u16; 1024],
+    use_node: &[u16],
     use_span: &[u64],
     sorted: &[u16],
-    reads: &[u16; 1600],
-    writes: &[u16; 1600],
+    reads: &[u16],
+    writes: &[u16],
     finding_word: &mut [u64],
     finding_span: &mut [u64],
     n: usize,
@@ -76,6 +76,7 @@ fn push_if_overwritten(
     i: usize,
 ) -> usize
     requires { ⌜ Fits n (now first) (now second) (table (now «use_word») (now «use_node») (now sorted)) (now «use_span») ⌝ }
+    requires { ⌜ (n ≤ length (now reads)) × (n ≤ length (now writes)) ⌝ }
     requires { ⌜ (i < length (now sorted)) × (local < 1024) ⌝ }
     requires { ⌜ Room 1 count (now «finding_word») (now «finding_span») ⌝ }
     ensures { λ r. ⌜ r ≤ count + 1 ⌝ }
@@ -105,11 +106,11 @@ fn list_writes(
     first: &[u64],
     second: &[u64],
     use_word: &[u64],
-    use_node: &[u16; 1024],
+    use_node: &[u16],
     use_span: &[u64],
     sorted: &[u16],
-    reads: &[u16; 1600],
-    writes: &[u16; 1600],
+    reads: &[u16],
+    writes: &[u16],
     finding_word: &mut [u64],
     finding_span: &mut [u64],
     n: usize,
@@ -118,6 +119,7 @@ fn list_writes(
     before: usize,
 ) -> usize
     requires { ⌜ Fits n (now first) (now second) (table (now «use_word») (now «use_node») (now sorted)) (now «use_span») ⌝ }
+    requires { ⌜ (n ≤ length (now reads)) × (n ≤ length (now writes)) ⌝ }
     requires { ⌜ local < 1024 ⌝ }
     requires { ⌜ Room (length (now sorted)) before (now «finding_word») (now «finding_span») ⌝ }
     ensures { λ r. ⌜ r ≤ before + length (now (sorted .entry)) ⌝ }
@@ -152,8 +154,8 @@ fn list_writes(
 fn push_initial(
     first: &[u64],
     second: &[u64],
-    reads: &[u16; 1600],
-    writes: &[u16; 1600],
+    reads: &[u16],
+    writes: &[u16],
     finding_word: &mut [u64],
     finding_span: &mut [u64],
     n: usize,
@@ -161,7 +163,7 @@ fn push_initial(
     declaration: LocalDeclaration,
     count: usize,
 ) -> usize
-    requires { ⌜ (n ≤ 1600) × (n ≤ length (now first)) × (n ≤ length (now second)) × (declaration .node < n) × (declaration .local < 1024) ⌝ }
+    requires { ⌜ (n ≤ length (now first)) × (n ≤ length (now second)) × (n ≤ length (now reads)) × (n ≤ length (now writes)) × (declaration .node < n) × (declaration .local < 1024) ⌝ }
     requires { ⌜ Room 1 count (now «finding_word») (now «finding_span») ⌝ }
     ensures { λ r. ⌜ r ≤ count + 1 ⌝ }
     ensures { λ r. ⌜ ((g : Graph) (a : Ahead) → g .nodes .first ≡ take n (now (first .entry)) → g .nodes .second ≡ take n (now (second .entry)) → AheadHeld stamp n (now (reads .entry)) (now (writes .entry)) a → Added (initialOf g a declaration) count (now («finding_word» .entry)) (now («finding_span» .entry)) r (now («finding_word» .exit)) (now («finding_span» .exit))) ⌝ }
@@ -187,11 +189,11 @@ fn list_values(
     first: &[u64],
     second: &[u64],
     use_word: &[u64],
-    use_node: &[u16; 1024],
+    use_node: &[u16],
     use_span: &[u64],
     sorted: &[u16],
-    reads: &[u16; 1600],
-    writes: &[u16; 1600],
+    reads: &[u16],
+    writes: &[u16],
     finding_word: &mut [u64],
     finding_span: &mut [u64],
     n: usize,
@@ -200,6 +202,7 @@ fn list_values(
     before: usize,
 ) -> usize
     requires { ⌜ Fits n (now first) (now second) (table (now «use_word») (now «use_node») (now sorted)) (now «use_span») ⌝ }
+    requires { ⌜ (n ≤ length (now reads)) × (n ≤ length (now writes)) ⌝ }
     requires { ⌜ (declaration .node < n) × (declaration .local < 1024) ⌝ }
     requires { ⌜ Room (1 + length (now sorted)) before (now «finding_word») (now «finding_span») ⌝ }
     ensures { λ r. ⌜ r ≤ before + 1 + length (now (sorted .entry)) ⌝ }
@@ -241,17 +244,17 @@ fn judge_local(
     first: &[u64],
     second: &[u64],
     start: &[u64],
-    head: &[u16; 1600],
-    next_a: &[u16; 1600],
-    next_b: &[u16; 1600],
+    head: &[u16],
+    next_a: &[u16],
+    next_b: &[u16],
     use_word: &[u64],
-    use_node: &[u16; 1024],
+    use_node: &[u16],
     use_span: &[u64],
     sorted: &[u16],
-    used: &mut [u16; 1600],
-    reads: &mut [u16; 1600],
-    writes: &mut [u16; 1600],
-    stack: &mut [u16; 1600],
+    used: &mut [u16],
+    reads: &mut [u16],
+    writes: &mut [u16],
+    stack: &mut [u16],
     finding_word: &mut [u64],
     finding_span: &mut [u64],
     n: usize,
@@ -261,11 +264,11 @@ fn judge_local(
     requires { ⌜ Fits n (now first) (now second) (table (now «use_word») (now «use_node») (now sorted)) (now «use_span») × (n ≤ length (now start)) ⌝ }
     requires { ⌜ Linked (take n (now first)) (take n (now second)) n n (now head) (now «next_a») (now «next_b») ⌝ }
     requires { ⌜ (declaration .node < n) × (declaration .local < 1024) ⌝ }
-    requires { ⌜ Unmarked (declaration .local + 1) (now used) (now reads) (now writes) ⌝ }
+    requires { ⌜ Unmarked (declaration .local + 1) n (now used) (now reads) (now writes) (now stack) ⌝ }
     requires { ⌜ Room (1 + length (now sorted)) count (now «finding_word») (now «finding_span») ⌝ }
     ensures { λ r. ⌜ r ≤ count + 1 + length (now (sorted .entry)) ⌝ }
     ensures { λ r. ⌜ ((g : Graph) (us : List Use) → Stands n (now (first .entry)) (now (second .entry)) (now (start .entry)) (table (now («use_word» .entry)) (now («use_node» .entry)) (now (sorted .entry))) (now («use_span» .entry)) g us → Added (valuesOf g (ahead g (declared declaration) us) declaration n us) count (now («finding_word» .entry)) (now («finding_span» .entry)) r (now («finding_word» .exit)) (now («finding_span» .exit))) ⌝ }
-    ensures { λ _. ⌜ Unmarked (declaration .local + 2) (now (used .exit)) (now (reads .exit)) (now (writes .exit)) ⌝ }
+    ensures { λ _. ⌜ Unmarked (declaration .local + 2) n (now (used .exit)) (now (reads .exit)) (now (writes .exit)) (now (stack .exit)) ⌝ }
 {
     let node = declaration.node;
     let scope_end = declaration.scope_end;
@@ -320,9 +323,9 @@ fn is_judged(facts: u16, lost: u16) -> bool
     }
 }
 
-// Whether the values of some local are judged. Where none are, the search needs no memory.
-fn any_judged(facts: &[u16; 1024], lost: &[u16; 1024], names: usize) -> bool
-    requires { ⌜ names ≤ 1024 ⌝ }
+// Whether the values of some local are judged. Where none are, nothing is searched.
+fn any_judged(facts: &[u16], lost: &[u16], names: usize) -> bool
+    requires { ⌜ (names ≤ length (now facts)) × (names ≤ length (now lost)) ⌝ }
     ensures { λ r. ⌜ (r ≡ false → NoneJudged names (now (facts .entry)) (now (lost .entry))) ⌝ }
 {
     let mut i = 0;
@@ -340,10 +343,10 @@ fn declaration_at(
     name_node: &[u64],
     name_end: &[u64],
     name_span: &[u64],
-    facts: &[u16; 1024],
+    facts: &[u16],
     local: usize,
 ) -> LocalDeclaration
-    requires { ⌜ (local < 1024) × (local < length (now «name_node»)) × (local < length (now «name_end»)) × (local < length (now «name_span»)) ⌝ }
+    requires { ⌜ (local < length (now «name_node»)) × (local < length (now «name_end»)) × (local < length (now «name_span»)) × (local < length (now facts)) ⌝ }
     ensures { λ r. ⌜ DeclaredAt (now («name_node» .entry)) (now («name_end» .entry)) (now («name_span» .entry)) (now (facts .entry)) local r ⌝ }
 {
     LocalDeclaration {
@@ -363,20 +366,20 @@ fn add_local(
     name_node: &[u64],
     name_end: &[u64],
     name_span: &[u64],
-    facts: &[u16; 1024],
-    lost: &[u16; 1024],
-    starts: &[u16; 1601],
-    by_node: &[u16; 1024],
+    facts: &[u16],
+    lost: &[u16],
+    starts: &[u16],
+    by_node: &[u16],
     use_word: &[u64],
-    use_node: &[u16; 1024],
+    use_node: &[u16],
     use_span: &[u64],
-    head: &[u16; 1600],
-    next_a: &[u16; 1600],
-    next_b: &[u16; 1600],
-    used: &mut [u16; 1600],
-    reads: &mut [u16; 1600],
-    writes: &mut [u16; 1600],
-    stack: &mut [u16; 1600],
+    head: &[u16],
+    next_a: &[u16],
+    next_b: &[u16],
+    used: &mut [u16],
+    reads: &mut [u16],
+    writes: &mut [u16],
+    stack: &mut [u16],
     finding_word: &mut [u64],
     finding_span: &mut [u64],
     n: usize,
@@ -387,11 +390,11 @@ fn add_local(
     requires { ⌜ ((S : List ℕ) × (U : List ℕ) × Pass S U n names (now first) (now second) (now start) (now «name_node») (now «name_end») (now «name_span») (now facts) (now lost) (now starts) (now «by_node») (now «use_word») (now «use_node») (now «use_span»)) ⌝ }
     requires { ⌜ Linked (take n (now first)) (take n (now second)) n n (now head) (now «next_a») (now «next_b») ⌝ }
     requires { ⌜ local < names ⌝ }
-    requires { ⌜ Unmarked (local + 1) (now used) (now reads) (now writes) ⌝ }
+    requires { ⌜ Unmarked (local + 1) n (now used) (now reads) (now writes) (now stack) ⌝ }
     requires { ⌜ Room (1 + (getD (now starts) (local + 1) 0 - getD (now starts) local 0)) count (now «finding_word») (now «finding_span») ⌝ }
     ensures { λ r. ⌜ r ≤ count + (1 + (getD (now (starts .entry)) (local + 1) 0 - getD (now (starts .entry)) local 0)) ⌝ }
     ensures { λ r. ⌜ ((S U : List ℕ) → Pass S U n names (now (first .entry)) (now (second .entry)) (now (start .entry)) (now («name_node» .entry)) (now («name_end» .entry)) (now («name_span» .entry)) (now (facts .entry)) (now (lost .entry)) (now (starts .entry)) (now («by_node» .entry)) (now («use_word» .entry)) (now («use_node» .entry)) (now («use_span» .entry)) → Added (overwrittenOf S U local) count (now («finding_word» .entry)) (now («finding_span» .entry)) r (now («finding_word» .exit)) (now («finding_span» .exit))) ⌝ }
-    ensures { λ _. ⌜ Unmarked (local + 2) (now (used .exit)) (now (reads .exit)) (now (writes .exit)) ⌝ }
+    ensures { λ _. ⌜ Unmarked (local + 2) n (now (used .exit)) (now (reads .exit)) (now (writes .exit)) (now (stack .exit)) ⌝ }
 {
     if is_judged(facts[local], lost[local]) {
         let declaration = declaration_at(name_node, name_end, name_span, facts, local);
@@ -430,20 +433,20 @@ fn list_locals(
     name_node: &[u64],
     name_end: &[u64],
     name_span: &[u64],
-    facts: &[u16; 1024],
-    lost: &[u16; 1024],
-    starts: &[u16; 1601],
-    by_node: &[u16; 1024],
+    facts: &[u16],
+    lost: &[u16],
+    starts: &[u16],
+    by_node: &[u16],
     use_word: &[u64],
-    use_node: &[u16; 1024],
+    use_node: &[u16],
     use_span: &[u64],
-    head: &[u16; 1600],
-    next_a: &[u16; 1600],
-    next_b: &[u16; 1600],
-    used: &mut [u16; 1600],
-    reads: &mut [u16; 1600],
-    writes: &mut [u16; 1600],
-    stack: &mut [u16; 1600],
+    head: &[u16],
+    next_a: &[u16],
+    next_b: &[u16],
+    used: &mut [u16],
+    reads: &mut [u16],
+    writes: &mut [u16],
+    stack: &mut [u16],
     finding_word: &mut [u64],
     finding_span: &mut [u64],
     n: usize,
@@ -452,7 +455,7 @@ fn list_locals(
 ) -> usize
     requires { ⌜ ((S : List ℕ) × (U : List ℕ) × Pass S U n names (now first) (now second) (now start) (now «name_node») (now «name_end») (now «name_span») (now facts) (now lost) (now starts) (now «by_node») (now «use_word») (now «use_node») (now «use_span»)) ⌝ }
     requires { ⌜ Linked (take n (now first)) (take n (now second)) n n (now head) (now «next_a») (now «next_b») ⌝ }
-    requires { ⌜ Unmarked 1 (now used) (now reads) (now writes) ⌝ }
+    requires { ⌜ Unmarked 1 n (now used) (now reads) (now writes) (now stack) ⌝ }
     requires { ⌜ Room (names + length (now «use_word»)) before (now «finding_word») (now «finding_span») ⌝ }
     ensures { λ r. ⌜ ((S U : List ℕ) → Pass S U n names (now (first .entry)) (now (second .entry)) (now (start .entry)) (now («name_node» .entry)) (now («name_end» .entry)) (now («name_span» .entry)) (now (facts .entry)) (now (lost .entry)) (now (starts .entry)) (now («by_node» .entry)) (now («use_word» .entry)) (now («use_node» .entry)) (now («use_span» .entry)) → Added (ofEach (overwrittenOf S U) names) before (now («finding_word» .entry)) (now («finding_span» .entry)) r (now («finding_word» .exit)) (now («finding_span» .exit))) ⌝ }
 {
@@ -492,68 +495,6 @@ fn list_locals(
     count
 }
 
-// The overwritten values of all locals, over chains and marks that are made here.
-fn list_judged(
-    first: &[u64],
-    second: &[u64],
-    start: &[u64],
-    name_node: &[u64],
-    name_end: &[u64],
-    name_span: &[u64],
-    facts: &[u16; 1024],
-    lost: &[u16; 1024],
-    starts: &[u16; 1601],
-    by_node: &[u16; 1024],
-    use_word: &[u64],
-    use_node: &[u16; 1024],
-    use_span: &[u64],
-    finding_word: &mut [u64],
-    finding_span: &mut [u64],
-    n: usize,
-    names: usize,
-    before: usize,
-) -> usize
-    requires { ⌜ ((S : List ℕ) × (U : List ℕ) × Pass S U n names (now first) (now second) (now start) (now «name_node») (now «name_end») (now «name_span») (now facts) (now lost) (now starts) (now «by_node») (now «use_word») (now «use_node») (now «use_span»)) ⌝ }
-    requires { ⌜ Room (names + length (now «use_word»)) before (now «finding_word») (now «finding_span») ⌝ }
-    ensures { λ r. ⌜ ((S U : List ℕ) → Pass S U n names (now (first .entry)) (now (second .entry)) (now (start .entry)) (now («name_node» .entry)) (now («name_end» .entry)) (now («name_span» .entry)) (now (facts .entry)) (now (lost .entry)) (now (starts .entry)) (now («by_node» .entry)) (now («use_word» .entry)) (now («use_node» .entry)) (now («use_span» .entry)) → Added (ofEach (overwrittenOf S U) names) before (now («finding_word» .entry)) (now («finding_span» .entry)) r (now («finding_word» .exit)) (now («finding_span» .exit))) ⌝ }
-{
-    let mut head = [0u16; 1600];
-    let mut next_a = [0u16; 1600];
-    let mut next_b = [0u16; 1600];
-    build_predecessors(first, second, &mut head, &mut next_a, &mut next_b, n);
-    let mut used = [0u16; 1600];
-    let mut reads = [0u16; 1600];
-    let mut writes = [0u16; 1600];
-    let mut stack = [0u16; 1600];
-    list_locals(
-        first,
-        second,
-        start,
-        name_node,
-        name_end,
-        name_span,
-        facts,
-        lost,
-        starts,
-        by_node,
-        use_word,
-        use_node,
-        use_span,
-        &head,
-        &next_a,
-        &next_b,
-        &mut used,
-        &mut reads,
-        &mut writes,
-        &mut stack,
-        finding_word,
-        finding_span,
-        n,
-        names,
-        before,
-    )
-}
-
 // The overwritten values of all locals added to the findings: per local the initial value, then the writes by node, use order within a node. The result is the count of findings.
 pub fn list_overwritten(
     first: &[u64],
@@ -562,13 +503,20 @@ pub fn list_overwritten(
     name_node: &[u64],
     name_end: &[u64],
     name_span: &[u64],
-    facts: &[u16; 1024],
-    lost: &[u16; 1024],
-    starts: &[u16; 1601],
-    by_node: &[u16; 1024],
+    facts: &[u16],
+    lost: &[u16],
+    starts: &[u16],
+    by_node: &[u16],
     use_word: &[u64],
-    use_node: &[u16; 1024],
+    use_node: &[u16],
     use_span: &[u64],
+    head: &mut [u16],
+    next_a: &mut [u16],
+    next_b: &mut [u16],
+    used: &mut [u16],
+    reads: &mut [u16],
+    writes: &mut [u16],
+    stack: &mut [u16],
     finding_word: &mut [u64],
     finding_span: &mut [u64],
     n: usize,
@@ -576,11 +524,13 @@ pub fn list_overwritten(
     before: usize,
 ) -> usize
     requires { ⌜ ((S : List ℕ) × (U : List ℕ) × Pass S U n names (now first) (now second) (now start) (now «name_node») (now «name_end») (now «name_span») (now facts) (now lost) (now starts) (now «by_node») (now «use_word») (now «use_node») (now «use_span»)) ⌝ }
+    requires { ⌜ Lent n (now head) (now «next_a») (now «next_b») (now used) (now reads) (now writes) (now stack) ⌝ }
     requires { ⌜ Room (names + length (now «use_word»)) before (now «finding_word») (now «finding_span») ⌝ }
     ensures { λ r. ⌜ ((S U : List ℕ) → Pass S U n names (now (first .entry)) (now (second .entry)) (now (start .entry)) (now («name_node» .entry)) (now («name_end» .entry)) (now («name_span» .entry)) (now (facts .entry)) (now (lost .entry)) (now (starts .entry)) (now («by_node» .entry)) (now («use_word» .entry)) (now («use_node» .entry)) (now («use_span» .entry)) → Added (ofEach (overwrittenOf S U) names) before (now («finding_word» .entry)) (now («finding_span» .entry)) r (now («finding_word» .exit)) (now («finding_span» .exit))) ⌝ }
 {
     if any_judged(facts, lost, names) {
-        list_judged(
+        build_predecessors(first, second, head, next_a, next_b, n);
+        list_locals(
             first,
             second,
             start,
@@ -594,6 +544,13 @@ pub fn list_overwritten(
             use_word,
             use_node,
             use_span,
+            head,
+            next_a,
+            next_b,
+            used,
+            reads,
+            writes,
+            stack,
             finding_word,
             finding_span,
             n,

@@ -1,9 +1,10 @@
 -- What the code does with the graph's columns, in the graph's terms: the search from the entry gives `reachable`, the first code that ends past an offset gives `nodeAmong`, and a flag gives `canRun`.
 -- Assumes nothing.
-use Prim.Native.Nat.{ℕ, zero, suc, _<_, _≤_}
+use Prim.Native.Nat.{ℕ, zero, suc, _+_, _<_, _≤_}
 use mathlib.Core.Path.{_≡_, refl, sym, ap, _∙_}
 use mathlib.Core.List.{List, [], _∷_, _++_, tail}
 use native.Mathlib.Omega.{arith}
+use native.Mathlib.Decide.{ℕ-discrete}
 use native.Mathlib.Nat.{le-of-suc-le-suc, not-suc-le-zero}
 use borrow.Author.Tests.{lt-ltb, le-ltb}
 use lib.Dec.{ltb, eqb}
@@ -15,7 +16,7 @@ use Rattle.flow.specs.declared.Place.the-variants.{Node, Past}
 use Rattle.flow.specs.Sheet.{endOf}
 use Rattle.flow.specs.Graph.{Graph, nodeCount, entry}
 use Rattle.flow.specs.Reachable.{reachable, nodeAmong, canRun}
-use Rattle.reach.specs.Columns.{edges, FirstPast}
+use Rattle.reach.specs.Columns.{edges, Rising, FirstPast}
 
 -- ---- reachability
 
@@ -45,6 +46,10 @@ pub flags-first : (g : Graph) (m rest : List ℕ) → length (reachable g) ≡ n
 flags-first g m rest h e = rw e (take-at (reachable g) rest (nodeCount g) h)
 
 -- ---- the node of an offset
+
+-- what ends at or before an offset takes all before it along
+pub through : (codes : ℕ) (spans : List ℕ) (o m : ℕ) → Rising codes spans → m < codes → endOf (getD spans m 0) ≤ o → (i : ℕ) → i < m + 1 → endOf (getD spans i 0) ≤ o
+through codes spans o m r h e i l = elim (ℕ-discrete i m) [ yes p ↦ rw p e | no q ↦ omega (arith, r i m (omega arith) h) ]
 
 getD-tail : (l : List ℕ) (i : ℕ) → getD (tail l) i 0 ≡ getD l (suc i) 0
 getD-tail [] i = refl

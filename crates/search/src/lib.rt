@@ -57,15 +57,9 @@ pub fn sized(a: &[u16; 1600])
 }
 
 // v marked by a stamp and pushed, unless it is marked. The result is the stack's height.
-pub fn insert(
-    marks: &mut [u16; 1600],
-    stack: &mut [u16; 1600],
-    top: usize,
-    v: usize,
-    stamp: u16,
-) -> usize
-    requires { ⌜ v < 1600 ⌝ }
-    requires { ⌜ ((getD (now marks) v 0 ≡ stamp → ⊥) → top < 1600) ⌝ }
+pub fn insert(marks: &mut [u16], stack: &mut [u16], top: usize, v: usize, stamp: u16) -> usize
+    requires { ⌜ (v < length (now marks)) × (v < 65536) ⌝ }
+    requires { ⌜ ((getD (now marks) v 0 ≡ stamp → ⊥) → top < length (now stack)) ⌝ }
     ensures { λ r. ⌜ st (now (marks .exit)) (now (stack .exit)) r ≡ stampPush stamp v (st (now (marks .entry)) (now (stack .entry)) top) ⌝ }
 {
     if marks[v] == stamp {

@@ -20,15 +20,15 @@ use Rattle.unassigned.specs.Pass.{Pass}
 use Rattle.unassigned.proofs.Walks.{findings-are, first-own, only-own}
 
 module _ {S U : List ℕ} {n names : ℕ} {first second start nameNode nameEnd facts words spans nodes lost starts byLocal : List ℕ} (p : Pass S U n names first second start nameNode nameEnd facts words spans nodes lost starts byLocal) (ℓ : ℕ) (h : ℓ < names) where
-  pub local-cut : Cut ℓ starts
-  local-cut = own-cut S U n names words spans nodes lost (p .located) starts byLocal ℓ h (p .named .few) (p .parts)
+  pub local-cut : Cut ℓ starts byLocal
+  local-cut = own-cut S U n names words spans nodes lost (p .located) starts byLocal ℓ h (p .parts)
 
   pub local-placed : AllPlaced n (partAt ℓ starts byLocal) words nodes
   local-placed = mine-placed S U n names words spans nodes lost (p .located) starts byLocal ℓ h (p .parts)
 
   module _ (d : Declared) (t : Tells (localAt S ℓ) (allFound (usesOf S U ℓ)) d) where
     pub local-uses : OfLocal (d .captured) n (usesOf S U ℓ) (partAt ℓ starts byLocal) words nodes
-    local-uses = rw (t .captures) (mine-local S U n names words spans nodes lost (p .located) starts byLocal ℓ h (p .parts) (p .charted .few))
+    local-uses = rw (t .captures) (mine-local S U n names words spans nodes lost (p .located) starts byLocal ℓ h (p .parts))
 
     -- its first unassigned use
     found : List Use

@@ -34,11 +34,13 @@ marked-more {n} {ℓ} {old} {mid} {new} h m w = record {
 -- ---- the findings
 
 -- the locals below ℓ are passed, and `count` findings are listed, whatever the sheets
-pub record Going (n names : ℕ) (words₀ spans₀ mark₀ visited stack words spans mark : List ℕ) (count ℓ : ℕ) : Type 0 where
+pub record Going (n names : ℕ) (visited₀ stack₀ words₀ spans₀ mark₀ visited stack words spans mark : List ℕ) (count ℓ : ℕ) : Type 0 where
   pub within : ℓ ≤ names
   pub few : count ≤ ℓ
-  pub ready : Ready ℓ visited stack
+  pub ready : Ready n ℓ visited stack
   pub marked : Marked n ℓ mark₀ mark
+  pub visited-long : length visited ≡ length visited₀
+  pub stack-long : length stack ≡ length stack₀
   pub words-long : length words ≡ length words₀
   pub spans-long : length spans ≡ length spans₀
 

@@ -15,6 +15,7 @@ pub record Pass (S U : List ℕ) (n names : ℕ) (first second start nameNode na
   pub charted : Charted S n first second start
   pub named : Named S n names nameNode nameEnd
   pub known : Known S names facts
+  pub facts-long : names ≤ length facts
   pub located : Located S U n names words spans nodes lost
   pub parts : Parts (usesOf S U) (length (useWords U)) names starts byLocal
 
@@ -42,7 +43,7 @@ pub record Noted (n ℓ : ℕ) (old new : List ℕ) : Type 0 where
   pub few : figure ≤ n
   pub stored : new ≡ set old ℓ figure
 
--- marks and stack are ready for the walk of the local ℓ, whose stamp is ℓ + 1
-pub record Ready (ℓ : ℕ) (visited stack : List ℕ) : Type 0 where
-  pub fresh : Fresh (ℓ + 1) visited
-  pub long : length stack ≡ 1600
+-- marks and stack are ready for the walk of the local ℓ over n nodes. Its stamp is ℓ + 1.
+pub record Ready (n ℓ : ℕ) (visited stack : List ℕ) : Type 0 where
+  pub fresh : Fresh (ℓ + 1) n visited
+  pub long : n ≤ length stack

@@ -39,5 +39,5 @@ Finds g d us r = r .first ≡ codeOf (onlyIf (d .due) (firstEmptyRead (liveAfter
 pub record Leaves (stamp n uses : ℕ) (r : Walked) (visited stack : List ℕ) : Type 0 where
   pub few : r .nodes ≤ n
   pub within : r .first ≤ uses
-  pub fresh : Fresh (stamp + 1) visited
-  pub long : length stack ≡ 1600
+  pub fresh : Fresh (stamp + 1) n visited
+  pub long : n ≤ length stack

@@ -57,11 +57,11 @@ fn is_due(facts: u16, lost: u16) -> bool
 fn declared_at(
     name_node: &[u64],
     name_end: &[u64],
-    facts: &[u16; 1024],
-    lost: &[u16; 1024],
+    facts: &[u16],
+    lost: &[u16],
     local: usize,
 ) -> Declared
-    requires { ⌜ (local < 1024) × (local < length (now «name_node»)) × (local < length (now «name_end»)) ⌝ }
+    requires { ⌜ (local < length (now «name_node»)) × (local < length (now «name_end»)) × (local < length (now facts)) × (local < length (now lost)) ⌝ }
     ensures { λ r. ⌜ (r .node ≡ getD (now («name_node» .entry)) local 0) × (r .«scope_end» ≡ getD (now («name_end» .entry)) local 0) ⌝ }
     ensures { λ r. ⌜ ((l : Local) (found : Bool) → getD (now (facts .entry)) local 0 ≡ factsOf l → (getD (now (lost .entry)) local 0 ≡ 0) ↔ (found ≡ true) → Tells l found r) ⌝ }
 {
@@ -77,7 +77,6 @@ fn declared_at(
 // The number + 1 of the use at the place that was found.
 fn use_code(mine: &[u16], found: FirstUse) -> usize
     requires { ⌜ InFirst (length (now mine)) found ⌝ }
-    requires { ⌜ ((i : ℕ) → i < length (now mine) → getD (now mine) i 0 < 1024) ⌝ }
     ensures { λ r. ⌜ ((us : List Use) → map (λ u. u .number) us ≡ now (mine .entry) → r ≡ codeOf (chosen found us)) ⌝ }
     ensures { λ r. ⌜ ((m : ℕ) → ((i : ℕ) → i < length (now (mine .entry)) → getD (now (mine .entry)) i 0 < m) → r ≤ m) ⌝ }
 {
@@ -93,10 +92,10 @@ fn walk_local(
     second: &[u64],
     start: &[u64],
     use_word: &[u64],
-    use_node: &[u16; 1024],
+    use_node: &[u16],
     mine: &[u16],
-    visited: &mut [u16; 1600],
-    stack: &mut [u16; 1600],
+    visited: &mut [u16],
+    stack: &mut [u16],
     n: usize,
     node: usize,
     scope_end: u64,
@@ -105,7 +104,7 @@ fn walk_local(
 ) -> Walked
     requires { ⌜ Long n (now first) (now second) (now start) × (n ≤ 1600) ⌝ }
     requires { ⌜ AllPlaced n (now mine) (now «use_word») (now «use_node») ⌝ }
-    requires { ⌜ Fresh stamp (now visited) × (length (now stack) ≡ 1600) ⌝ }
+    requires { ⌜ Fresh stamp n (now visited) × (n ≤ length (now stack)) ⌝ }
     ensures { λ r. ⌜ ((g : Graph) (us : List Use) → Charts g n (now (first .entry)) (now (second .entry)) (now (start .entry)) → OfLocal captured n us (now (mine .entry)) (now («use_word» .entry)) (now («use_node» .entry)) → map (λ u. u .number) us ≡ now (mine .entry) → r .first ≡ codeOf (firstEmptyRead (liveAfterWrites g (declared node «scope_end») us) [] us)) ⌝ }
     ensures { λ r. ⌜ Leaves stamp n (length (now («use_word» .entry))) r (now (visited .exit)) (now (stack .exit)) ⌝ }
 {
@@ -136,19 +135,19 @@ fn walk_if_due(
     second: &[u64],
     start: &[u64],
     use_word: &[u64],
-    use_node: &[u16; 1024],
-    starts: &[u16; 1601],
-    by_local: &[u16; 1024],
-    visited: &mut [u16; 1600],
-    stack: &mut [u16; 1600],
+    use_node: &[u16],
+    starts: &[u16],
+    by_local: &[u16],
+    visited: &mut [u16],
+    stack: &mut [u16],
     n: usize,
     local: usize,
     declaration: Declared,
 ) -> Walked
     requires { ⌜ Long n (now first) (now second) (now start) × (n ≤ 1600) ⌝ }
-    requires { ⌜ Cut local (now starts) ⌝ }
+    requires { ⌜ Cut local (now starts) (now «by_local») × (local < 1024) ⌝ }
     requires { ⌜ AllPlaced n (partAt local (now starts) (now «by_local»)) (now «use_word») (now «use_node») ⌝ }
-    requires { ⌜ Fresh (local + 1) (now visited) × (length (now stack) ≡ 1600) ⌝ }
+    requires { ⌜ Fresh (local + 1) n (now visited) × (n ≤ length (now stack)) ⌝ }
     ensures { λ r. ⌜ ((g : Graph) (us : List Use) → Charts g n (now (first .entry)) (now (second .entry)) (now (start .entry)) → OfLocal (declaration .captured) n us (partAt local (now (starts .entry)) (now («by_local» .entry))) (now («use_word» .entry)) (now («use_node» .entry)) → map (λ u. u .number) us ≡ partAt local (now (starts .entry)) (now («by_local» .entry)) → Finds g declaration us r) ⌝ }
     ensures { λ r. ⌜ Leaves (local + 1) n (length (now («use_word» .entry))) r (now (visited .exit)) (now (stack .exit)) ⌝ }
 {
@@ -212,15 +211,15 @@ fn list_local(
     start: &[u64],
     name_node: &[u64],
     name_end: &[u64],
-    facts: &[u16; 1024],
+    facts: &[u16],
     use_word: &[u64],
     use_span: &[u64],
-    use_node: &[u16; 1024],
-    lost: &[u16; 1024],
-    starts: &[u16; 1601],
-    by_local: &[u16; 1024],
-    visited: &mut [u16; 1600],
-    stack: &mut [u16; 1600],
+    use_node: &[u16],
+    lost: &[u16],
+    starts: &[u16],
+    by_local: &[u16],
+    visited: &mut [u16],
+    stack: &mut [u16],
     finding_word: &mut [u64],
     finding_span: &mut [u64],
     mark: &mut [u64],
@@ -229,10 +228,10 @@ fn list_local(
     local: usize,
 ) -> usize
     requires { ⌜ JudgesLocal n local (now first) (now second) (now start) (now «name_node») (now «name_end») (now facts) (now «use_word») (now «use_span») (now «use_node») (now lost) (now starts) (now «by_local») ⌝ }
-    requires { ⌜ Ready local (now visited) (now stack) × (local < length (now mark)) ⌝ }
+    requires { ⌜ Ready n local (now visited) (now stack) × (local < length (now mark)) ⌝ }
     requires { ⌜ Room 1 count (now «finding_word») (now «finding_span») ⌝ }
     ensures { λ r. ⌜ ((S U : List ℕ) (names : ℕ) → local < names → Pass S U n names (now (first .entry)) (now (second .entry)) (now (start .entry)) (now («name_node» .entry)) (now («name_end» .entry)) (now (facts .entry)) (now («use_word» .entry)) (now («use_span» .entry)) (now («use_node» .entry)) (now (lost .entry)) (now (starts .entry)) (now («by_local» .entry)) → Added (unassignedOf S U local) count (now («finding_word» .entry)) (now («finding_span» .entry)) r (now («finding_word» .exit)) (now («finding_span» .exit))) ⌝ }
-    ensures { λ r. ⌜ Ready (local + 1) (now (visited .exit)) (now (stack .exit)) × Noted n local (now (mark .entry)) (now (mark .exit)) ⌝ }
+    ensures { λ r. ⌜ Ready n (local + 1) (now (visited .exit)) (now (stack .exit)) × Noted n local (now (mark .entry)) (now (mark .exit)) ⌝ }
 {
     let declaration = declared_at(name_node, name_end, facts, lost, local);
     let walked = walk_if_due(
@@ -268,15 +267,15 @@ pub fn list_unassigned(
     start: &[u64],
     name_node: &[u64],
     name_end: &[u64],
-    facts: &[u16; 1024],
+    facts: &[u16],
     use_word: &[u64],
     use_span: &[u64],
-    use_node: &[u16; 1024],
-    lost: &[u16; 1024],
-    starts: &[u16; 1601],
-    by_local: &[u16; 1024],
-    visited: &mut [u16; 1600],
-    stack: &mut [u16; 1600],
+    use_node: &[u16],
+    lost: &[u16],
+    starts: &[u16],
+    by_local: &[u16],
+    visited: &mut [u16],
+    stack: &mut [u16],
     finding_word: &mut [u64],
     finding_span: &mut [u64],
     mark: &mut [u64],
@@ -284,10 +283,10 @@ pub fn list_unassigned(
     names: usize,
 ) -> usize
     requires { ⌜ Judges n names (now first) (now second) (now start) (now «name_node») (now «name_end») (now facts) (now «use_word») (now «use_span») (now «use_node») (now lost) (now starts) (now «by_local») ⌝ }
-    requires { ⌜ Ready 0 (now visited) (now stack) × (names ≤ length (now mark)) ⌝ }
+    requires { ⌜ Ready n 0 (now visited) (now stack) × (names ≤ length (now mark)) ⌝ }
     requires { ⌜ Room names 0 (now «finding_word») (now «finding_span») ⌝ }
     ensures { λ r. ⌜ ((S U : List ℕ) → Pass S U n names (now (first .entry)) (now (second .entry)) (now (start .entry)) (now («name_node» .entry)) (now («name_end» .entry)) (now (facts .entry)) (now («use_word» .entry)) (now («use_span» .entry)) (now («use_node» .entry)) (now (lost .entry)) (now (starts .entry)) (now («by_local» .entry)) → Added (ofEach (unassignedOf S U) names) 0 (now («finding_word» .entry)) (now («finding_span» .entry)) r (now («finding_word» .exit)) (now («finding_span» .exit))) ⌝ }
-    ensures { λ r. ⌜ (r ≤ names) × Marked n names (now (mark .entry)) (now (mark .exit)) × Ready names (now (visited .exit)) (now (stack .exit)) ⌝ }
+    ensures { λ r. ⌜ (r ≤ names) × Marked n names (now (mark .entry)) (now (mark .exit)) × Ready n names (now (visited .exit)) (now (stack .exit)) ⌝ }
 {
     let mut count = 0;
     let mut local = 0;

@@ -17,20 +17,26 @@ is-write-requires c κs = search needs
 mul-wide : tie.Need-mul-wide
 mul-wide c = search needs
 
-element-copy-out-wide : tie.Need-element-copy-out-wide
-element-copy-out-wide c = search needs
+shared-slice-read-wide : tie.Need-shared-slice-read-wide
+shared-slice-read-wide c = search needs
 
 wide-requires : tie.Need-wide-requires
 wide-requires c κs = search needs
 
 expand-requires : tie.Need-expand-requires
-expand-requires c κs = (c .before .before .before .before .before .before .before .before .before .before .before .pre .0, (c .before .before .before .before .before .before .before .before .before .before .before .pre .1 .0, rw (c .before .before .wide .ensures) (c .before .before .before .before .before .before .before .before .before .before .before .pre .1 .1 .placed)))
+expand-requires c κs = (c .before .before .before .before .before .before .before .before .before .before .before .before .before .before .pre .0, (c .before .before .before .before .before .before .before .before .before .before .before .before .before .before .pre .1 .0, rw (c .before .before .wide .ensures) (c .before .before .before .before .before .before .before .before .before .before .before .before .before .before .pre .1 .1 .placed)))
+
+same-length : tie.Need-same-length
+same-length c = search needs
+
+same-length-2 : tie.Need-same-length-2
+same-length-2 c = search needs
 
 returns : tie.Need-returns
-returns c = simp (sym (c .before .before .before .before .before .before .is-write .ensures) ∙ c .before .before .before .before .before .if1 .taken) (rw (c .before .before .before .wide .ensures) at (c .expand .ensures))
+returns c = simp (sym (c .before .before .before .before .before .before .before .before .before .before .is-write .ensures) ∙ c .before .before .before .before .before .before .before .before .before .if1 .taken) (rw (c .before .before .before .before .before .before .before .wide .ensures) at (c .before .before .before .before .expand .ensures))
 
 returns-2 : tie.Need-returns-2
-returns-2 c = simp (sym (c .before .is-write .ensures) ∙ c .if1 .left) (record { state = refl; fresh = c .before .before .before .before .before .before .before .pre .0 .fresh })
+returns-2 c = simp (sym (c .before .is-write .ensures) ∙ c .if1 .left) (record { state = refl; fresh = c .before .before .before .before .before .before .before .before .before .before .pre .0 .fresh })
 
 pub expand-write-spec : {M : Type 1} → statement M
 expand-write-spec =
@@ -40,8 +46,10 @@ expand-write-spec =
     shared-slice-read-is-write
     is-write-requires
     mul-wide
-    element-copy-out-wide
+    shared-slice-read-wide
     wide-requires
     expand-requires
+    same-length
+    same-length-2
     returns
     returns-2)

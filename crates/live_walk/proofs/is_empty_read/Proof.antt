@@ -29,8 +29,8 @@ is-in-closure-requires c κs = search needs
 mul-wide : tie.Need-mul-wide
 mul-wide c = search needs
 
-element-copy-out-wide : tie.Need-element-copy-out-wide
-element-copy-out-wide c = search needs
+shared-slice-read-wide : tie.Need-shared-slice-read-wide
+shared-slice-read-wide c = search needs
 
 wide-requires : tie.Need-wide-requires
 wide-requires c κs = search needs
@@ -38,24 +38,24 @@ wide-requires c κs = search needs
 mul-result : tie.Need-mul-result
 mul-result c = search needs
 
-element-copy-out-result : tie.Need-element-copy-out-result
-element-copy-out-result c = search needs
+shared-slice-read-result : tie.Need-shared-slice-read-result
+shared-slice-read-result c = search needs
 
 abbrev asked : tie.Start → Use
 asked c = useAt (c .args .captured) (now (c .args .use-word)) (now (c .args .use-node)) (c .args .k)
 
 returns : tie.Need-returns
-returns c n few h =
-    sym (empty-when (c .before .before .before .before .before .before .args .stamp) n (now (c .before .before .before .before .before .before .args .visited)) (asked (c .before .before .before .before .before .before)) (omega (arith, c .before .before .before .before .before .before .pre .1)) h true true (sym (c .before .before .before .is-read .ensures) ∙ c .before .before .if1 .taken) (sym (c .before .is-in-closure .ensures) ∙ c .if2 .taken))
+returns c n h =
+    sym (empty-when (c .before .before .before .before .before .before .before .before .args .stamp) n (now (c .before .before .before .before .before .before .before .before .args .visited)) (asked (c .before .before .before .before .before .before .before .before)) (c .before .before .before .before .before .before .before .before .pre .placed) h true true (sym (c .before .before .before .is-read .ensures) ∙ c .before .before .if1 .taken) (sym (c .before .is-in-closure .ensures) ∙ c .if2 .taken))
 
 returns-2 : tie.Need-returns-2
-returns-2 c n few h =
-    ap (λ (v : ℕ). not (eqb (getD (now (c .before .before .before .before .before .before .before .before .before .args .visited)) v 0) (c .before .before .before .before .before .before .before .before .before .args .stamp))) (c .before .wide .ensures)
-    ∙ sym (empty-when (c .before .before .before .before .before .before .before .before .before .args .stamp) n (now (c .before .before .before .before .before .before .before .before .before .args .visited)) (asked (c .before .before .before .before .before .before .before .before .before)) (omega (arith, c .before .before .before .before .before .before .before .before .before .pre .1)) h true false (sym (c .before .before .before .before .before .before .is-read .ensures) ∙ c .before .before .before .before .before .if1 .taken) (sym (c .before .before .before .before .is-in-closure .ensures) ∙ c .before .before .before .if2 .left))
+returns-2 c n h =
+    ap (λ (v : ℕ). not (eqb (getD (now (c .before .before .before .before .before .before .before .before .before .before .before .args .visited)) v 0) (c .before .before .before .before .before .before .before .before .before .before .before .args .stamp))) (c .before .wide .ensures)
+    ∙ sym (empty-when (c .before .before .before .before .before .before .before .before .before .before .before .args .stamp) n (now (c .before .before .before .before .before .before .before .before .before .before .before .args .visited)) (asked (c .before .before .before .before .before .before .before .before .before .before .before)) (c .before .before .before .before .before .before .before .before .before .before .before .pre .placed) h true false (sym (c .before .before .before .before .before .before .is-read .ensures) ∙ c .before .before .before .before .before .if1 .taken) (sym (c .before .before .before .before .is-in-closure .ensures) ∙ c .before .before .before .if2 .left))
 
 returns-3 : tie.Need-returns-3
-returns-3 c n few h =
-    sym (empty-when (c .before .before .before .before .args .stamp) n (now (c .before .before .before .before .args .visited)) (asked (c .before .before .before .before)) (omega (arith, c .before .before .before .before .pre .1)) h false _ (sym (c .before .is-read .ensures) ∙ c .if1 .left) refl)
+returns-3 c n h =
+    sym (empty-when (c .before .before .before .before .before .before .args .stamp) n (now (c .before .before .before .before .before .before .args .visited)) (asked (c .before .before .before .before .before .before)) (c .before .before .before .before .before .before .pre .placed) h false _ (sym (c .before .is-read .ensures) ∙ c .if1 .left) refl)
 
 pub is-empty-read-spec : {M : Type 1} → statement M
 is-empty-read-spec =
@@ -66,10 +66,10 @@ is-empty-read-spec =
     is-read-requires
     is-in-closure-requires
     mul-wide
-    element-copy-out-wide
+    shared-slice-read-wide
     wide-requires
     mul-result
-    element-copy-out-result
+    shared-slice-read-result
     returns
     returns-2
     returns-3)

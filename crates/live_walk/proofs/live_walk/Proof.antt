@@ -1,9 +1,10 @@
 -- `live_walk::live_walk` meets its contract: the law of a search with stamps, from after the writes.
 -- Assumes nothing.
-use mathlib.Core.Path.{_∙_}
+use mathlib.Core.Path.{_≡_, refl, _∙_}
 use native.Mathlib.Omega.{arith}
 use borrow.Author.Needs.{needs}
 use denote.Ref.{now}
+use lib.ListN.{length}
 use Rattle.search.proofs.Worklist.{Search, measure}
 use Rattle.live_walk.specs.Stamps.{view}
 use Rattle.live_walk.specs.Walk.{declared, usesAt}
@@ -15,7 +16,7 @@ use Rattle.live_walk.proofs.live_walk.Tie as tie
 
 abbrev Inv-loop : tie.InvT-loop
 Inv-loop first second start use-word use-node mine visited₀ stack₀ n node scope-end stamp top₀ count₀ visited stack top count =
-    Walking (fromWrites n first second start (declared node scope-end) (usesAt use-word use-node mine)) stamp visited stack top count
+    (length visited ≡ length visited₀) × (length stack ≡ length stack₀) × Walking (fromWrites n first second start (declared node scope-end) (usesAt use-word use-node mine)) stamp visited stack top count
 
 abbrev μ-loop : tie.MeasureT-loop
 μ-loop first second start use-word use-node mine visited₀ stack₀ n node scope-end stamp top₀ count₀ visited stack top count =
@@ -28,50 +29,60 @@ walk c =
 
 seed-requires : tie.Need-seed-requires Inv-loop μ-loop
 seed-requires c κs =
-    let a = c .before .before .before .before .before .before .before .args in
-    let p = c .before .before .before .before .before .before .before .pre in
+    let a = c .before .before .before .before .before .before .before .before .before .before .args in
+    let p = c .before .before .before .before .before .before .before .before .before .before .pre in
     (fresh-ready (a .stamp) (a .n) (now (a .visited)) (now (a .stack)) (p .1 .1 .0) (p .0 .1) (p .1 .1 .1), (p .0 .0, p .1 .0))
 
 loop-holds : tie.Need-loop-holds Inv-loop μ-loop
 loop-holds c =
-    let a = c .before .before .before .before .before .before .before .before .args in
-    let p = c .before .before .before .before .before .before .before .before .pre in
-    let l = c .seed .last .1 .1 .1 .1 .1 .1 in
-    walking-begins (walk (c .before .before .before .before .before .before .before .before)) (a .stamp) (now (a .visited)) (now (a .stack)) (l .0) (l .1 .0) (c .seed .result) (p .0 .1) (p .1 .1 .0) (p .1 .1 .1) (c .seed .ensures)
+    let a = c .before .before .before .before .before .before .before .before .before .before .before .before .before .before .before .args in
+    let p = c .before .before .before .before .before .before .before .before .before .before .before .before .before .before .before .pre in
+    let l = c .before .before .before .before .seed .last .1 .1 .1 .1 .1 .1 in
+    (refl, refl, walking-begins (walk (c .before .before .before .before .before .before .before .before .before .before .before .before .before .before .before)) (a .stamp) (now (a .visited)) (now (a .stack)) (l .0) (l .1 .0) (c .before .before .before .before .seed .result) (p .0 .1) (p .1 .1 .0) (p .1 .1 .1) (c .before .before .before .before .seed .ensures))
 
 sub-top : tie.Need-sub-top Inv-loop μ-loop
 sub-top c = omega arith
 
 mul-wide : tie.Need-mul-wide Inv-loop μ-loop
-mul-wide c = omega (arith, c .before .loop .inv .few, c .before .loop .inv .counted)
+mul-wide c = omega (arith, c .before .loop .inv .2 .few, c .before .loop .inv .2 .counted)
 
-element-copy-out-wide : tie.Need-element-copy-out-wide Inv-loop μ-loop
-element-copy-out-wide c = omega (arith, c .before .loop .inv .few, c .before .loop .inv .counted, c .loop-test .taken)
+slice-read-wide : tie.Need-slice-read-wide Inv-loop μ-loop
+slice-read-wide c = omega (arith, c .before .before .loop .inv .2 .long, c .before .before .loop .inv .2 .counted, c .before .loop-test .taken)
 
 wide-requires : tie.Need-wide-requires Inv-loop μ-loop
 wide-requires c κs = search needs
 
 expand-requires : tie.Need-expand-requires Inv-loop μ-loop
 expand-requires c κs =
-    let g = walk (c .before .before .before .before .before .before .before .before .before .before .before .before .before .before) in
-    let s = c .before .before .before .before .before .before .before .before .before .before .before .before .before .before .args .stamp in
-    (walking-ready g s (c .before .before .before .before .before .loop .inv) (c .before .before .before .before .loop-test .taken), (c .before .before .before .before .before .before .before .before .before .before .before .before .before .before .pre .0 .0, rw (c .before .before .wide .ensures) (walking-node g s (c .before .before .before .before .before .loop .inv) (c .before .before .before .before .loop-test .taken))))
+    let g = walk (c .before .before .before .before .before .before .before .before .before .before .before .before .before .before .before .before .before .before .before .before .before) in
+    let s = c .before .before .before .before .before .before .before .before .before .before .before .before .before .before .before .before .before .before .before .before .before .args .stamp in
+    (walking-ready g s (c .before .before .before .before .before .loop .inv .2) (c .before .before .before .before .loop-test .taken), (c .before .before .before .before .before .before .before .before .before .before .before .before .before .before .before .before .before .before .before .before .before .pre .0 .0, rw (c .before .before .wide .ensures) (walking-node g s (c .before .before .before .before .before .loop .inv .2) (c .before .before .before .before .loop-test .taken))))
 
 add-count : tie.Need-add-count Inv-loop μ-loop
-add-count c = omega (arith, c .before .before .before .before .before .before .loop .inv .few, c .before .before .before .before .before .before .loop .inv .counted)
+add-count c = omega (arith, c .before .before .before .before .before .before .before .before .before .before .loop .inv .2 .few, c .before .before .before .before .before .before .before .before .before .before .loop .inv .2 .counted)
 
 loop-less : tie.Need-loop-less Inv-loop μ-loop
-loop-less c = walking-less (walk (c .before .before .before .before .before .before .before .before .before .before .before .before .before .before .before)) (c .before .before .before .before .before .before .before .before .before .before .before .before .before .before .before .args .stamp) (c .before .before .before .before .before .before .loop .inv) (c .before .before .before .before .before .loop-test .taken) (rw (c .before .before .before .wide .ensures) at (c .expand .ensures))
+loop-less c = walking-less (walk (c .before .before .before .before .before .before .before .before .before .before .before .before .before .before .before .before .before .before .before .before .before .before .before .before .before .before)) (c .before .before .before .before .before .before .before .before .before .before .before .before .before .before .before .before .before .before .before .before .before .before .before .before .before .before .args .stamp) (c .before .before .before .before .before .before .before .before .before .before .loop .inv .2) (c .before .before .before .before .before .before .before .before .before .loop-test .taken) (rw (c .before .before .before .before .before .before .before .wide .ensures) at (c .before .before .before .before .expand .ensures))
 
 loop-again : tie.Need-loop-again Inv-loop μ-loop
-loop-again c = walking-on (walk (c .before .before .before .before .before .before .before .before .before .before .before .before .before .before .before)) (c .before .before .before .before .before .before .before .before .before .before .before .before .before .before .before .args .stamp) (c .before .before .before .before .before .before .loop .inv) (c .before .before .before .before .before .loop-test .taken) (rw (c .before .before .before .wide .ensures) at (c .expand .ensures))
+loop-again c = (
+  c .before .before .before .before .expand .kept .1 .1 .1 .0 ∙ c .before .before .before .before .before .before .before .before .before .before .loop .inv .0,
+  c .before .before .before .before .expand .kept .1 .1 .1 .1 .0 ∙ c .before .before .before .before .before .before .before .before .before .before .loop .inv .1,
+  walking-on (walk (c .before .before .before .before .before .before .before .before .before .before .before .before .before .before .before .before .before .before .before .before .before .before .before .before .before .before)) (c .before .before .before .before .before .before .before .before .before .before .before .before .before .before .before .before .before .before .before .before .before .before .before .before .before .before .args .stamp) (c .before .before .before .before .before .before .before .before .before .before .loop .inv .2) (c .before .before .before .before .before .before .before .before .before .loop-test .taken) (rw (c .before .before .before .before .before .before .before .wide .ensures) at (c .before .before .before .before .expand .ensures)),
+)
+
+same-length : tie.Need-same-length Inv-loop μ-loop
+same-length c = c .before .loop .inv .0 ∙ c .before .before .before .before .before .before .seed .kept .1 .1 .1 .1 .1 .1 .0
+
+same-length-2 : tie.Need-same-length-2 Inv-loop μ-loop
+same-length-2 c = c .before .loop .inv .1 ∙ c .before .before .before .before .before .before .seed .kept .1 .1 .1 .1 .1 .1 .1 .0
 
 returns : tie.Need-returns Inv-loop μ-loop
 returns c =
-    let a = c .before .before .before .before .before .before .before .before .before .before .args in
-    let w = c .before .loop .inv in
-    let g = walk (c .before .before .before .before .before .before .before .before .before .before) in (
-      λ f h us s. walking-ends g (a .stamp) w (omega arith) ∙ walked-is f (declared (a .node) (a .scope-end)) (a .n) (now (a .first)) (now (a .second)) (now (a .start)) (now (a .use-word)) (now (a .use-node)) (now (a .mine)) us (c .before .before .before .before .before .before .before .before .before .before .pre .0 .0 .firsts) h s,
+    let a = c .before .before .before .before .before .before .before .before .before .before .before .before .before .before .before .before .before .args in
+    let w = c .before .loop .inv .2 in
+    let g = walk (c .before .before .before .before .before .before .before .before .before .before .before .before .before .before .before .before .before) in (
+      λ f h us s. walking-ends g (a .stamp) w (omega arith) ∙ walked-is f (declared (a .node) (a .scope-end)) (a .n) (now (a .first)) (now (a .second)) (now (a .start)) (now (a .use-word)) (now (a .use-node)) (now (a .mine)) us (c .before .before .before .before .before .before .before .before .before .before .before .before .before .before .before .before .before .pre .0 .0 .firsts) h s,
       ((w .fresh, w .long), walking-count g (a .stamp) w (omega arith)),
     )
 
@@ -85,10 +96,12 @@ live-walk-spec =
     loop-holds
     sub-top
     mul-wide
-    element-copy-out-wide
+    slice-read-wide
     wide-requires
     expand-requires
     add-count
     loop-less
     loop-again
+    same-length
+    same-length-2
     returns)

@@ -17,8 +17,8 @@ is-write-requires c κs = search needs
 mul-wide : tie.Need-mul-wide
 mul-wide c = search needs
 
-element-copy-out-wide : tie.Need-element-copy-out-wide
-element-copy-out-wide c = search needs
+shared-slice-read-wide : tie.Need-shared-slice-read-wide
+shared-slice-read-wide c = search needs
 
 wide-requires : tie.Need-wide-requires
 wide-requires c κs = search needs
@@ -26,8 +26,11 @@ wide-requires c κs = search needs
 mul-visited : tie.Need-mul-visited
 mul-visited c = search needs
 
-element-write-visited : tie.Need-element-write-visited
-element-write-visited c = search needs
+slice-write-visited : tie.Need-slice-write-visited
+slice-write-visited c = search needs
+
+same-length : tie.Need-same-length
+same-length c = search needs
 
 returns : tie.Need-returns
 returns c = simp (sym (c .before .before .before .is-write .ensures) ∙ c .before .before .if1 .taken, c .wide .ensures)
@@ -43,9 +46,10 @@ mark-write-spec =
     shared-slice-read-is-write
     is-write-requires
     mul-wide
-    element-copy-out-wide
+    shared-slice-read-wide
     wide-requires
     mul-visited
-    element-write-visited
+    slice-write-visited
+    same-length
     returns
     returns-2)

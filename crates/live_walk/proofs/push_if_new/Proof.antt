@@ -10,14 +10,14 @@ use Rattle.live_walk.proofs.push_if_new.Tie as tie
 mul-if1 : tie.Need-mul-if1
 mul-if1 c = search needs
 
-element-copy-out-if1 : tie.Need-element-copy-out-if1
-element-copy-out-if1 c = search needs
+slice-read-if1 : tie.Need-slice-read-if1
+slice-read-if1 c = search needs
 
 mul-visited : tie.Need-mul-visited
 mul-visited c = search needs
 
-element-write-visited : tie.Need-element-write-visited
-element-write-visited c = search needs
+slice-write-visited : tie.Need-slice-write-visited
+slice-write-visited c = search needs
 
 cast-stack : tie.Need-cast-stack
 cast-stack c = search needs
@@ -25,8 +25,8 @@ cast-stack c = search needs
 mul-stack : tie.Need-mul-stack
 mul-stack c = search needs
 
-element-write-stack : tie.Need-element-write-stack
-element-write-stack c =
+slice-write-stack : tie.Need-slice-write-stack
+slice-write-stack c =
     let a = c .before .before .args in
     omega (arith, top-in (a .stamp) (a .n) (a .v) (a .top) (now (a .visited)) (now (a .stack)) (c .before .before .pre .0) (c .before .before .pre .1) (c .if1 .left))
 
@@ -38,6 +38,12 @@ returns c =
     let a = c .before .before .args in
     push-marked (a .stamp) (a .n) (a .v) (a .top) (now (a .visited)) (now (a .stack)) (c .before .before .pre .0) (c .before .before .pre .1) (c .if1 .taken)
 
+same-length : tie.Need-same-length
+same-length c = search needs
+
+same-length-2 : tie.Need-same-length-2
+same-length-2 c = search needs
+
 returns-2 : tie.Need-returns-2
 returns-2 c =
     let a = c .before .before .args in
@@ -48,12 +54,14 @@ push-if-new-spec =
     tie.close
     (tie.spec
     mul-if1
-    element-copy-out-if1
+    slice-read-if1
     mul-visited
-    element-write-visited
+    slice-write-visited
     cast-stack
     mul-stack
-    element-write-stack
+    slice-write-stack
     add-result
     returns
+    same-length
+    same-length-2
     returns-2)

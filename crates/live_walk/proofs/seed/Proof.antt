@@ -22,14 +22,14 @@ abbrev Inv-loop : tie.InvT-loop
 Inv-loop first second start use-word use-node mine visited₀ stack₀ n node scope-end stamp top₀ i₀ visited stack top i =
     let g = chart n first second start in
     let d = declared node scope-end in
-    Ready stamp n visited stack top × (pushAll (seeds g d use-word use-node mine i) (view stamp n visited stack top) ≡ pushAll (seeds g d use-word use-node mine 0) (view stamp n visited₀ stack₀ 0))
+    (length visited ≡ length visited₀) × (length stack ≡ length stack₀) × Ready stamp n visited stack top × (pushAll (seeds g d use-word use-node mine i) (view stamp n visited stack top) ≡ pushAll (seeds g d use-word use-node mine 0) (view stamp n visited₀ stack₀ 0))
 
 abbrev μ-loop : tie.MeasureT-loop
 μ-loop first second start use-word use-node mine visited₀ stack₀ n node scope-end stamp top₀ i₀ visited stack top i =
     length mine - i
 
 loop-holds : tie.Need-loop-holds Inv-loop μ-loop
-loop-holds c = (c .before .before .before .before .before .pre .0, refl)
+loop-holds c = (refl, refl, c .before .before .before .before .before .before .before .before .pre .0, refl)
 
 mul-wide : tie.Need-mul-wide Inv-loop μ-loop
 mul-wide c = omega arith
@@ -41,12 +41,12 @@ wide-requires : tie.Need-wide-requires Inv-loop μ-loop
 wide-requires c κs = search needs
 
 expand-write-requires : tie.Need-expand-write-requires Inv-loop μ-loop
-expand-write-requires c κs = (c .before .before .before .before .before .loop .inv .0, (c .before .before .before .before .before .before .before .before .before .before .before .pre .1 .0, rw (c .before .before .wide .ensures) (c .before .before .before .before .before .before .before .before .before .before .before .pre .1 .1 (c .before .before .before .before .before .loop .i) (c .before .before .before .before .loop-test .taken))))
+expand-write-requires c κs = (c .before .before .before .before .before .loop .inv .2, (c .before .before .before .before .before .before .before .before .before .before .before .before .before .before .pre .1 .0, rw (c .before .before .wide .ensures) (c .before .before .before .before .before .before .before .before .before .before .before .before .before .before .pre .1 .1 (c .before .before .before .before .before .loop .i) (c .before .before .before .before .loop-test .taken))))
 
 -- ---- after a turn
 
 abbrev entered : tie.At-loop Inv-loop μ-loop → tie.Start Inv-loop μ-loop
-entered c = c .before .before .before .before .before .before
+entered c = c .before .before .before .before .before .before .before .before .before
 
 abbrev here : tie.At-loop Inv-loop μ-loop → State
 here c = view (entered c .args .stamp) (entered c .args .n) (c .loop .visited) (c .loop .stack) (c .loop .top)
@@ -77,19 +77,28 @@ leaves : (c : tie.After-expand-write Inv-loop μ-loop) → Leaves (entered (turn
 leaves c = rw (c .before .before .before .wide .ensures) at (c .expand-write .ensures)
 
 add-i : tie.Need-add-i Inv-loop μ-loop
-add-i c = omega (arith, c .before .before .before .before .before .loop-test .taken, c .before .before .before .before .before .before .before .before .before .before .before .before .good .1 .1 .1 .1 .1 .0)
+add-i c = omega (arith, c .before .before .before .before .before .before .before .before .before .loop-test .taken, c .before .before .before .before .before .before .before .before .before .before .before .before .before .before .before .before .before .before .before .good .1 .1 .1 .1 .1 .0)
 
 loop-less : tie.Need-loop-less Inv-loop μ-loop
-loop-less c = omega (arith, c .before .before .before .before .before .loop-test .taken)
+loop-less c = omega (arith, c .before .before .before .before .before .before .before .before .before .loop-test .taken)
 
 loop-again : tie.Need-loop-again Inv-loop μ-loop
 loop-again c =
-    let t = turned c in
+    let m = c .before .before .before .before in
+    let t = turned m in
     let e = entered t in
     let a = e .args in (
-      still-ready (t .loop .inv .0) (all-moved (a .n) (more t) (here t) (only-nodes (a .n) (now (a .first)) (now (a .second)) (now (a .start)) (decl e) (isWrite (used t)) (node (used t))) (t .loop .inv .0 .room)) (leaves c),
-      seed-step (graph e) (decl e) (now (a .use-word)) (now (a .use-node)) (now (a .mine)) (t .loop .i) (here t) (c .before .before .before .before .before .loop-test .taken) (after c) (leaves c .state) ∙ t .loop .inv .1,
+      c .before .before .before .before .expand-write .kept .1 .1 .1 .1 .1 .0 ∙ t .loop .inv .0,
+      c .before .before .before .before .expand-write .kept .1 .1 .1 .1 .1 .1 .0 ∙ t .loop .inv .1,
+      still-ready (t .loop .inv .2) (all-moved (a .n) (more t) (here t) (only-nodes (a .n) (now (a .first)) (now (a .second)) (now (a .start)) (decl e) (isWrite (used t)) (node (used t))) (t .loop .inv .2 .room)) (leaves m),
+      seed-step (graph e) (decl e) (now (a .use-word)) (now (a .use-node)) (now (a .mine)) (t .loop .i) (here t) (c .before .before .before .before .before .before .before .before .before .loop-test .taken) (after m) (leaves m .state) ∙ t .loop .inv .3,
     )
+
+same-length : tie.Need-same-length Inv-loop μ-loop
+same-length c = c .before .loop .inv .0
+
+same-length-2 : tie.Need-same-length-2 Inv-loop μ-loop
+same-length-2 c = c .before .loop .inv .1
 
 returns : tie.Need-returns Inv-loop μ-loop
 returns c =
@@ -97,8 +106,8 @@ returns c =
     let e = entered t in
     let a = e .args in
     record {
-      state = seed-done (graph e) (decl e) (now (a .use-word)) (now (a .use-node)) (now (a .mine)) (t .loop .i) (here t) (c .loop-test .left) ∙ t .loop .inv .1;
-      fresh = t .loop .inv .0 .fresh;
+      state = seed-done (graph e) (decl e) (now (a .use-word)) (now (a .use-node)) (now (a .mine)) (t .loop .i) (here t) (c .loop-test .left) ∙ t .loop .inv .3;
+      fresh = t .loop .inv .2 .fresh;
     }
 
 pub seed-spec : {M : Type 1} → statement M
@@ -115,4 +124,6 @@ seed-spec =
     add-i
     loop-less
     loop-again
+    same-length
+    same-length-2
     returns)

@@ -1,11 +1,47 @@
--- `local_flow::compute` meets its contract: the names' facts and the sorted uses are what both passes ask.
+-- `local_flow::compute` meets its contract: the names' facts are what the search for findings asks, and where no local is tracked there is none.
 -- Assumes nothing.
+use Prim.Native.Nat.{ℕ, _≤_}
+use mathlib.Core.List.{List}
 use native.Mathlib.Omega.{arith}
+use lib.ListN.{length, length-replicate}
+use denote.Ref.{now}
 use borrow.Author.Tests.{not-true}
-use Rattle.local_flow.proofs.Columns.{counted, known, few-names, nothing-found, zero-marked, few-uses, table, passes}
+use Rattle.flow.specs.Findings.{locals, findings}
+use Rattle.locals.specs.Entries.{Added}
+use Rattle.unassigned.specs.Pass.{Marked}
+use Rattle.local_flow.specs.Sheets.{Sheets, Given, AnyGiven}
+use Rattle.local_flow.proofs.Columns.{counted, known, few-names, given, nothing-found, zero-marked}
 use borrow.Author.Needs.{needs}
 use Rattle.local_flow.proofs.compute.Statement.{statement}
 use Rattle.local_flow.proofs.compute.Tie as tie
+
+-- ---- where the facts of the names are known
+
+few : (c : tie.After-find-names) → c .find-names .result ≤ 1024
+few c = few-names (c .before .before .before .before .before .before .before .before .before .before .before .before .before .before .before .before .pre .0 .sheets) (c .find-names .ensures)
+
+long : (c : tie.After-find-names) → c .find-names .result ≤ length (c .find-names .last .1 .0)
+long c = omega (arith, few c, c .find-names .kept .1 .0, length-replicate {A = ℕ} 1024 0)
+
+abbrev SheetsHere : tie.After-find-names → List ℕ → List ℕ → Type 0
+SheetsHere c S U =
+    let a = c .before .before .before .before .before .before .before .before .before .before .before .before .before .before .before .before .args in
+    Sheets S U (a .n) (a .codes) (now (a .kinds)) (now (a .first)) (now (a .second)) (now (a .start)) (now (a .code-span)) (now (a .code-node)) (now (a .name-span)) (now (a .name-node)) (now (a .name-end)) (now (a .use-word)) (now (a .use-span))
+
+abbrev GivenHere : tie.After-find-names → List ℕ → List ℕ → Type 0
+GivenHere c S U =
+    let a = c .before .before .before .before .before .before .before .before .before .before .before .before .before .before .before .before .args in
+    Given S U (a .n) (a .codes) (c .find-names .result) (now (a .first)) (now (a .second)) (now (a .start)) (now (a .code-span)) (now (a .code-node)) (now (a .name-span)) (now (a .name-node)) (now (a .name-end)) (c .find-names .last .1 .0) (now (a .use-word)) (now (a .use-span))
+
+given-here : (c : tie.After-find-names) → (S U : List ℕ) → SheetsHere c S U → GivenHere c S U
+given-here c S U p = given p (c .find-names .ensures) (long c)
+
+any-given : (c : tie.After-find-names) → let a = c .before .before .before .before .before .before .before .before .before .before .before .before .before .before .before .before .args in AnyGiven (a .n) (a .codes) (c .find-names .result) (now (a .first)) (now (a .second)) (now (a .start)) (now (a .code-span)) (now (a .code-node)) (now (a .name-span)) (now (a .name-node)) (now (a .name-end)) (c .find-names .last .1 .0) (now (a .use-word)) (now (a .use-span))
+any-given c = let j = c .before .before .before .before .before .before .before .before .before .before .before .before .before .before .before .before .pre .0 in record { sheet = j .sheet; uses = j .uses; given = given-here c (j .sheet) (j .uses) (j .sheets) }
+
+-- what is found for the facts is found for the sheets
+found : (c : tie.After-find-names) {r : ℕ} {words spans words′ spans′ marks marks′ : List ℕ} → ((S U : List ℕ) → GivenHere c S U → Added (findings S U) 0 words spans r words′ spans′) → Marked (c .before .before .before .before .before .before .before .before .before .before .before .before .before .before .before .before .args .n) (c .find-names .result) marks marks′ → (S U : List ℕ) → SheetsHere c S U → Added (findings S U) 0 words spans r words′ spans′ × Marked (c .before .before .before .before .before .before .before .before .before .before .before .before .before .before .before .before .args .n) (length (locals S)) marks marks′
+found c f m S U p = (f S U (given-here c S U p), rw (counted p (c .find-names .ensures)) m)
 
 slice-aggregate-find-names : tie.Need-slice-aggregate-find-names
 slice-aggregate-find-names c = search needs
@@ -13,11 +49,14 @@ slice-aggregate-find-names c = search needs
 find-names-requires : tie.Need-find-names-requires
 find-names-requires c κs = search needs
 
+slice-aggregate-any-tracked : tie.Need-slice-aggregate-any-tracked
+slice-aggregate-any-tracked c = search needs
+
 any-tracked-requires : tie.Need-any-tracked-requires
-any-tracked-requires c κs = few-names (c .before .before .before .before .before .before .before .before .before .before .before .before .before .before .before .before .before .before .pre .0 .sheets) (c .before .before .find-names .ensures)
+any-tracked-requires c κs = long (c .before .before)
 
 clear-requires : tie.Need-clear-requires
-clear-requires c κs = omega (arith, c .before .before .before .before .before .before .before .before .before .before .before .before .before .before .before .before .before .before .before .before .before .pre .1 .1, few-names (c .before .before .before .before .before .before .before .before .before .before .before .before .before .before .before .before .before .before .before .before .before .pre .0 .sheets) (c .before .before .before .before .before .find-names .ensures))
+clear-requires c κs = omega (arith, c .before .before .before .before .before .before .before .before .before .before .before .before .before .before .before .before .before .before .before .before .before .pre .1 .1, few (c .before .before .before .before .before))
 
 same-length : tie.Need-same-length
 same-length c = search needs
@@ -25,28 +64,16 @@ same-length c = search needs
 returns : tie.Need-returns
 returns c =
     let s = c .before .before .before .before .before .before .before .before .find-names .ensures in
-    let few = few-names (c .before .before .before .before .before .before .before .before .before .before .before .before .before .before .before .before .before .before .before .before .before .before .before .before .pre .0 .sheets) s in
-    λ S U p. (nothing-found S U (counted p s) (known p s) (c .before .before .before .before .before .any-tracked .ensures (not-true (c .before .before .before .before .before .any-tracked .result) (c .before .before .before .before .if1 .taken))), rw (counted p s) (zero-marked (omega (arith, c .before .before .before .before .before .before .before .before .before .before .before .before .before .before .before .before .before .before .before .before .before .before .before .before .pre .1 .1, few)) (c .before .before .clear .ensures)))
+    λ S U p. (nothing-found S U (counted p s) (known p s) (c .before .before .before .before .before .any-tracked .ensures (not-true (c .before .before .before .before .before .any-tracked .result) (c .before .before .before .before .if1 .taken))), rw (counted p s) (zero-marked (omega (arith, c .before .before .before .before .before .before .before .before .before .before .before .before .before .before .before .before .before .before .before .before .before .before .before .before .pre .1 .1, few (c .before .before .before .before .before .before .before .before))) (c .before .before .clear .ensures)))
 
-sort-uses-requires : tie.Need-sort-uses-requires
-sort-uses-requires c κs =
-    let p = c .before .before .before .before .before .before .before .before .before .before .before .before .before .before .before .before .before .before .before .before .before .before .before .before .before .before .before .pre .0 .sheets in
-    let s = c .before .before .before .before .before .before .before .before .before .before .before .find-names .ensures in
-    (p .code-table, (table p s, (omega (arith, p .charted .some), p .charted .few, few-names p s)))
+is-small-requires : tie.Need-is-small-requires
+is-small-requires c κs = search needs
 
-list-findings-requires : tie.Need-list-findings-requires
-list-findings-requires c κs =
-    let j = c .before .before .before .before .before .before .before .before .before .before .before .before .before .before .before .before .before .before .before .before .before .before .before .before .before .before .before .before .before .before .before .before .before .before .before .before .before .pre .0 in
-    let p = j .sheets in
-    let s = c .before .before .before .before .before .before .before .before .before .before .before .before .before .before .before .before .before .before .before .before .before .find-names .ensures in
-    let u = c .before .before .before .before .before .before .before .before .before .sort-uses .ensures in
-    let room = c .before .before .before .before .before .before .before .before .before .before .before .before .before .before .before .before .before .before .before .before .before .before .before .before .before .before .before .before .before .before .before .before .before .before .before .before .before .pre .1 .0 in (
-      record { sheet = j .sheet; uses = j .uses; passes = passes p s (u .0) (u .1 .0) (u .1 .1) },
-      (
-        record { words-hold = omega (arith, room .words-hold, few-names p s, few-uses p s); spans-hold = omega (arith, room .spans-hold, few-names p s, few-uses p s) },
-        omega (arith, c .before .before .before .before .before .before .before .before .before .before .before .before .before .before .before .before .before .before .before .before .before .before .before .before .before .before .before .before .before .before .before .before .before .before .before .before .before .pre .1 .1, few-names p s),
-      ),
-    )
+slice-aggregate-compute-small : tie.Need-slice-aggregate-compute-small
+slice-aggregate-compute-small c = search needs
+
+compute-small-requires : tie.Need-compute-small-requires
+compute-small-requires c κs = (any-given (c .before .before .before .before .before .before .before .before .before .before), (c .before .before .before .before .before .before .before .before .before .before .before .before .before .before .before .before .before .before .before .before .before .before .before .before .before .before .pre .1, c .before .before .before .before .before .is-small .ensures (c .before .before .before .before .if2 .taken)))
 
 same-length-2 : tie.Need-same-length-2
 same-length-2 c = search needs
@@ -58,11 +85,25 @@ same-length-4 : tie.Need-same-length-4
 same-length-4 c = search needs
 
 returns-2 : tie.Need-returns-2
-returns-2 c =
-    let s = c .before .before .before .before .before .before .before .before .before .before .before .before .before .before .before .before .before .before .before .before .before .before .before .before .before .before .before .before .find-names .ensures in
-    let u = c .before .before .before .before .before .before .before .before .before .before .before .before .before .before .before .before .sort-uses .ensures in
-    let f = c .before .before .before .before .before .before .list-findings .ensures in
-    λ S U p. (f .0 S U (passes p s (u .0) (u .1 .0) (u .1 .1)), rw (← counted p s) at (f .1))
+returns-2 c = found (c .before .before .before .before .before .before .before .before .before .before .before .before .before .before .before .before .before) (c .before .before .before .before .before .before .compute-small .ensures .0) (c .before .before .before .before .before .before .compute-small .ensures .1)
+
+slice-aggregate-compute-large : tie.Need-slice-aggregate-compute-large
+slice-aggregate-compute-large c = search needs
+
+compute-large-requires : tie.Need-compute-large-requires
+compute-large-requires c κs = (any-given (c .before .before .before .before .before .before .before .before .before .before), c .before .before .before .before .before .before .before .before .before .before .before .before .before .before .before .before .before .before .before .before .before .before .before .before .before .before .pre .1)
+
+same-length-5 : tie.Need-same-length-5
+same-length-5 c = search needs
+
+same-length-6 : tie.Need-same-length-6
+same-length-6 c = search needs
+
+same-length-7 : tie.Need-same-length-7
+same-length-7 c = search needs
+
+returns-3 : tie.Need-returns-3
+returns-3 c = found (c .before .before .before .before .before .before .before .before .before .before .before .before .before .before .before .before .before) (c .before .before .before .before .before .before .compute-large .ensures .0) (c .before .before .before .before .before .before .compute-large .ensures .1)
 
 pub compute-spec : {M : Type 1} → statement M
 compute-spec =
@@ -70,13 +111,21 @@ compute-spec =
     (tie.spec
     slice-aggregate-find-names
     find-names-requires
+    slice-aggregate-any-tracked
     any-tracked-requires
     clear-requires
     same-length
     returns
-    sort-uses-requires
-    list-findings-requires
+    is-small-requires
+    slice-aggregate-compute-small
+    compute-small-requires
     same-length-2
     same-length-3
     same-length-4
-    returns-2)
+    returns-2
+    slice-aggregate-compute-large
+    compute-large-requires
+    same-length-5
+    same-length-6
+    same-length-7
+    returns-3)

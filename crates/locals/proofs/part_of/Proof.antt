@@ -29,7 +29,7 @@ part-result-end : tie.Need-part-result-end
 part-result-end c = search needs
 
 returns : tie.Need-returns
-returns c = ap₂ (λ s e. part s e (now (c .before .before .before .before .before .before .args .column))) (c .before .before .before .before .cell .ensures) (c .before .before .cell2 .ensures)
+returns c = ap₂ (λ s e. part s e (now (c .before .before .before .before .before .args .column))) (c .before .before .cell .ensures) (c .before .cell2 .ensures)
 
 pub part-of-spec : {M : Type 1} → statement M
 part-of-spec =

@@ -18,10 +18,10 @@ cell-requires-2 : tie.Need-cell-requires-2
 cell-requires-2 c κs = search needs
 
 returns : tie.Need-returns
-returns c = rw (eq-eqb _ _ (c .before .before .if1 .taken)) (c .cell .ensures)
+returns c = rw (eq-eqb _ _ (c .before .if1 .taken)) (c .cell .ensures)
 
 returns-2 : tie.Need-returns-2
-returns-2 c = rw (ne-eqb _ _ (c .before .before .if1 .left)) (c .cell2 .ensures)
+returns-2 c = rw (ne-eqb _ _ (c .before .if1 .left)) (c .cell2 .ensures)
 
 pub edge-after-spec : {M : Type 1} → statement M
 edge-after-spec =

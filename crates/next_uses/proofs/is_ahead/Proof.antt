@@ -20,10 +20,10 @@ is-marked-requires-2 : tie.Need-is-marked-requires-2
 is-marked-requires-2 c κs = search needs
 
 returns : tie.Need-returns
-returns c = λ g e f. sym (any-marked (c .before .before .before .before .before .args .stamp) (c .before .before .before .before .before .args .n) (now (c .before .before .before .before .before .args .marks)) (now (c .before .before .before .before .before .args .first)) (now (c .before .before .before .before .before .args .second)) (c .before .before .before .before .before .args .v) (c .before .before .before .before .before .pre .1) (c .before .before .before .before .before .pre .3) g e f ∙ rw (← c .before .before .at .ensures, ← c .before .is-marked .ensures, c .if1 .taken))
+returns c = λ g e f. sym (any-marked (c .before .before .before .before .before .before .args .stamp) (c .before .before .before .before .before .before .args .n) (now (c .before .before .before .before .before .before .args .marks)) (now (c .before .before .before .before .before .before .args .first)) (now (c .before .before .before .before .before .before .args .second)) (c .before .before .before .before .before .before .args .v) (c .before .before .before .before .before .before .pre .0) (c .before .before .before .before .before .before .pre .3) g e f ∙ rw (← c .before .before .at .ensures, ← c .before .is-marked .ensures, c .if1 .taken))
 
 returns-2 : tie.Need-returns-2
-returns-2 c = λ g e f. c .is-marked2 .ensures ∙ sym (any-marked (c .before .before .before .before .before .before .before .args .stamp) (c .before .before .before .before .before .before .before .args .n) (now (c .before .before .before .before .before .before .before .args .marks)) (now (c .before .before .before .before .before .before .before .args .first)) (now (c .before .before .before .before .before .before .before .args .second)) (c .before .before .before .before .before .before .before .args .v) (c .before .before .before .before .before .before .before .pre .1) (c .before .before .before .before .before .before .before .pre .3) g e f ∙ rw (← c .before .before .before .before .at .ensures, ← c .before .before .before .is-marked .ensures, c .before .before .if1 .left, ← c .before .at2 .ensures))
+returns-2 c = λ g e f. c .is-marked2 .ensures ∙ sym (any-marked (c .before .before .before .before .before .before .before .before .args .stamp) (c .before .before .before .before .before .before .before .before .args .n) (now (c .before .before .before .before .before .before .before .before .args .marks)) (now (c .before .before .before .before .before .before .before .before .args .first)) (now (c .before .before .before .before .before .before .before .before .args .second)) (c .before .before .before .before .before .before .before .before .args .v) (c .before .before .before .before .before .before .before .before .pre .0) (c .before .before .before .before .before .before .before .before .pre .3) g e f ∙ rw (← c .before .before .before .before .at .ensures, ← c .before .before .before .is-marked .ensures, c .before .before .if1 .left, ← c .before .at2 .ensures))
 
 pub is-ahead-spec : {M : Type 1} → statement M
 is-ahead-spec =

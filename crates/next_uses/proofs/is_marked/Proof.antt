@@ -8,8 +8,8 @@ use Rattle.next_uses.proofs.is_marked.Tie as tie
 mul-result : tie.Need-mul-result
 mul-result c = search needs
 
-element-copy-out-result : tie.Need-element-copy-out-result
-element-copy-out-result c = search needs
+shared-slice-read-result : tie.Need-shared-slice-read-result
+shared-slice-read-result c = search needs
 
 returns : tie.Need-returns
 returns c = rw (lt-ltb _ _ (c .before .if1 .taken))
@@ -18,4 +18,4 @@ returns-2 : tie.Need-returns-2
 returns-2 c = rw (le-ltb _ _ (c .if1 .left))
 
 pub is-marked-spec : {M : Type 1} → statement M
-is-marked-spec = tie.close (tie.spec mul-result element-copy-out-result returns returns-2)
+is-marked-spec = tie.close (tie.spec mul-result shared-slice-read-result returns returns-2)

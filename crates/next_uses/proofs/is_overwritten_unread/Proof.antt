@@ -16,10 +16,10 @@ is-ahead-requires-2 : tie.Need-is-ahead-requires-2
 is-ahead-requires-2 c κs = search needs
 
 returns : tie.Need-returns
-returns c = λ g a e f h. read-ahead g a (c .before .before .before .before .args .v) (ap (λ (l : List _). anyFlag l (successors g (c .before .before .before .before .args .v))) (sym (h .reads-are)) ∙ sym (c .before .is-ahead .ensures g e f) ∙ c .if1 .taken)
+returns c = λ g a e f h. read-ahead g a (c .before .before .before .before .before .before .args .v) (ap (λ (l : List _). anyFlag l (successors g (c .before .before .before .before .before .before .args .v))) (sym (h .reads-are)) ∙ sym (c .before .is-ahead .ensures g e f) ∙ c .if1 .taken)
 
 returns-2 : tie.Need-returns-2
-returns-2 c = λ g a e f h. c .is-ahead2 .ensures g e f ∙ ap (λ (l : List _). anyFlag l (successors g (c .before .before .before .before .before .args .v))) (h .writes-are) ∙ unread-ahead g a (c .before .before .before .before .before .args .v) (ap (λ (l : List _). anyFlag l (successors g (c .before .before .before .before .before .args .v))) (sym (h .reads-are)) ∙ sym (c .before .before .is-ahead .ensures g e f) ∙ c .before .if1 .left)
+returns-2 c = λ g a e f h. c .is-ahead2 .ensures g e f ∙ ap (λ (l : List _). anyFlag l (successors g (c .before .before .before .before .before .before .before .args .v))) (h .writes-are) ∙ unread-ahead g a (c .before .before .before .before .before .before .before .args .v) (ap (λ (l : List _). anyFlag l (successors g (c .before .before .before .before .before .before .before .args .v))) (sym (h .reads-are)) ∙ sym (c .before .before .is-ahead .ensures g e f) ∙ c .before .if1 .left)
 
 pub is-overwritten-unread-spec : {M : Type 1} → statement M
 is-overwritten-unread-spec =

@@ -8,14 +8,14 @@ use Rattle.next_uses.proofs.link.Tie as tie
 mul-next : tie.Need-mul-next
 mul-next c = search needs
 
-element-copy-out-next : tie.Need-element-copy-out-next
-element-copy-out-next c = search needs
+slice-read-next : tie.Need-slice-read-next
+slice-read-next c = search needs
 
 mul-next-2 : tie.Need-mul-next-2
 mul-next-2 c = search needs
 
-element-write-next : tie.Need-element-write-next
-element-write-next c = search needs
+slice-write-next : tie.Need-slice-write-next
+slice-write-next c = search needs
 
 cast-head : tie.Need-cast-head
 cast-head c = search needs
@@ -23,8 +23,14 @@ cast-head c = search needs
 mul-head : tie.Need-mul-head
 mul-head c = search needs
 
-element-write-head : tie.Need-element-write-head
-element-write-head c = search needs
+slice-write-head : tie.Need-slice-write-head
+slice-write-head c = search needs
+
+same-length : tie.Need-same-length
+same-length c = search needs
+
+same-length-2 : tie.Need-same-length-2
+same-length-2 c = search needs
 
 returns : tie.Need-returns
 returns c = (simp (lt-ltb _ _ (c .before .if1 .taken)), simp (lt-ltb _ _ (c .before .if1 .taken)))
@@ -37,11 +43,13 @@ link-spec =
     tie.close
     (tie.spec
     mul-next
-    element-copy-out-next
+    slice-read-next
     mul-next-2
-    element-write-next
+    slice-write-next
     cast-head
     mul-head
-    element-write-head
+    slice-write-head
+    same-length
+    same-length-2
     returns
     returns-2)

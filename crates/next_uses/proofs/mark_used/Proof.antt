@@ -1,9 +1,8 @@
 -- `next_uses::mark_used` meets its contract. The loop's invariant: the nodes of the uses passed are marked.
 -- Assumes nothing.
 use Prim.Native.Nat.{ℕ, _≤_, _<_, _-_}
-use mathlib.Core.Path.{_≡_, subst}
+use mathlib.Core.Path.{_≡_, refl, subst}
 use native.Mathlib.Omega.{arith}
-use borrow.Author.Needs.{needs}
 use denote.Ref.{now}
 use lib.ListN.{length, length-set}
 use Rattle.search.specs.Stamps.{Stamped}
@@ -14,52 +13,52 @@ use Rattle.next_uses.proofs.mark_used.Statement.{statement}
 use Rattle.next_uses.proofs.mark_used.Tie as tie
 
 abbrev Inv-loop : tie.InvT-loop
-Inv-loop use-node sorted used₀ stamp i₀ used i = (i ≤ length sorted) × (length used ≡ 1600) × Used stamp use-node sorted i used × Stamped stamp used
+Inv-loop use-node sorted used₀ stamp i₀ used i = (i ≤ length sorted) × (length used ≡ length used₀) × Used stamp use-node sorted i used × Stamped stamp used
 
 abbrev μ-loop : tie.MeasureT-loop
 μ-loop use-node sorted used₀ stamp i₀ used i = length sorted - i
 
-sized-requires : tie.Need-sized-requires Inv-loop μ-loop
-sized-requires c κs = search needs
-
 loop-holds : tie.Need-loop-holds Inv-loop μ-loop
-loop-holds c = (omega arith, c .sized .ensures, used-none (c .before .before .before .args .stamp) (now (c .before .before .before .args .use-node)) (now (c .before .before .before .args .sorted)) (now (c .before .before .before .args .used)) (c .before .before .before .pre .1), fresh-stamped (c .before .before .before .args .stamp) (now (c .before .before .before .args .used)) (c .before .before .before .pre .1))
+loop-holds c = (omega arith, refl, used-none (c .before .before .before .args .stamp) (now (c .before .before .before .args .use-node)) (now (c .before .before .before .args .sorted)) (now (c .before .before .before .args .used)) (c .before .before .before .pre .1), fresh-stamped (c .before .before .before .args .stamp) (now (c .before .before .before .args .used)) (c .before .before .before .pre .1))
 
 cell-requires : tie.Need-cell-requires Inv-loop μ-loop
 cell-requires c κs = omega arith
 
 cell-requires-2 : tie.Need-cell-requires-2 Inv-loop μ-loop
-cell-requires-2 c κs = omega (arith, c .before .before .before .before .before .before .before .pre .0 .numbers (c .before .before .before .loop .i) (c .before .before .loop-test .taken), c .before .cell .ensures, c .cell-arg .given)
+cell-requires-2 c κs = omega (arith, c .before .before .before .before .before .before .pre .0 .numbers (c .before .before .loop .i) (c .before .loop-test .taken), c .cell .ensures)
 
-node-is : (c : tie.After-cell2 Inv-loop μ-loop) → c .cell2 .result ≡ nodeAt (now (c .before .before .before .before .before .before .before .before .args .use-node)) (now (c .before .before .before .before .before .before .before .before .args .sorted)) (c .before .before .before .before .loop .i)
-node-is c = rw (← c .before .before .cell .ensures) (c .cell2 .ensures)
+node-is : (c : tie.After-cell2 Inv-loop μ-loop) → c .cell2 .result ≡ nodeAt (now (c .before .before .before .before .before .before .before .args .use-node)) (now (c .before .before .before .before .before .before .before .args .sorted)) (c .before .before .before .loop .i)
+node-is c = rw (← c .before .cell .ensures) (c .cell2 .ensures)
 
-node-below : (c : tie.After-cell2 Inv-loop μ-loop) → c .cell2 .result < 1600
-node-below c = rw (node-is c) (c .before .before .before .before .before .before .before .before .pre .0 .below (c .before .before .before .before .loop .i) (c .before .before .before .loop-test .taken))
+node-below : (c : tie.After-cell2 Inv-loop μ-loop) → c .cell2 .result < length (c .before .before .before .loop .used)
+node-below c = omega (arith, node-is c, c .before .before .before .before .before .before .before .pre .0 .below (c .before .before .before .loop .i) (c .before .before .loop-test .taken), c .before .before .before .loop .inv .1)
 
 mul-used : tie.Need-mul-used Inv-loop μ-loop
 mul-used c = omega (arith, node-below c)
 
-element-write-used : tie.Need-element-write-used Inv-loop μ-loop
-element-write-used c = node-below c
+slice-write-used : tie.Need-slice-write-used Inv-loop μ-loop
+slice-write-used c = node-below c
 
 add-i : tie.Need-add-i Inv-loop μ-loop
-add-i c = omega (arith, c .before .before .before .loop-test .taken, c .before .before .before .before .before .before .before .before .good)
+add-i c = omega (arith, c .before .before .loop-test .taken, c .before .before .before .before .before .before .before .good)
 
 loop-less : tie.Need-loop-less Inv-loop μ-loop
-loop-less c = omega (arith, c .before .before .before .loop-test .taken)
+loop-less c = omega (arith, c .before .before .loop-test .taken)
 
 loop-again : tie.Need-loop-again Inv-loop μ-loop
 loop-again c =
-    let a = c .before .before .before .before .before .before .before .before .args in
-    let l = c .before .before .before .before .loop in
+    let a = c .before .before .before .before .before .before .before .args in
+    let l = c .before .before .before .loop in
     let v = c .cell2 .result in
-    let h : v < length (l .used) = omega (arith, node-below c, l .inv .1) in (
-      omega (arith, c .before .before .before .loop-test .taken),
+    let h = node-below c in (
+      omega (arith, c .before .before .loop-test .taken),
       simp length-set (l .inv .1),
       used-turn (a .stamp) (now (a .use-node)) (now (a .sorted)) (l .i) (l .used) v (node-is c) h (l .inv .2),
       set-bounded (a .stamp) (l .used) v h (l .inv .3),
     )
+
+same-length : tie.Need-same-length Inv-loop μ-loop
+same-length c = c .before .loop .inv .1
 
 returns : tie.Need-returns Inv-loop μ-loop
 returns c =
@@ -74,13 +73,13 @@ mark-used-spec =
     (tie.spec
     Inv-loop
     μ-loop
-    sized-requires
     loop-holds
     cell-requires
     cell-requires-2
     mul-used
-    element-write-used
+    slice-write-used
     add-i
     loop-less
     loop-again
+    same-length
     returns)

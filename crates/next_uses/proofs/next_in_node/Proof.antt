@@ -17,14 +17,14 @@ cell-requires-2 : tie.Need-cell-requires-2
 cell-requires-2 c κs = search needs
 
 cell-requires-3 : tie.Need-cell-requires-3
-cell-requires-3 c κs = omega (arith, c .before .before .before .before .before .pre .1 (c .before .before .before .before .before .args .i) (c .before .before .before .before .before .pre .0), c .before .before .cell .ensures, c .cell-arg .given)
+cell-requires-3 c κs = omega (arith, c .before .before .before .before .before .pre .1 (c .before .before .before .before .before .args .i) (c .before .before .before .before .before .pre .0), c .before .cell .ensures)
 
 cell-requires-4 : tie.Need-cell-requires-4
-cell-requires-4 c κs = omega (arith, c .before .before .before .before .before .before .before .pre .1 _ (c .before .before .before .before .before .if1 .taken), c .before .before .before .cell2 .ensures, c .cell-arg2 .given)
+cell-requires-4 c κs = omega (arith, c .before .before .before .before .before .before .pre .1 _ (c .before .before .before .if1 .taken), c .before .cell2 .ensures)
 
 returns : tie.Need-returns
 unfolding nextInNode
-returns c = rw (lt-ltb _ _ (c .before .before .before .before .before .before .if1 .taken), c .before .before .cell3 .ensures, c .cell4 .ensures, c .before .before .before .before .before .cell .ensures, c .before .before .before .before .cell2 .ensures)
+returns c = rw (lt-ltb _ _ (c .before .before .before .before .if1 .taken), c .before .cell3 .ensures, c .cell4 .ensures, c .before .before .before .cell .ensures, c .before .before .cell2 .ensures)
 
 returns-2 : tie.Need-returns-2
 unfolding nextInNode

@@ -9,8 +9,8 @@ use Rattle.next_uses.proofs.passes.Tie as tie
 mul-if1 : tie.Need-mul-if1
 mul-if1 c = search needs
 
-element-copy-out-if1 : tie.Need-element-copy-out-if1
-element-copy-out-if1 c = search needs
+shared-slice-read-if1 : tie.Need-shared-slice-read-if1
+shared-slice-read-if1 c = search needs
 
 is-alive-at-requires : tie.Need-is-alive-at-requires
 is-alive-at-requires c κs = search needs
@@ -25,4 +25,4 @@ returns-2 c = rw (ne-eqb _ _ (c .before .if1 .left)) (c .is-alive-at .ensures)
 
 pub passes-spec : {M : Type 1} → statement M
 passes-spec =
-    tie.close (tie.spec mul-if1 element-copy-out-if1 is-alive-at-requires returns returns-2)
+    tie.close (tie.spec mul-if1 shared-slice-read-if1 is-alive-at-requires returns returns-2)

@@ -22,14 +22,14 @@ loop-holds c = (omega arith, none-first)
 mul-is-judged : tie.Need-mul-is-judged Inv-loop μ-loop
 mul-is-judged c = search needs
 
-element-copy-out-is-judged : tie.Need-element-copy-out-is-judged Inv-loop μ-loop
-element-copy-out-is-judged c = search needs
+shared-slice-read-is-judged : tie.Need-shared-slice-read-is-judged Inv-loop μ-loop
+shared-slice-read-is-judged c = search needs
 
 mul-is-judged-2 : tie.Need-mul-is-judged-2 Inv-loop μ-loop
 mul-is-judged-2 c = search needs
 
-element-copy-out-is-judged-2 : tie.Need-element-copy-out-is-judged-2 Inv-loop μ-loop
-element-copy-out-is-judged-2 c = search needs
+shared-slice-read-is-judged-2 : tie.Need-shared-slice-read-is-judged-2 Inv-loop μ-loop
+shared-slice-read-is-judged-2 c = search needs
 
 is-judged-requires : tie.Need-is-judged-requires Inv-loop μ-loop
 is-judged-requires c κs = search needs
@@ -38,7 +38,7 @@ returns : tie.Need-returns Inv-loop μ-loop
 returns c = λ e. absurd (false≢true (sym e))
 
 add-i : tie.Need-add-i Inv-loop μ-loop
-add-i c = omega (arith, c .before .before .before .before .loop-test .taken, c .before .before .before .before .before .before .pre)
+add-i c = omega (arith, c .before .before .before .before .loop-test .taken)
 
 loop-less : tie.Need-loop-less Inv-loop μ-loop
 loop-less c = omega (arith, c .before .before .before .before .loop-test .taken)
@@ -57,9 +57,9 @@ any-judged-spec =
     μ-loop
     loop-holds
     mul-is-judged
-    element-copy-out-is-judged
+    shared-slice-read-is-judged
     mul-is-judged-2
-    element-copy-out-is-judged-2
+    shared-slice-read-is-judged-2
     is-judged-requires
     returns
     add-i

@@ -11,10 +11,10 @@ push-initial-requires c κs = search needs
 
 list-writes-requires : tie.Need-list-writes-requires
 list-writes-requires c κs =
-    let p = c .before .before .before .before .before .before .before .before .before .before .before .before .before .before .before .before .pre in
-    let r = p .1 .1 in
+    let p = c .before .before .before .before .before .before .before .before .before .before .before .before .before .before .before .before .before .before .before .pre in
+    let r = p .1 .1 .1 in
     let s = c .before .before .before .before .before .before .push-initial .ensures .0 in
-    (p .0, (omega (arith, p .1 .0 .1), record { words-hold = omega (arith, s, r .words-hold, c .before .before .before .before .before .finding-word .given); spans-hold = omega (arith, s, r .spans-hold, c .before .before .before .finding-span .given) }))
+    (p .0, (p .1 .0, (p .1 .1 .0 .1, record { words-hold = omega (arith, s, r .words-hold, c .before .before .before .before .before .finding-word .given); spans-hold = omega (arith, s, r .spans-hold, c .before .before .before .finding-span .given) })))
 
 same-length : tie.Need-same-length
 same-length c = search needs
@@ -24,9 +24,9 @@ same-length-2 c = search needs
 
 returns : tie.Need-returns
 returns c =
-    let p = c .before .before .before .before .before .before .before .before .before .before .before .before .before .before .before .before .before .before .before .before .before .pre in (
+    let p = c .before .before .before .before .before .before .before .before .before .before .before .before .before .before .before .before .before .before .before .before .before .before .before .before .pre in (
       omega (arith, c .before .before .before .before .before .before .before .before .before .before .before .push-initial .ensures .0, c .before .before .before .before .list-writes .ensures .0),
-      λ g a us m. added-append (omega (arith, c .before .before .before .before .before .before .before .before .before .before .before .push-initial .ensures .0, p .1 .1 .words-hold)) (omega (arith, c .before .before .before .before .before .before .before .before .before .before .before .push-initial .ensures .0, p .1 .1 .spans-hold)) (c .before .before .before .before .before .before .before .before .before .before .before .push-initial .ensures .1 g a (m .firsts-are) (m .seconds-are) (m .held)) (c .before .before .before .before .list-writes .ensures .1 g a us m),
+      λ g a us m. added-append (omega (arith, c .before .before .before .before .before .before .before .before .before .before .before .push-initial .ensures .0, p .1 .1 .1 .words-hold)) (omega (arith, c .before .before .before .before .before .before .before .before .before .before .before .push-initial .ensures .0, p .1 .1 .1 .spans-hold)) (c .before .before .before .before .before .before .before .before .before .before .before .push-initial .ensures .1 g a (m .firsts-are) (m .seconds-are) (m .held)) (c .before .before .before .before .list-writes .ensures .1 g a us m),
     )
 
 pub list-values-spec : {M : Type 1} → statement M

@@ -21,27 +21,27 @@ uses c = table (now (c .args .use-word)) (now (c .args .use-node)) (now (c .args
 
 loop-holds : tie.Need-loop-holds Inv-loop μ-loop
 loop-holds c =
-    let a = c .before .before .before .before .before .before .before .args in
-    passed-none (a .stamp) (a .n) (a .local) (now (a .first)) (now (a .second)) (uses (c .before .before .before .before .before .before .before)) (now (a .use-span)) (now (a .reads)) (now (a .writes)) (a .before) (now (a .finding-word)) (now (a .finding-span))
+    let a = c .before .before .before .before .before .before .before .before .before .before .args in
+    passed-none (a .stamp) (a .n) (a .local) (now (a .first)) (now (a .second)) (uses (c .before .before .before .before .before .before .before .before .before .before)) (now (a .use-span)) (now (a .reads)) (now (a .writes)) (a .before) (now (a .finding-word)) (now (a .finding-span))
 
 push-if-overwritten-requires : tie.Need-push-if-overwritten-requires Inv-loop μ-loop
 push-if-overwritten-requires c κs =
-    let a = c .before .before .before .before .before .before .before .before .before .before .before .args in
+    let a = c .before .before .before .before .before .before .before .before .before .before .before .before .before .before .args in
     let l = c .before .before .before .loop in
-    (c .before .before .before .before .before .before .before .before .before .before .before .pre .0, ((c .before .before .loop-test .taken, c .before .before .before .before .before .before .before .before .before .before .before .pre .1 .0), room-left (a .stamp) (a .n) (a .local) (now (a .first)) (now (a .second)) (uses (c .before .before .before .before .before .before .before .before .before .before .before)) (now (a .use-span)) (now (a .reads)) (now (a .writes)) (a .before) (now (a .finding-word)) (now (a .finding-span)) (c .before .before .before .before .before .before .before .before .before .before .before .pre .1 .1) (l .count) (l .i) (l .finding-word) (l .finding-span) (l .inv) (c .before .before .loop-test .taken)))
+    (c .before .before .before .before .before .before .before .before .before .before .before .before .before .before .pre .0, (c .before .before .before .before .before .before .before .before .before .before .before .before .before .before .pre .1 .0, ((c .before .before .loop-test .taken, c .before .before .before .before .before .before .before .before .before .before .before .before .before .before .pre .1 .1 .0), room-left (a .stamp) (a .n) (a .local) (now (a .first)) (now (a .second)) (uses (c .before .before .before .before .before .before .before .before .before .before .before .before .before .before)) (now (a .use-span)) (now (a .reads)) (now (a .writes)) (a .before) (now (a .finding-word)) (now (a .finding-span)) (c .before .before .before .before .before .before .before .before .before .before .before .before .before .before .pre .1 .1 .1) (l .count) (l .i) (l .finding-word) (l .finding-span) (l .inv) (c .before .before .loop-test .taken))))
 
 add-i : tie.Need-add-i Inv-loop μ-loop
-add-i c = omega (arith, c .before .before .before .before .before .before .before .loop-test .taken, c .before .before .before .before .before .before .before .before .before .before .before .before .before .before .before .before .good)
+add-i c = omega (arith, c .before .before .before .before .before .before .before .loop-test .taken, c .before .before .before .before .before .before .before .before .before .before .before .before .before .before .before .before .before .before .before .good)
 
 loop-less : tie.Need-loop-less Inv-loop μ-loop
 loop-less c = omega (arith, c .before .before .before .before .before .before .before .loop-test .taken)
 
 loop-again : tie.Need-loop-again Inv-loop μ-loop
 loop-again c =
-    let a = c .before .before .before .before .before .before .before .before .before .before .before .before .before .before .before .before .args in
+    let a = c .before .before .before .before .before .before .before .before .before .before .before .before .before .before .before .before .before .before .before .args in
     let l = c .before .before .before .before .before .before .before .before .loop in
     let p = c .before .before .before .before .push-if-overwritten in
-    passed-turn (a .stamp) (a .n) (a .local) (now (a .first)) (now (a .second)) (uses (c .before .before .before .before .before .before .before .before .before .before .before .before .before .before .before .before)) (now (a .use-span)) (now (a .reads)) (now (a .writes)) (a .before) (now (a .finding-word)) (now (a .finding-span)) (c .before .before .before .before .before .before .before .before .before .before .before .before .before .before .before .before .pre .1 .1) (l .count) (l .i) (l .finding-word) (l .finding-span) (l .inv) (c .before .before .before .before .before .before .before .loop-test .taken) (p .result) (p .last .1 .1 .1 .1 .1 .1 .1 .1 .0) (p .last .1 .1 .1 .1 .1 .1 .1 .1 .1 .0) (p .ensures .0) (c .before .before .before .finding-word .given) (c .before .finding-span .given) (p .ensures .1)
+    passed-turn (a .stamp) (a .n) (a .local) (now (a .first)) (now (a .second)) (uses (c .before .before .before .before .before .before .before .before .before .before .before .before .before .before .before .before .before .before .before)) (now (a .use-span)) (now (a .reads)) (now (a .writes)) (a .before) (now (a .finding-word)) (now (a .finding-span)) (c .before .before .before .before .before .before .before .before .before .before .before .before .before .before .before .before .before .before .before .pre .1 .1 .1) (l .count) (l .i) (l .finding-word) (l .finding-span) (l .inv) (c .before .before .before .before .before .before .before .loop-test .taken) (p .result) (p .last .1 .1 .1 .1 .1 .1 .1 .1 .0) (p .last .1 .1 .1 .1 .1 .1 .1 .1 .1 .0) (p .ensures .0) (c .before .before .before .finding-word .given) (c .before .finding-span .given) (p .ensures .1)
 
 same-length : tie.Need-same-length Inv-loop μ-loop
 same-length c = c .before .loop .inv .words-long
@@ -51,10 +51,10 @@ same-length-2 c = c .before .loop .inv .spans-long
 
 returns : tie.Need-returns Inv-loop μ-loop
 returns c =
-    let a = c .before .before .before .before .before .before .before .before .before .args in
+    let a = c .before .before .before .before .before .before .before .before .before .before .before .before .args in
     let l = c .before .loop in (
       omega (arith, l .inv .few, l .inv .counted),
-      passed-end (a .stamp) (a .n) (a .local) (now (a .first)) (now (a .second)) (uses (c .before .before .before .before .before .before .before .before .before)) (now (a .use-span)) (now (a .reads)) (now (a .writes)) (a .before) (now (a .finding-word)) (now (a .finding-span)) (c .before .before .before .before .before .before .before .before .before .pre .1 .1) (l .count) (l .i) (l .finding-word) (l .finding-span) (l .inv) (omega (arith, c .loop-test .left)),
+      passed-end (a .stamp) (a .n) (a .local) (now (a .first)) (now (a .second)) (uses (c .before .before .before .before .before .before .before .before .before .before .before .before)) (now (a .use-span)) (now (a .reads)) (now (a .writes)) (a .before) (now (a .finding-word)) (now (a .finding-span)) (c .before .before .before .before .before .before .before .before .before .before .before .before .pre .1 .1 .1) (l .count) (l .i) (l .finding-word) (l .finding-span) (l .inv) (omega (arith, c .loop-test .left)),
     )
 
 pub list-writes-spec : {M : Type 1} → statement M

@@ -22,10 +22,12 @@ cell-requires c κs = search needs
 
 push-write-requires : tie.Need-push-write-requires
 push-write-requires c κs =
-    let p = c .before .before .before .before .before .before .before .before .before .before .before .before .pre in
+    let p = c .before .before .before .before .before .before .before .before .before .before .before .before .before .before .before .pre in
     let l = p .0 .listed in
-    let i = c .before .before .before .before .before .before .before .before .before .before .before .before .args .i in
-    ((p .1 .0 .1, omega (arith, l .placed .numbers i (p .1 .0 .0), c .before .before .cell .ensures), omega (arith, l .worded i (p .1 .0 .0), c .before .before .cell .ensures, p .0 .spanned)), p .1 .1)
+    let i = c .before .before .before .before .before .before .before .before .before .before .before .before .before .before .before .args .i in
+    let w = l .worded i (p .1 .1 .0 .0) in
+    let k = c .before .before .cell .ensures in
+    ((p .1 .1 .0 .1, omega (arith, w, k, p .0 .uses-few), omega (arith, w, k, p .0 .spanned)), p .1 .1 .1)
 
 same-length : tie.Need-same-length
 same-length c = search needs
@@ -35,11 +37,11 @@ same-length-2 c = search needs
 
 returns : tie.Need-returns
 returns c =
-    let a = c .before .before .before .before .before .before .before .before .before .before .before .before .before .before .before .before .before .args in (
+    let a = c .before .before .before .before .before .before .before .before .before .before .before .before .before .before .before .before .before .before .before .before .args in (
       omega (arith, c .before .before .before .before .push-write .ensures .0),
       λ g h us m u after e.
           let t : Table = table (now (a .use-word)) (now (a .use-node)) (now (a .sorted)) in
-          let p = here (a .n) t us (m .sorted) (a .i) (c .before .before .before .before .before .before .before .before .before .before .before .before .before .before .before .before .before .pre .1 .0 .0) u after e in
+          let p = here (a .n) t us (m .sorted) (a .i) (c .before .before .before .before .before .before .before .before .before .before .before .before .before .before .before .before .before .before .before .before .pre .1 .1 .0 .0) u after e in
           let k : u .number ≡ c .before .before .before .before .before .before .before .cell .result = p .number ∙ sym (c .before .before .before .before .before .before .before .cell .ensures) in
           let yes : isOverwritten g h u after ≡ true = sym (c .before .before .before .before .before .before .before .before .before .is-overwritten .ensures g h us (m .firsts-are) (m .seconds-are) (m .held) (m .sorted) u after e) ∙ c .before .before .before .before .before .before .before .before .if1 .taken in
           rw yes (c .before .before .before .before .push-write .ensures .1 u k (m .spans-are u (p .own) ∙ ap (λ (x : ℕ). getD (now (a .use-span)) x 0) k)),

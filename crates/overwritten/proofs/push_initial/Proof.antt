@@ -32,8 +32,8 @@ returns : tie.Need-returns
 returns c = (
   omega (arith, c .before .before .before .before .push-finding .ensures .1),
   λ g a e f h.
-      let yes : isOverwrittenUnread g a (c .before .before .before .before .before .before .before .before .before .before .before .before .before .before .args .declaration .node) ≡ true = sym (c .before .before .before .before .before .before .before .before .is-overwritten-unread .ensures g a e f h) ∙ c .before .before .before .before .before .before .before .if2 .taken in
-      let ℓ : ℕ = c .before .before .before .before .before .before .before .before .before .before .before .before .before .before .args .declaration .local in
+      let yes : isOverwrittenUnread g a (c .before .before .before .before .before .before .before .before .before .before .before .before .before .before .before .before .args .declaration .node) ≡ true = sym (c .before .before .before .before .before .before .before .before .is-overwritten-unread .ensures g a e f h) ∙ c .before .before .before .before .before .before .before .if2 .taken in
+      let ℓ : ℕ = c .before .before .before .before .before .before .before .before .before .before .before .before .before .before .before .before .args .declaration .local in
       let word : findingWord 1 ℓ 0 ≡ 1 + 2 * ℓ = omega arith in
       rw (c .before .before .before .before .before .before .before .before .before .if1 .taken, yes, word) (record { counted = c .before .before .before .before .push-finding .ensures .1; entered = c .before .before .before .before .push-finding .ensures .0 }),
 )
@@ -42,7 +42,7 @@ returns-2 : tie.Need-returns-2
 returns-2 c = (
   omega arith,
   λ g a e f h.
-      let no : isOverwrittenUnread g a (c .before .before .before .before .before .before .before .args .declaration .node) ≡ false = sym (c .before .is-overwritten-unread .ensures g a e f h) ∙ c .if2 .left in
+      let no : isOverwrittenUnread g a (c .before .before .before .before .before .before .before .before .before .args .declaration .node) ≡ false = sym (c .before .is-overwritten-unread .ensures g a e f h) ∙ c .if2 .left in
       rw (c .before .before .if1 .taken, no) added-none,
 )
 

@@ -2,18 +2,12 @@
 -- Assumes nothing.
 use Prim.Native.Nat.{ℕ, _+_, _-_, _/_, _≤_, _<_}
 use mathlib.Core.Path.{_≡_}
-use mathlib.Core.List.{List}
 use native.Mathlib.Omega.{arith}
-use native.Mathlib.Decide.{ℕ-discrete}
 use lib.ListN.{getD}
 use Rattle.flow.specs.Sheet.{endOf}
-use Rattle.reach.specs.Columns.{Rising}
+use Rattle.reach.proofs.Columns.{through}
 use Rattle.reach.proofs.partition_point.Statement.{statement}
 use Rattle.reach.proofs.partition_point.Tie as tie
-
--- what ends at or before an offset takes all before it along
-through : (codes : ℕ) (spans : List ℕ) (o m : ℕ) → Rising codes spans → m < codes → endOf (getD spans m 0) ≤ o → (i : ℕ) → i < m + 1 → endOf (getD spans i 0) ≤ o
-through codes spans o m r h e i l = elim (ℕ-discrete i m) [ yes p ↦ rw p e | no q ↦ omega (arith, r i m (omega arith) h) ]
 
 abbrev Inv-loop : tie.InvT-loop
 Inv-loop spans codes offset low₀ high₀ low high =

@@ -3,6 +3,7 @@
 use Prim.Native.Nat.{_<_}
 use native.Mathlib.Omega.{arith}
 use denote.Ref.{now}
+use lib.ListN.{length}
 use Rattle.search.specs.Worklist.{State, st}
 use Rattle.search.proofs.Stamps.{stamp-marked, stamp-new}
 use borrow.Author.Needs.{needs}
@@ -12,20 +13,20 @@ use Rattle.search.proofs.insert.Tie as tie
 abbrev entered : tie.Start → State
 entered c = st (now (c .args .marks)) (now (c .args .stack)) (c .args .top)
 
-room : (c : tie.Else1) → c .before .before .args .top < 1600
+room : (c : tie.Else1) → c .before .before .args .top < length (now (c .before .before .args .stack))
 room c = c .before .before .pre .1 (c .if1 .left)
 
 mul-if1 : tie.Need-mul-if1
 mul-if1 c = search needs
 
-element-copy-out-if1 : tie.Need-element-copy-out-if1
-element-copy-out-if1 c = search needs
+slice-read-if1 : tie.Need-slice-read-if1
+slice-read-if1 c = search needs
 
 mul-marks : tie.Need-mul-marks
 mul-marks c = search needs
 
-element-write-marks : tie.Need-element-write-marks
-element-write-marks c = search needs
+slice-write-marks : tie.Need-slice-write-marks
+slice-write-marks c = search needs
 
 cast-stack : tie.Need-cast-stack
 cast-stack c = search needs
@@ -33,11 +34,17 @@ cast-stack c = search needs
 mul-stack : tie.Need-mul-stack
 mul-stack c = omega (arith, room c)
 
-element-write-stack : tie.Need-element-write-stack
-element-write-stack c = omega (arith, room c)
+slice-write-stack : tie.Need-slice-write-stack
+slice-write-stack c = omega (arith, room c)
 
 add-result : tie.Need-add-result
 add-result c = omega (arith, room c)
+
+same-length : tie.Need-same-length
+same-length c = search needs
+
+same-length-2 : tie.Need-same-length-2
+same-length-2 c = search needs
 
 returns : tie.Need-returns
 returns c = stamp-marked (c .before .before .args .stamp) (c .before .before .args .v) (entered (c .before .before)) (c .if1 .taken)
@@ -50,12 +57,14 @@ insert-spec =
     tie.close
     (tie.spec
     mul-if1
-    element-copy-out-if1
+    slice-read-if1
     mul-marks
-    element-write-marks
+    slice-write-marks
     cast-stack
     mul-stack
-    element-write-stack
+    slice-write-stack
     add-result
     returns
+    same-length
+    same-length-2
     returns-2)

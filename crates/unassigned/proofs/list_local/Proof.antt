@@ -2,6 +2,7 @@
 -- Assumes nothing.
 use Prim.Native.Nat.{_≤_}
 use mathlib.Core.Path.{sym}
+use native.Mathlib.Nat.{lt-of-lt-of-le}
 use native.Mathlib.Omega.{arith}
 use lib.ListN.{length}
 use Rattle.flow.specs.Graph.{graph}
@@ -12,22 +13,25 @@ use Rattle.unassigned.proofs.list_local.Statement.{statement}
 use Rattle.unassigned.proofs.list_local.Tie as tie
 
 declared-at-requires : tie.Need-declared-at-requires
-declared-at-requires c κs = search needs
+declared-at-requires c κs =
+    let j = c .before .before .before .before .before .before .before .before .before .before .before .before .before .before .before .before .before .pre .0 in
+    let p = j .judges .pass in
+    (lt-of-lt-of-le (j .inside) (p .named .nodes-long), lt-of-lt-of-le (j .inside) (p .named .ends-long), lt-of-lt-of-le (j .inside) (p .facts-long), lt-of-lt-of-le (j .inside) (p .located .lost-long))
 
 walk-if-due-requires : tie.Need-walk-if-due-requires
 walk-if-due-requires c κs =
-    let j = c .before .before .before .before .before .before .before .before .before .before .before .before .before .pre .0 in
+    let j = c .before .before .before .before .before .before .before .before .before .before .before .before .before .before .before .before .before .before .before .before .pre .0 in
     let p = j .judges .pass in
-    let r = c .before .before .before .before .before .before .before .before .before .before .before .before .before .pre .1 .0 .0 in
-    ((p .charted .long, p .charted .few), (local-cut p _ (j .inside), (local-placed p _ (j .inside), (r .fresh, r .long))))
+    let r = c .before .before .before .before .before .before .before .before .before .before .before .before .before .before .before .before .before .before .before .before .pre .1 .0 .0 in
+    ((p .charted .long, p .charted .few), ((local-cut p _ (j .inside), lt-of-lt-of-le (j .inside) (p .named .few)), (local-placed p _ (j .inside), (r .fresh, r .long))))
 
 push-walked-requires : tie.Need-push-walked-requires
 push-walked-requires c κs =
-    let j = c .before .before .before .before .before .before .before .before .before .before .before .before .before .before .before .before .before .pre .0 in
+    let j = c .before .before .before .before .before .before .before .before .before .before .before .before .before .before .before .before .before .before .before .before .before .before .before .before .before .before .before .before .pre .0 in
     let p = j .judges .pass in
-    let few : c .before .before .before .walk-if-due .result .first ≤ 1024 = omega (arith, c .before .before .before .walk-if-due .ensures .1 .within, p .located .few) in
-    let inside : c .before .before .before .walk-if-due .result .first ≤ length (c .before .before .before .before .before .before .before .before .before .before .before .before .before .before .before .before .before .args .use-span .now) = omega (arith, c .before .before .before .walk-if-due .ensures .1 .within, p .located .same) in
-    ((local-cut p _ (j .inside) .few, c .before .before .before .before .before .before .before .before .before .before .before .before .before .before .before .before .before .pre .1 .0 .1, few, inside), (omega (arith, c .before .before .before .before .before .before .before .before .before .before .before .before .before .before .before .before .before .pre .1 .1 .words-hold), omega (arith, c .before .before .before .before .before .before .before .before .before .before .before .before .before .before .before .before .before .pre .1 .1 .spans-hold)))
+    let few : c .before .before .before .before .before .before .before .walk-if-due .result .first ≤ 1024 = omega (arith, c .before .before .before .before .before .before .before .walk-if-due .ensures .1 .within, p .located .few) in
+    let inside : c .before .before .before .before .before .before .before .walk-if-due .result .first ≤ length (c .before .before .before .before .before .before .before .before .before .before .before .before .before .before .before .before .before .before .before .before .before .before .before .before .before .before .before .before .args .use-span .now) = omega (arith, c .before .before .before .before .before .before .before .walk-if-due .ensures .1 .within, p .located .same) in
+    ((lt-of-lt-of-le (j .inside) (p .named .few), c .before .before .before .before .before .before .before .before .before .before .before .before .before .before .before .before .before .before .before .before .before .before .before .before .before .before .before .before .pre .1 .0 .1, few, inside), (omega (arith, c .before .before .before .before .before .before .before .before .before .before .before .before .before .before .before .before .before .before .before .before .before .before .before .before .before .before .before .before .pre .1 .1 .words-hold), omega (arith, c .before .before .before .before .before .before .before .before .before .before .before .before .before .before .before .before .before .before .before .before .before .before .before .before .before .before .before .before .pre .1 .1 .spans-hold)))
 
 same-length : tie.Need-same-length
 same-length c = search needs
@@ -38,12 +42,18 @@ same-length-2 c = search needs
 same-length-3 : tie.Need-same-length-3
 same-length-3 c = search needs
 
+same-length-4 : tie.Need-same-length-4
+same-length-4 c = search needs
+
+same-length-5 : tie.Need-same-length-5
+same-length-5 c = search needs
+
 returns : tie.Need-returns
 returns c =
-    let d = c .before .before .before .before .before .before .before .before .before .before .before .before .before .declared-at in
-    let w = c .before .before .before .before .before .before .before .before .before .before .walk-if-due in
+    let d = c .before .before .before .before .before .before .before .before .before .before .before .before .before .before .before .before .before .declared-at in
+    let w = c .before .before .before .before .before .before .before .before .before .before .before .before .before .before .walk-if-due in
     let q = c .before .before .before .before .before .before .push-walked .ensures in
-    let ℓ = c .before .before .before .before .before .before .before .before .before .before .before .before .before .before .before .before .before .before .before .before .before .before .before .before .args .local in (
+    let ℓ = c .before .before .before .before .before .before .before .before .before .before .before .before .before .before .before .before .before .before .before .before .before .before .before .before .before .before .before .before .before .before .before .before .before .before .before .args .local in (
       λ S U names h p.
           let us = usesOf S U ℓ in
           let t = d .ensures .1 (localAt S ℓ) (allFound us) (p .known ℓ h) (p .located .kept ℓ h) in
@@ -61,4 +71,6 @@ list-local-spec =
     same-length
     same-length-2
     same-length-3
+    same-length-4
+    same-length-5
     returns)

@@ -17,15 +17,14 @@ enum-known-found c = search needs
 
 -- the place is one of the part's
 place : (c : tie.After-known-told) → c .before .found .given .0 .0 < length (now (c .before .before .before .before .args .mine))
-place c = let s = c .before .before .before .before in subst (InFirst (length (now (s .args .mine)))) (c .before .found .given .1) (s .pre .0)
+place c = let s = c .before .before .before .before in subst (InFirst (length (now (s .args .mine)))) (c .before .found .given .1) (s .pre)
 
 cell-requires : tie.Need-cell-requires
 cell-requires c κs = place c
 
 add-result : tie.Need-add-result
 add-result c =
-    let s = c .before .before .before .before .before in
-    omega (arith, c .cell .ensures, s .pre .1 (c .before .before .found .given .0 .0) (place (c .before)))
+    omega (arith, c .cell .ensures, c .before .before .before .before .shared-slice-known .given (c .before .before .found .given .0 .0))
 
 enum-told : tie.Need-enum-told
 enum-told c = search needs

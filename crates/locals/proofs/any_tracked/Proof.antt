@@ -1,14 +1,14 @@
--- `local_flow::any_tracked` meets its contract. The loop's invariant: none of the locals passed is tracked.
+-- `locals::any_tracked` meets its contract. The loop's invariant: none of the locals passed is tracked.
 -- Assumes nothing.
 use Prim.Native.Nat.{_-_, _≤_}
 use mathlib.Core.Path.{sym, _∙_}
 use mathlib.Core.Bool.{false≢true}
 use native.Mathlib.Omega.{arith}
-use Rattle.local_flow.specs.Sheets.{NoneTracked}
-use Rattle.local_flow.proofs.Columns.{none-first, none-more}
+use Rattle.locals.specs.Facts.{NoneTracked}
+use Rattle.locals.proofs.Facts.{none-first, none-more}
 use borrow.Author.Needs.{needs}
-use Rattle.local_flow.proofs.any_tracked.Statement.{statement}
-use Rattle.local_flow.proofs.any_tracked.Tie as tie
+use Rattle.locals.proofs.any_tracked.Statement.{statement}
+use Rattle.locals.proofs.any_tracked.Tie as tie
 
 abbrev Inv-loop : tie.InvT-loop
 Inv-loop facts names i₀ i = (i ≤ names) × NoneTracked i facts
@@ -22,8 +22,8 @@ loop-holds c = (omega arith, none-first)
 mul-is-tracked : tie.Need-mul-is-tracked Inv-loop μ-loop
 mul-is-tracked c = search needs
 
-element-copy-out-is-tracked : tie.Need-element-copy-out-is-tracked Inv-loop μ-loop
-element-copy-out-is-tracked c = search needs
+shared-slice-read-is-tracked : tie.Need-shared-slice-read-is-tracked Inv-loop μ-loop
+shared-slice-read-is-tracked c = search needs
 
 is-tracked-requires : tie.Need-is-tracked-requires Inv-loop μ-loop
 is-tracked-requires c κs = search needs
@@ -32,7 +32,7 @@ returns : tie.Need-returns Inv-loop μ-loop
 returns c = λ e. absurd (false≢true (sym e))
 
 add-i : tie.Need-add-i Inv-loop μ-loop
-add-i c = omega (arith, c .before .before .before .loop-test .taken, c .before .before .before .before .before .pre)
+add-i c = omega (arith, c .before .before .before .loop-test .taken, c .before .before .before .before .before .before .pre)
 
 loop-less : tie.Need-loop-less Inv-loop μ-loop
 loop-less c = omega (arith, c .before .before .before .loop-test .taken)
@@ -51,7 +51,7 @@ any-tracked-spec =
     μ-loop
     loop-holds
     mul-is-tracked
-    element-copy-out-is-tracked
+    shared-slice-read-is-tracked
     is-tracked-requires
     returns
     add-i

@@ -1,0 +1,89 @@
+-- `local_flow::compute_small` meets its contract: columns of 128 cells are memory for it.
+-- Assumes nothing.
+use Rattle.local_flow.proofs.Columns.{memory}
+use borrow.Author.Needs.{needs}
+use Rattle.local_flow.proofs.compute_small.Statement.{statement}
+use Rattle.local_flow.proofs.compute_small.Tie as tie
+
+slice-aggregate-compute-in : tie.Need-slice-aggregate-compute-in
+slice-aggregate-compute-in c = search needs
+
+slice-aggregate-compute-in-2 : tie.Need-slice-aggregate-compute-in-2
+slice-aggregate-compute-in-2 c = search needs
+
+slice-aggregate-compute-in-3 : tie.Need-slice-aggregate-compute-in-3
+slice-aggregate-compute-in-3 c = search needs
+
+slice-aggregate-compute-in-4 : tie.Need-slice-aggregate-compute-in-4
+slice-aggregate-compute-in-4 c = search needs
+
+slice-aggregate-compute-in-5 : tie.Need-slice-aggregate-compute-in-5
+slice-aggregate-compute-in-5 c = search needs
+
+slice-aggregate-compute-in-6 : tie.Need-slice-aggregate-compute-in-6
+slice-aggregate-compute-in-6 c = search needs
+
+slice-aggregate-compute-in-7 : tie.Need-slice-aggregate-compute-in-7
+slice-aggregate-compute-in-7 c = search needs
+
+slice-aggregate-compute-in-8 : tie.Need-slice-aggregate-compute-in-8
+slice-aggregate-compute-in-8 c = search needs
+
+slice-aggregate-compute-in-9 : tie.Need-slice-aggregate-compute-in-9
+slice-aggregate-compute-in-9 c = search needs
+
+slice-aggregate-compute-in-10 : tie.Need-slice-aggregate-compute-in-10
+slice-aggregate-compute-in-10 c = search needs
+
+slice-aggregate-compute-in-11 : tie.Need-slice-aggregate-compute-in-11
+slice-aggregate-compute-in-11 c = search needs
+
+slice-aggregate-compute-in-12 : tie.Need-slice-aggregate-compute-in-12
+slice-aggregate-compute-in-12 c = search needs
+
+slice-aggregate-compute-in-13 : tie.Need-slice-aggregate-compute-in-13
+slice-aggregate-compute-in-13 c = search needs
+
+slice-aggregate-compute-in-14 : tie.Need-slice-aggregate-compute-in-14
+slice-aggregate-compute-in-14 c = search needs
+
+compute-in-requires : tie.Need-compute-in-requires
+compute-in-requires c κs =
+    let few = c .before .before .before .before .before .before .before .before .before .before .before .before .before .before .before .before .before .before .before .before .before .before .before .before .before .before .before .before .before .before .before .pre .1 .1 in
+    (c .before .before .before .before .before .before .before .before .before .before .before .before .before .before .before .before .before .before .before .before .before .before .before .before .before .before .before .before .before .before .before .pre .0, (c .before .before .before .before .before .before .before .before .before .before .before .before .before .before .before .before .before .before .before .before .before .before .before .before .before .before .before .before .before .before .before .pre .1 .0, memory 128 (few .0) (few .1) (few .2)))
+
+same-length : tie.Need-same-length
+same-length c = search needs
+
+same-length-2 : tie.Need-same-length-2
+same-length-2 c = search needs
+
+same-length-3 : tie.Need-same-length-3
+same-length-3 c = search needs
+
+returns : tie.Need-returns
+returns c = search needs
+
+pub compute-small-spec : {M : Type 1} → statement M
+compute-small-spec =
+    tie.close
+    (tie.spec
+    slice-aggregate-compute-in
+    slice-aggregate-compute-in-2
+    slice-aggregate-compute-in-3
+    slice-aggregate-compute-in-4
+    slice-aggregate-compute-in-5
+    slice-aggregate-compute-in-6
+    slice-aggregate-compute-in-7
+    slice-aggregate-compute-in-8
+    slice-aggregate-compute-in-9
+    slice-aggregate-compute-in-10
+    slice-aggregate-compute-in-11
+    slice-aggregate-compute-in-12
+    slice-aggregate-compute-in-13
+    slice-aggregate-compute-in-14
+    compute-in-requires
+    same-length
+    same-length-2
+    same-length-3
+    returns)
