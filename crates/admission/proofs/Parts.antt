@@ -10,7 +10,7 @@ use lib.Seq.{length-take-le}
 use borrow.Author.Tests.{ltb-false, eqb-true, not-false}
 use Rattle.flow.specs.Refusals.{miscount}
 use Rattle.flow.specs.Sheet.{Item, together, count, items}
-use Rattle.admission.proofs.Bools.{or-parts}
+use Rattle.sheet_tests.proofs.Bools.{or-parts}
 
 -- the parts as the code takes them
 abbrev pub firstPart : ℕ → List ℕ → List ℕ

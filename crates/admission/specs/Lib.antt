@@ -1,3 +1,1 @@
-pub mod Stack
-pub mod Turn
 pub mod Lengths

@@ -6,15 +6,15 @@ ghost use Rattle.flow.specs.Refusals.{lowest, sheetTests, sheetVerdict, chartVe
 use flow::Bench;
 use flow::Refusal;
 use flow::Verdict;
+use nesting_tests::line::off_the_line;
+use nesting_tests::nest::bad_nesting;
+use sheet_tests::depth::too_deep;
+use sheet_tests::item::bad_item;
+use sheet_tests::name::bad_name;
+use sheet_tests::use_words::bad_use;
+use sheet_tests::use_words::name_count;
 
-mod depth;
-mod item;
-mod kind;
-mod line;
-mod name;
-mod nest;
 mod room;
-mod uses;
 
 // The table's number of a refusal.
 pub fn number(refusal: Refusal) -> u64
@@ -41,19 +41,19 @@ fn tests_verdict(sheet: &[u64]) -> Verdict
     let m = 2 + sheet[0] as usize;
     let kinds = &sheet[2..m];
     let spans = &sheet[m..];
-    if item::bad_item(outer, kinds, spans) {
+    if bad_item(outer, kinds, spans) {
         return Verdict::Refused(Refusal::BadItem);
     }
-    if depth::too_deep(kinds, spans) {
+    if too_deep(kinds, spans) {
         return Verdict::Refused(Refusal::TooDeep);
     }
-    if nest::bad_nesting(kinds, spans) {
+    if bad_nesting(kinds, spans) {
         return Verdict::Refused(Refusal::BadNesting);
     }
-    if line::off_the_line(outer, kinds, spans) {
+    if off_the_line(outer, kinds, spans) {
         return Verdict::Refused(Refusal::OffTheLine);
     }
-    if name::bad_name(kinds, spans) {
+    if bad_name(kinds, spans) {
         return Verdict::Refused(Refusal::BadName);
     }
     Verdict::Admitted
@@ -85,9 +85,9 @@ fn use_is_bad(sheet: &[u64], uses: &[u64]) -> bool
     ensures { λ r. ⌜ r ≡ Rattle.flow.specs.Refusals.badUse (now (sheet .entry)) (now (uses .entry)) ⌝ }
 {
     let m = 2 + sheet[0] as usize;
-    let names = uses::name_count(&sheet[2..m], &sheet[m..]);
+    let names = name_count(&sheet[2..m], &sheet[m..]);
     let n = 1 + uses[0] as usize;
-    uses::bad_use(names, &uses[1..n], &uses[n..])
+    bad_use(names, &uses[1..n], &uses[n..])
 }
 
 pub fn judge_verdict(bench: Bench, sheet: &[u64], uses: &[u64]) -> Verdict

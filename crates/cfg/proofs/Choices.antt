@@ -4,19 +4,52 @@ use mathlib.Core.Path.{_≡_, refl, sym, ap, _∙_}
 use mathlib.Core.List.{List}
 use mathlib.Core.Bool.{Bool, true, false, cond}
 use Prim.Native.Nat.{ℕ, _+_, _≤_, _<_}
+use native.Mathlib.Decide.{decLt}
 use native.Mathlib.Omega.{arith}
 use lib.ListN.{length, getD}
 use Rattle.flow.specs.Sheet.{kindOf, argumentOf, scopeEndOf}
 use Rattle.flow.specs.Kinds.{closes}
 use Rattle.flow.specs.Tree.{Arms, Open, simple, do-block, no-more, elseif, otherwise, inFront, opened, outer}
+use Rattle.flow.specs.Size.{blockNodes, armNodes}
 use Rattle.flow.specs.Graph.{Graph, Settings, nodeCount, code, moveTo, connect, simpleStmt, buildStmt, buildBlock, buildArms, inside, entered, closeInto}
-use Rattle.blocks.specs.Open.{itemAt, openAt}
+use Rattle.blocks.specs.Open.{itemAt, openAt, Ender}
+use Rattle.blocks.proofs.Scan.{ender-closes}
 use Rattle.blocks.proofs.Parse.{read-at, read-end, read-do, read-elseif, read-else, read-close, read-simple}
 use Rattle.cfg_steps.specs.declared.GraphBuilder.{GraphBuilder}
 use Rattle.cfg_steps.specs.Columns.{Cols, graphOf, settingsOf, Good, Did}
-use Rattle.cfg.specs.Steps.{bare, Moved, Stepped, Opened, Scoped, Chosen}
+use Rattle.cfg.specs.Steps.{bare, Moved, Stepped, Opened, Scoped, Arm, Armed, Chosen, ArmRoom}
 use Rattle.cfg.proofs.Blocks.{nodes-of, moved-none, moved-trans, moved-did, past-close}
+use Rattle.cfg.proofs.Rooms.{elseif-room, else-room, ended-on, arms-left}
 use Rattle.cfg.proofs.Statements.{withItem, moved-item, graph-item}
+
+-- ---- arms on their way
+
+pub arm-else : (k : ℕ) → Arm k → (k ≡ 6 → ⊥) → k ≡ 7
+arm-else k h q = omega (arith, h .0, h .1)
+
+module _ {ks ss : List ℕ} {join test : ℕ} {falls : Bool} {b : GraphBuilder} {x : Cols} where
+  pub armed-none : Good b x → b .item ≤ length ks → (b .item < length ks → Ender (kindOf (getD ks (b .item) 0))) → test < b .nodes → b .nodes + armNodes (openAt ks ss (b .item) .top .arms) ≤ 1600 → Armed ks ss join test falls b x test falls b x
+  armed-none ok h n q room = record { moved = moved-none ok h; ended = n; tested = q; room = room; rest = refl; still = refl }
+
+  module _ {test' : ℕ} {falls' : Bool} {t : GraphBuilder} {y : Cols} (g : Armed ks ss join test falls b x test' falls' t y) where
+    pub armed-more : {test'' : ℕ} {falls'' : Bool} {r : GraphBuilder} {z : Cols} → Armed ks ss join test' falls' t y test'' falls'' r z → Armed ks ss join test falls b x test'' falls'' r z
+    armed-more {test''} {falls''} {r} {z} a = record {
+      moved = moved-trans (g .moved) (a .moved);
+      ended = a .ended;
+      tested = a .tested;
+      room = a .room;
+      rest = a .rest ∙ g .rest;
+      still =
+          sym (ap (λ (S : Settings). buildArms (openAt ks ss (r .item) .top .arms) test'' join falls'' S (graphOf ks ss r z)) (g .moved .settings)) ∙ a .still
+          ∙ ap (λ (S : Settings). buildArms (openAt ks ss (t .item) .top .arms) test' join falls' S (graphOf ks ss t y)) (g .moved .settings) ∙ g .still;
+    }
+
+    pub armed-chosen : {r : GraphBuilder} {z : Cols} → Chosen ks ss test' join falls' t y r z → Chosen ks ss test join falls b x r z
+    armed-chosen a = record {
+      moved = moved-trans (g .moved) (a .moved);
+      reads = a .reads ∙ g .rest;
+      built = a .built ∙ ap (λ (S : Settings). buildArms (openAt ks ss (t .item) .top .arms) test' join falls' S (graphOf ks ss t y)) (g .moved .settings) ∙ g .still;
+    }
 
 module _ (ks ss : List ℕ) (e : length ss ≡ length ks) (few : length ks ≤ 1024) where
   -- past all arms
@@ -31,7 +64,7 @@ module _ (ks ss : List ℕ) (e : length ss ≡ length ks) (few : length ks ≤ 1
         ∙ sym (ap (λ (as' : Arms). buildArms as' test join falls (settingsOf b x) (graphOf ks ss b x)) a);
   }
 
-  pub chosen-over : {b r : GraphBuilder} {x y : Cols} (test join : ℕ) (falls : Bool) (j : ℕ) → Good b x → length ks ≤ b .item → b .item ≤ length ks → j ≡ b .item
+  chosen-over : {b r : GraphBuilder} {x y : Cols} (test join : ℕ) (falls : Bool) (j : ℕ) → Good b x → length ks ≤ b .item → b .item ≤ length ks → j ≡ b .item
       → Did ks (λ js g. cond falls (connect test join g) g) 0 (withItem j b) x r y → Chosen ks ss test join falls b x r y
   chosen-over {b} test join falls j ok h k q d =
       let n = read-end ks ss e (b .item) h in
@@ -47,7 +80,7 @@ module _ (ks ss : List ℕ) (e : length ss ≡ length ks) (few : length ks ≤ 1
     abbrev next : Open
     next = openAt ks ss (b .item + 1)
 
-    pub chosen-end : {r : GraphBuilder} {y : Cols} (test join : ℕ) (falls : Bool) (j : ℕ) → closes (kindOf word) ≡ true → j ≡ b .item + 1
+    chosen-end : {r : GraphBuilder} {y : Cols} (test join : ℕ) (falls : Bool) (j : ℕ) → closes (kindOf word) ≡ true → j ≡ b .item + 1
         → Did ks (λ js g. cond falls (connect test join g) g) 0 (withItem j b) x r y → Chosen ks ss test join falls b x r y
     unfolding opened
     chosen-end test join falls j c q d =
@@ -55,28 +88,30 @@ module _ (ks ss : List ℕ) (e : length ss ≡ length ks) (few : length ks ≤ 1
         arms-over test join falls j ok (omega arith) (omega arith) (ap (λ (o : Open). o .top .arms) n) (ap (openAt ks ss) q ∙ sym (ap outer n)) d
 
     -- one arm: its head h, its block, and on to the join
-    arm-chosen : {h t c r : GraphBuilder} {y z u v : Cols} (as' rest : Arms) (f : List ℕ → Graph → Graph) (n s test test' join : ℕ) (falls falls' : Bool) (j : ℕ)
-        → j ≡ b .item + 1 → openAt ks ss (b .item) ≡ opened as' 0 (outer next) → rest ≡ next .top .arms
-        → Did ks f n (withItem j b) x h y → Scoped ks ss s h y t z → Did ks (λ js. closeInto join) 0 t z c u → Chosen ks ss test' join falls' c u r v
+    arm-built : {h t c : GraphBuilder} {y z u : Cols} (as' : Arms) (f : List ℕ → Graph → Graph) (n s test test' join : ℕ) (falls falls' : Bool)
+        → openAt ks ss (b .item) ≡ opened as' 0 (outer next)
+        → Did ks f n (withItem (b .item + 1) b) x h y → Scoped ks ss s h y t z → Did ks (λ js. closeInto join) 0 t z c u
+        → test' < b .nodes + n → (b .nodes + n) + (blockNodes (next .top .body) + armNodes (next .top .arms)) ≤ 1600
         → ((g : Graph) → nodeCount g ≡ b .nodes
-        → buildArms rest test' join falls' (settingsOf b x) (closeInto join (buildBlock (next .top .body) (inside s (next .top .body) (settingsOf b x) (f ss g)) (entered (next .top .body) (f ss g))))
+        → buildArms (next .top .arms) test' join falls' (settingsOf b x) (closeInto join (buildBlock (next .top .body) (inside s (next .top .body) (settingsOf b x) (f ss g)) (entered (next .top .body) (f ss g))))
         ≡ buildArms as' test join falls (settingsOf b x) g)
-        → Chosen ks ss test join falls b x r v
+        → Armed ks ss join test falls b x test' falls' c u
     unfolding opened
-    arm-chosen {h} {t} {c} {r} {y} {z} {u} {v} as' rest f n s test test' join falls falls' j q rd er hd sc cl ch eq =
-        let m1 : Moved ks b x (withItem j b) x = moved-item j few (omega arith) (omega arith) (moved-none ok (omega arith)) in
+    arm-built {h} {t} {c} {y} {z} {u} as' f n s test test' join falls falls' rd hd sc cl tl room eq =
+        let m1 : Moved ks b x (withItem (b .item + 1) b) x = moved-item (b .item + 1) few (omega arith) (omega arith) (moved-none ok (omega arith)) in
         let m2 : Moved ks b x h y = moved-trans m1 (moved-did (omega arith) hd) in
         let m3 : Moved ks b x c u = moved-trans (moved-trans m2 (sc .moved)) (moved-did (sc .moved .within) cl) in
-        let hi' : h .item ≡ b .item + 1 = hd .item ∙ q in
-        let shut : openAt ks ss (c .item) ≡ bare next = ap (openAt ks ss) (cl .item) ∙ sc .shut ∙ ap (λ (k : ℕ). bare (openAt ks ss k)) hi' in
+        let hi : h .item ≡ b .item + 1 = hd .item in
+        let shut : openAt ks ss (c .item) ≡ bare next = ap (openAt ks ss) (cl .item) ∙ sc .shut ∙ ap (λ (k : ℕ). bare (openAt ks ss k)) hi in
         record {
-          moved = moved-trans m3 (ch .moved);
-          reads = ch .reads ∙ ap outer shut ∙ sym (ap outer rd);
-          built =
-              ch .built ∙ ap (λ (w : Open). buildArms (w .top .arms) test' join falls' (settingsOf c u) (graphOf ks ss c u)) shut
-              ∙ ap (λ (S : Settings). buildArms (next .top .arms) test' join falls' S (graphOf ks ss c u)) (m3 .settings)
-              ∙ ap (buildArms (next .top .arms) test' join falls' (settingsOf b x)) (cl .built ss ∙ ap (closeInto join) (sc .built ∙ inner hi' (hd .built ss ∙ ap (f ss) (graph-item ks ss j b x)) (m2 .settings)))
-              ∙ sym (ap (λ (w : Arms). buildArms w test' join falls' (settingsOf b x) (closeInto join (made (b .item + 1) (settingsOf b x) (f ss (graphOf ks ss b x))))) er)
+          moved = m3;
+          ended = ended-on ks t c (cl .item) (sc .ended);
+          tested = omega (arith, hd .nodes, sc .moved .grown .nodes, cl .nodes);
+          room = arms-left (b .item + 1) c (hd .good) hi sc (cl .item) (cl .nodes) (omega (arith, room, hd .nodes));
+          rest = ap outer shut ∙ sym (ap outer rd);
+          still =
+              ap (λ (w : Open). buildArms (w .top .arms) test' join falls' (settingsOf b x) (graphOf ks ss c u)) shut
+              ∙ ap (buildArms (next .top .arms) test' join falls' (settingsOf b x)) (cl .built ss ∙ ap (closeInto join) (sc .built ∙ inner hi (hd .built ss ∙ ap (f ss) (graph-item ks ss (b .item + 1) b x)) (m2 .settings)))
               ∙ eq (graphOf ks ss b x) (nodes-of ks ss ok)
               ∙ sym (ap (λ (w : Open). buildArms (w .top .arms) test join falls (settingsOf b x) (graphOf ks ss b x)) rd);
         }
@@ -88,22 +123,22 @@ module _ (ks ss : List ℕ) (e : length ss ≡ length ks) (few : length ks ≤ 1
             → made (h .item) (settingsOf h y) (graphOf ks ss h y) ≡ made (b .item + 1) (settingsOf b x) (f ss (graphOf ks ss b x))
         inner p k w = ap (λ (m : ℕ). made m (settingsOf h y) (graphOf ks ss h y)) p ∙ ap (λ (S : Settings). made (b .item + 1) S (graphOf ks ss h y)) w ∙ ap (made (b .item + 1) (settingsOf b x)) k
 
-    pub chosen-elseif : {h t c r : GraphBuilder} {y z u v : Cols} (s test join : ℕ) (falls : Bool) (j : ℕ) → kindOf word ≡ 6 → s ≡ scopeEndOf word → j ≡ b .item + 1
-        → Did ks (λ js g. code (getD js (b .item) 0) (moveTo test g)) 1 (withItem j b) x h y → Scoped ks ss s h y t z → Did ks (λ js. closeInto join) 0 t z c u → Chosen ks ss (b .nodes) join falls c u r v
-        → Chosen ks ss test join falls b x r v
+    pub elseif-built : {h t c : GraphBuilder} {y z u : Cols} (s test join : ℕ) (falls : Bool) → kindOf word ≡ 6 → s ≡ scopeEndOf word → ArmRoom ks b
+        → Did ks (λ js g. code (getD js (b .item) 0) (moveTo test g)) 1 (withItem (b .item + 1) b) x h y → Scoped ks ss s h y t z → Did ks (λ js. closeInto join) 0 t z c u
+        → Armed ks ss join test falls b x (b .nodes) falls c u
     unfolding buildArms
-    chosen-elseif s test join falls j k es q hd sc cl ch =
-        arm-chosen (elseif word (getD ss (b .item) 0) (next .top .body) (next .top .arms)) (next .top .arms) _ 1 s test (b .nodes) join falls falls j q
-        (read-at ks ss e (b .item) lt ∙ read-elseif (itemAt ks ss (b .item)) next k) refl hd sc cl ch
+    elseif-built s test join falls k es room hd sc cl =
+        arm-built (elseif word (getD ss (b .item) 0) (next .top .body) (next .top .arms)) _ 1 s test (b .nodes) join falls falls
+        (read-at ks ss e (b .item) lt ∙ read-elseif (itemAt ks ss (b .item)) next k) hd sc cl (omega arith) (omega (arith, elseif-room ks ss e b lt room k))
         (λ g c. rw es (ap (λ (n : ℕ). buildArms (next .top .arms) n join falls (settingsOf b x) (closeInto join (buildBlock (next .top .body) (inside (scopeEndOf word) (next .top .body) (settingsOf b x) (code (getD ss (b .item) 0) (moveTo test g))) (entered (next .top .body) (code (getD ss (b .item) 0) (moveTo test g)))))) (sym c)))
 
-    pub chosen-else : {h t c r : GraphBuilder} {y z u v : Cols} (s test join : ℕ) (falls : Bool) (j : ℕ) → kindOf word ≡ 7 → s ≡ scopeEndOf word → j ≡ b .item + 1
-        → Did ks (λ js. moveTo test) 0 (withItem j b) x h y → Scoped ks ss s h y t z → Did ks (λ js. closeInto join) 0 t z c u → Chosen ks ss test join false c u r v
-        → Chosen ks ss test join falls b x r v
+    pub else-built : {h t c : GraphBuilder} {y z u : Cols} (s test join : ℕ) (falls : Bool) → kindOf word ≡ 7 → s ≡ scopeEndOf word → test < b .nodes → ArmRoom ks b
+        → Did ks (λ js. moveTo test) 0 (withItem (b .item + 1) b) x h y → Scoped ks ss s h y t z → Did ks (λ js. closeInto join) 0 t z c u
+        → Armed ks ss join test falls b x test false c u
     unfolding buildArms
-    chosen-else s test join falls j k es q hd sc cl ch =
-        arm-chosen (otherwise word (next .top .body) (next .top .arms)) (next .top .arms) _ 0 s test test join falls false j q
-        (read-at ks ss e (b .item) lt ∙ read-else (itemAt ks ss (b .item)) next k) refl hd sc cl ch (λ g c. rw es)
+    else-built s test join falls k es tl room hd sc cl =
+        arm-built (otherwise word (next .top .body) (next .top .arms)) _ 0 s test test join falls false
+        (read-at ks ss e (b .item) lt ∙ read-else (itemAt ks ss (b .item)) next k) hd sc cl (omega arith) (omega (arith, else-room ks ss e b lt room k)) (λ g c. rw es)
 
     -- ---- a statement
 
@@ -139,3 +174,13 @@ module _ (ks ss : List ℕ) (e : length ss ≡ length ks) (few : length ks ≤ 1
       reads = read-at ks ss e (b .item) lt ∙ read-simple (itemAt ks ss (b .item)) next q ∙ ap (λ (j : ℕ). inFront (simple word (getD ss (b .item) 0)) (openAt ks ss j)) (sym (d .item));
       built = d .built ss;
     }
+
+  -- where no arm follows
+  pub chosen-last : {b r : GraphBuilder} {x y : Cols} (test join : ℕ) (falls : Bool) (j : ℕ) → Good b x → b .item ≤ length ks
+      → (b .item < length ks → Ender (kindOf (getD ks (b .item) 0))) → (b .item < length ks → Arm (kindOf (getD ks (b .item) 0)) → ⊥)
+      → (b .item < length ks → j ≡ b .item + 1) → (length ks ≤ b .item → j ≡ b .item)
+      → Did ks (λ js g. cond falls (connect test join g) g) 0 (withItem j b) x r y → Chosen ks ss test join falls b x r y
+  chosen-last {b} test join falls j ok k n q j1 j2 d = elim (decLt (b .item) (length ks)) [
+    | yes h ↦ chosen-end ok h test join falls j (ender-closes (n h) (λ p. q h (omega arith, omega arith)) (λ p. q h (omega arith, omega arith))) (j1 h) d
+    | no h ↦ chosen-over test join falls j ok (omega arith) k (j2 (omega arith)) d
+  ]

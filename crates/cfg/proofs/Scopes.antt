@@ -11,7 +11,8 @@ use Rattle.flow.specs.Size.{blockNodes}
 use Rattle.flow.specs.Graph.{Settings, Label, buildBlock, inside, inLoop, entered, closeInto, withLabels}
 use Rattle.blocks.specs.Open.{openAt, Ender}
 use Rattle.cfg_steps.specs.declared.GraphBuilder.{GraphBuilder}
-use Rattle.cfg_steps.specs.Columns.{Cols, cols, graphOf, settingsOf, labelList, Good, Did, Entered}
+use Rattle.cfg_edges.specs.Halves.{labelList}
+use Rattle.cfg_steps.specs.Columns.{Cols, cols, graphOf, settingsOf, Good, Did, Entered}
 use Rattle.cfg_steps.proofs.Ops.{grown-trans, same-labels, take-less}
 use Rattle.cfg.specs.Steps.{bare, Finished, Scoped, Looped}
 use Rattle.cfg.proofs.Blocks.{nodes-of}

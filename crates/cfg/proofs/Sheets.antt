@@ -12,7 +12,8 @@ use Rattle.flow.specs.Tree.{Block, tree}
 use Rattle.flow.specs.Graph.{Graph, Settings, newNode, outside, start, inside, entered, buildBlock, closeInto, graph}
 use Rattle.cfg_steps.specs.declared.GraphBuilder.{GraphBuilder}
 use Rattle.blocks.specs.Open.{openAt}
-use Rattle.cfg_steps.specs.Columns.{Cols, cols, graphOf, settingsOf, labelList, painted, Good, Did}
+use Rattle.cfg_edges.specs.Halves.{labelList}
+use Rattle.cfg_steps.specs.Columns.{Cols, cols, graphOf, settingsOf, painted, Good, Did}
 use Rattle.cfg_steps.proofs.Ops.{drop-more}
 use Rattle.cfg.specs.Steps.{free, Started, Wide, Whole, Scoped}
 

@@ -73,6 +73,19 @@ pub record Looped (ks ss : List ℕ) (e after next : ℕ) (b : GraphBuilder) (x 
   pub built : graphOf ks ss r y
       ≡ closeInto next (buildBlock (openAt ks ss (b .item) .top .body) (inside e (openAt ks ss (b .item) .top .body) (inLoop after next (settingsOf b x)) (graphOf ks ss b x)) (entered (openAt ks ss (b .item) .top .body) (graphOf ks ss b x)))
 
+-- a kind that begins an arm: ELSEIF or ELSE
+abbrev pub Arm : ℕ → Type 0
+Arm k = (6 ≤ k) × (k ≤ 7)
+
+-- some arms are built: from here the arms that are left build what all of them build from there
+pub record Armed (ks ss : List ℕ) (join test : ℕ) (falls : Bool) (b : GraphBuilder) (x : Cols) (test' : ℕ) (falls' : Bool) (r : GraphBuilder) (y : Cols) : Type 0 where
+  pub moved : Moved ks b x r y
+  pub ended : r .item < length ks → Ender (kindOf (getD ks (r .item) 0))
+  pub tested : test' < r .nodes
+  pub room : r .nodes + armNodes (openAt ks ss (r .item) .top .arms) ≤ 1600
+  pub rest : outer (openAt ks ss (r .item)) ≡ outer (openAt ks ss (b .item))
+  pub still : buildArms (openAt ks ss (r .item) .top .arms) test' join falls' (settingsOf b x) (graphOf ks ss r y) ≡ buildArms (openAt ks ss (b .item) .top .arms) test join falls (settingsOf b x) (graphOf ks ss b x)
+
 -- the arms that follow the item that ends a block, and the last end
 pub record Chosen (ks ss : List ℕ) (test join : ℕ) (falls : Bool) (b : GraphBuilder) (x : Cols) (r : GraphBuilder) (y : Cols) : Type 0 where
   pub moved : Moved ks b x r y

@@ -1,15 +1,16 @@
 // The builders of a sheet's graph: a block holds statements, and a statement holds blocks.
 ghost use mathlib.Core.Path.{_≡_};
+ghost use mathlib.Core.Bool.{true, false};
 ghost use mathlib.Core.List.{List};
 ghost use Prim.Native.Nat.{ℕ, _+_, _≤_, _<_};
 ghost use lib.ListN.{length, getD};
 ghost use Rattle.flow.specs.Sheet.{kindOf, scopeEndOf};
 ghost use Rattle.blocks.specs.Open.{Ender};
 ghost use Rattle.cfg_steps.specs.Columns.{cols, Good};
-ghost use Rattle.cfg.specs.Steps.{Sane, Stepped, Opened, Finished, Scoped, Looped, Chosen, BlockRoom, EnteredRoom, StmtRoom, ArmRoom, Started, Wide, WholeRoom, Whole};
+ghost use Rattle.cfg.specs.Steps.{Sane, Stepped, Opened, Finished, Scoped, Looped, Arm, Armed, Chosen, BlockRoom, EnteredRoom, StmtRoom, ArmRoom, Started, Wide, WholeRoom, Whole};
 use blocks::ends_at;
+use cfg_edges::literal_truth;
 use cfg_steps::GraphBuilder;
-use cfg_steps::literal_truth;
 use flow::Truth;
 
 // The place past the item that ends a block, if there is one.
@@ -221,6 +222,27 @@ fn if_stmt(
     r
 }
 
+// An IF between two of its arms: its last test, and whether that test goes on to the join past them all.
+struct IfBuilder {
+    builder: GraphBuilder,
+    test: usize,
+    falls: bool,
+}
+
+// Whether ELSEIF or ELSE stands at an item.
+fn arm_follows(kinds: &[u64], at: usize) -> bool
+    ensures { λ r. ⌜ (r ≡ true → (at < length (now (kinds .entry))) × Arm (kindOf (getD (now (kinds .entry)) at 0))) × (r ≡ false → at < length (now (kinds .entry)) → Arm (kindOf (getD (now (kinds .entry)) at 0)) → ⊥) ⌝ }
+{
+    if kinds.len() <= at {
+        return false;
+    }
+    let kind = kinds[at] % 256;
+    if kind == 6 {
+        return true;
+    }
+    kind == 7
+}
+
 // The arms from the item that ends the block above on, and the last end. Without ELSE the last test goes on to the join.
 fn arms(
     kinds: &[u64],
@@ -237,28 +259,59 @@ fn arms(
     requires { ⌜ (test < b .nodes) × (join < b .nodes) ⌝ }
     ensures { λ r. ⌜ ((ss : List ℕ) → length ss ≡ length (now (kinds .entry)) → Chosen (now (kinds .entry)) ss test join falls b (cols (now (edges .entry)) (now (codes .entry)) (now (names .entry)) (now (labels .entry))) r (cols (now (edges .exit)) (now (codes .exit)) (now (names .exit)) (now (labels .exit)))) ⌝ }
 {
-    let at = b.item;
-    let mut t = b;
-    t.item = past(at, kinds.len());
-    if kinds.len() <= at {
-        return t.arms_end(edges, test, join, falls);
+    let mut s = IfBuilder {
+        builder: b,
+        test: test,
+        falls: falls,
+    };
+    let mut at = b.item;
+    while arm_follows(kinds, at) {
+        s = arm(kinds, edges, codes, names, labels, s, join);
+        at = s.builder.item;
     }
+    let mut t = s.builder;
+    t.item = past(at, kinds.len());
+    t.arms_end(edges, s.test, join, s.falls)
+}
+
+// One arm. ELSEIF brings a test of its own; past ELSE no test goes on to the join.
+fn arm(
+    kinds: &[u64],
+    edges: &mut [u64],
+    codes: &mut [u64],
+    names: &mut [u64],
+    labels: &mut [u64],
+    s: IfBuilder,
+    join: usize,
+) -> IfBuilder
+    requires { ⌜ Sane (now kinds) × Good (s .builder) (cols (now edges) (now codes) (now names) (now labels)) × (s .builder .item < length (now kinds)) × Arm (kindOf (getD (now kinds) (s .builder .item) 0)) × ArmRoom (now kinds) (s .builder) ⌝ }
+    requires { ⌜ (s .test < s .builder .nodes) × (join < s .builder .nodes) ⌝ }
+    ensures { λ r. ⌜ (s .builder .item < r .builder .item) × ((ss : List ℕ) → length ss ≡ length (now (kinds .entry)) → Armed (now (kinds .entry)) ss join (s .test) (s .falls) (s .builder) (cols (now (edges .entry)) (now (codes .entry)) (now (names .entry)) (now (labels .entry))) (r .test) (r .falls) (r .builder) (cols (now (edges .exit)) (now (codes .exit)) (now (names .exit)) (now (labels .exit)))) ⌝ }
+{
+    let at = s.builder.item;
     let w = kinds[at];
     let scope_end = w / 256 / 32;
+    let mut t = s.builder;
+    t.item = at + 1;
     if w % 256 == 6 {
         let n = t.nodes;
-        let h = t.arm_test(edges, codes, at, test);
-        let s = scoped_block(kinds, edges, codes, names, labels, h, scope_end);
-        let c = s.close_into(edges, join);
-        return arms(kinds, edges, codes, names, labels, c, n, join, falls);
+        let h = t.arm_test(edges, codes, at, s.test);
+        let b = scoped_block(kinds, edges, codes, names, labels, h, scope_end);
+        let c = b.close_into(edges, join);
+        return IfBuilder {
+            builder: c,
+            test: n,
+            falls: s.falls,
+        };
     }
-    if w % 256 == 7 {
-        t.cursor = test;
-        let s = scoped_block(kinds, edges, codes, names, labels, t, scope_end);
-        let c = s.close_into(edges, join);
-        return arms(kinds, edges, codes, names, labels, c, test, join, false);
+    t.cursor = s.test;
+    let b = scoped_block(kinds, edges, codes, names, labels, t, scope_end);
+    let c = b.close_into(edges, join);
+    IfBuilder {
+        builder: c,
+        test: s.test,
+        falls: false,
     }
-    t.arms_end(edges, test, join, falls)
 }
 
 // The statement at the builder's item.

@@ -5,23 +5,19 @@ use mathlib.Core.Logic.{_⊎_, inl, inr}
 use mathlib.Core.List.{List, [], _∷_, _++_, map, map-append}
 use mathlib.Core.Bool.{Bool, true, false, cond}
 use Prim.Native.Nat.{ℕ, zero, suc, _+_, _-_, _*_, _%_, _^_, _≤_, _<_}
-use native.Mathlib.Numerals.{add-one, sub-one}
+use native.Mathlib.Numerals.{add-one}
 use native.Mathlib.Omega.{arith}
 use native.Mathlib.Decide.{ℕ-discrete}
 use lib.ListN.{length, take, drop, getD, set, replicate, length-set, length-map, length-replicate, replicate-append-replicate, List·getD-map}
 use lib.Seq.{take-suc-set, drop-set-lt, take-set-lt, getD-take, getD-set-same, getD-set-other, drop-drop, take-take, length-take-le, map-set-same, set-append-left}
 use lib.Dec.{eqb}
 use borrow.Author.Tests.{eqb-false, ne-eqb}
-use Rattle.flow.specs.declared.Found.the-variants.{At, Nothing}
 use Rattle.flow.specs.Sheet.{startOf}
-use Rattle.flow.specs.Graph.{Graph, Nodes, Codes, Names, absent, nodeCount, newNode, connect, moveTo, advanceTo, closeInto, recordCode, setStart, code, jump, declare, labelNode}
+use Rattle.flow.specs.Graph.{Graph, Nodes, Codes, Names, absent, nodeCount, newNode, connect, moveTo, advanceTo, closeInto, recordCode, setStart, code, jump, declare}
 use Rattle.cfg_steps.specs.declared.GraphBuilder.{GraphBuilder}
-use Rattle.cfg_steps.specs.Columns.{Cols, cols, lo, hi, joined, labelList, hasStart, painted, nameNode, nameItem, graphOf, settingsOf, Good, Standing, Grown, Did}
-
--- the current node is a node, unless it is absent
-pub is-node : {a n : ℕ} → (a < n) ⊎ (a ≡ absent) → (a ≡ absent → ⊥) → a < n
-is-node (inl h) q = h
-is-node (inr e) q = absurd (q e)
+use Rattle.cfg_edges.specs.Halves.{lo, hi, joined, labelList}
+use Rattle.cfg_edges.proofs.Lookup.{is-node}
+use Rattle.cfg_steps.specs.Columns.{Cols, cols, hasStart, painted, nameNode, nameItem, graphOf, settingsOf, Good, Standing, Grown, Did}
 
 -- one place more
 pub take-more : (n v : ℕ) (l : List ℕ) → n < length l → take (n + 1) (set l n v) ≡ take n l ++ (v ∷ [])
@@ -605,18 +601,6 @@ unfolding jump
 jump-did e c n l i v p q =
     let d = did-trans p q in
     record { good = d .good; grown = d .grown; item = d .item; nodes = omega arith; labels = d .labels; settings = d .settings; built = d .built }
-
--- ---- looking a label up
-
-pub look-step : (a k : ℕ) (ls : List ℕ) → 0 < k
-    → labelNode a (labelList k ls) ≡ cond (eqb a (lo (getD ls (k - 1) 0))) (At (hi (getD ls (k - 1) 0))) (labelNode a (labelList (k - 1) ls))
-unfolding labelNode labelList
-look-step a zero ls h = absurd (omega arith)
-look-step a (suc j) ls h = rw (sub-one (suc j))
-
-pub look-none : (a : ℕ) (ls : List ℕ) → labelNode a (labelList 0 ls) ≡ Nothing
-unfolding labelNode labelList
-look-none a ls = refl
 
 pub standing : {b : GraphBuilder} {es : List ℕ} → Standing b es → (b .cursor < length es) ⊎ (b .cursor ≡ absent)
 standing {b} {es} s = go (s .cursor)

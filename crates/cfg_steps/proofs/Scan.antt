@@ -16,7 +16,8 @@ use Rattle.blocks.specs.Open.{labelsAt, toCome, labelsHere, endsAt, depthAfter}
 use Rattle.blocks.proofs.Parse.{read-end}
 use Rattle.blocks.proofs.Scan.{scanned-start, scanned-more, scanned-none, scanned-ended, scanned-room}
 use Rattle.cfg_steps.specs.declared.GraphBuilder.{GraphBuilder}
-use Rattle.cfg_steps.specs.Columns.{Cols, cols, labelList, graphOf, Good, Entered, Scanning}
+use Rattle.cfg_edges.specs.Halves.{labelList}
+use Rattle.cfg_steps.specs.Columns.{Cols, cols, graphOf, Good, Entered, Scanning}
 use Rattle.cfg_steps.proofs.Ops.{grown-same, grown-trans, same-labels, lo-of, hi-of, new-did}
 
 -- ---- labels in force

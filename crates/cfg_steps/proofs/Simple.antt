@@ -13,7 +13,8 @@ use Rattle.flow.specs.declared.Found.the-variants.{At, Nothing}
 use Rattle.flow.specs.Sheet.{kindOf}
 use Rattle.flow.specs.Graph.{Graph, Label, labelNode, orBreak, jump, code, declare, simpleStmt, advanceTo, recordCode}
 use Rattle.cfg_steps.specs.declared.GraphBuilder.{GraphBuilder}
-use Rattle.cfg_steps.specs.Columns.{Cols, cols, hi, labelList, hasStart, settingsOf, labelled, coded, simpleMade, Good, Standing, Did}
+use Rattle.cfg_edges.specs.Halves.{hi, labelList}
+use Rattle.cfg_steps.specs.Columns.{Cols, cols, hasStart, settingsOf, labelled, coded, simpleMade, Good, Standing, Did}
 use Rattle.cfg_steps.proofs.Ops.{grown-same}
 
 pub did-none : (ks : List ℕ) (b : GraphBuilder) (x : Cols) → Good b x → Did ks (λ ss g. g) 0 b x b x

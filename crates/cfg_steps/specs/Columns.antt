@@ -2,17 +2,16 @@
 -- Assumes nothing: these are definitions.
 use mathlib.Core.Path.{_≡_}
 use mathlib.Core.Logic.{_⊎_}
-use mathlib.Core.Bool.{Bool, true, false, cond, not, _&&_}
+use mathlib.Core.Bool.{Bool, cond, not, _&&_}
 use mathlib.Core.List.{List, [], _∷_, map}
-use Prim.Native.Nat.{ℕ, zero, suc, _+_, _*_, _/_, _%_, _^_, _≤_, _<_}
+use Prim.Native.Nat.{ℕ, _+_, _/_, _%_, _^_, _≤_, _<_}
 use lib.ListN.{length, take, drop, getD, set, replicate}
 use lib.Dec.{eqb}
-use Rattle.flow.specs.declared.Truth.{Truth}
-use Rattle.flow.specs.declared.Truth.the-variants.{False, True, Unknown}
 use Rattle.flow.specs.Sheet.{kindOf, argumentOf, startOf, oneOf}
 use Rattle.flow.specs.Kinds.{kinds, raises}
 use Rattle.flow.specs.Graph.{exits, newNodes, withLabels, standAt, labelNode, jump, code, Graph, Settings, Label, absent}
 use Rattle.blocks.specs.Open.{Scanned}
+use Rattle.cfg_edges.specs.Halves.{lo, hi, labelList}
 use Rattle.cfg_steps.specs.declared.GraphBuilder.{GraphBuilder}
 open record exits using (ReturnValue, ReturnEmpty, Error)
 open record kinds using (END, UNTIL, NAME, LABEL, BREAK, CONTINUE, RETURN, CALL, EMPTY)
@@ -25,25 +24,6 @@ pub record Cols : Type 0 where
 
 abbrev pub cols : List ℕ → List ℕ → List ℕ → List ℕ → Cols
 cols e c n l = record { edges = e; codes = c; names = n; labels = l }
-
--- the halves of a word
-abbrev pub lo : ℕ → ℕ
-lo w = w % 2 ^ 32
-
-abbrev pub hi : ℕ → ℕ
-hi w = w / 2 ^ 32
-
--- an edge from a to b in a's first free place; none from no node
-unfoldable pub joined : ℕ → ℕ → List ℕ → List ℕ
-joined a b es =
-    cond (eqb a absent) es
-    (cond (eqb (lo (getD es a 0)) absent) (set es a (b + hi (getD es a 0) * 2 ^ 32))
-    (cond (eqb (hi (getD es a 0)) absent) (set es a (lo (getD es a 0) + b * 2 ^ 32)) es))
-
--- the labels in force, the latest first
-unfoldable pub labelList : ℕ → List ℕ → List Label
-labelList zero ls = []
-labelList (suc k) ls = record { name = lo (getD ls k 0); node = hi (getD ls k 0) } ∷ labelList k ls
 
 -- "LABEL .. (code start remains 0)", and UNTIL's "code start remains 0": an item that closes or is a label gives its node none
 abbrev pub hasStart : ℕ → Bool
@@ -180,15 +160,3 @@ coded k a breakTo continueTo s g =
 -- how many nodes a statement of one item makes; a label's node is made as its block is entered
 abbrev pub simpleMade : ℕ → ℕ
 simpleMade k = cond (oneOf k (NAME ∷ LABEL ∷ EMPTY ∷ [])) 0 1
-
--- ---- loops
-
-abbrev pub mayFail : Truth → Bool
-mayFail False = true
-mayFail True = false
-mayFail Unknown = true
-
-abbrev pub mayHold : Truth → Bool
-mayHold False = false
-mayHold True = true
-mayHold Unknown = true

@@ -4,17 +4,21 @@ ghost use mathlib.Core.Path.{_≡_};
 ghost use mathlib.Core.Bool.{true, false, cond};
 ghost use lib.Dec.{eqb};
 ghost use mathlib.Core.List.{List, [], _∷_};
-ghost use Prim.Native.Nat.{ℕ, _+_, _-_, _≤_, _<_, _^_};
+ghost use Prim.Native.Nat.{ℕ, _+_, _≤_, _<_, _^_};
 ghost use lib.ListN.{length, getD};
 ghost use Rattle.flow.specs.Sheet.{kindOf, argumentOf};
-ghost use Rattle.flow.specs.Kinds.{literalTruth};
-ghost use mathlib.Core.Logic.{_⊎_};
 ghost use Rattle.flow.specs.Graph.{labelNode, newNode, advanceTo, code, closeInto, jump, recordCode, declare, simpleStmt, orBreak, connect, moveTo, enterWhen, unlessTrue, unlessFalse};
 ghost use Rattle.blocks.specs.Open.{labelsAt, labelsHere};
-ghost use Rattle.cfg_steps.specs.Columns.{cols, joined, labelList, hasStart, settingsOf, Good, Standing, Did, Entered, LabelsFit, labelled, coded, simpleMade, mayFail, mayHold};
+ghost use Rattle.cfg_edges.specs.Halves.{labelList};
+ghost use Rattle.cfg_steps.specs.Columns.{cols, hasStart, settingsOf, Good, Standing, Did, Entered, LabelsFit, labelled, coded, simpleMade};
 use blocks::depth_after;
 use blocks::ends_at;
 use blocks::is_label;
+use cfg_edges::connect;
+use cfg_edges::connect_if;
+use cfg_edges::label_node;
+use cfg_edges::may_fail;
+use cfg_edges::may_hold;
 use flow::Found;
 use flow::Truth;
 
@@ -31,54 +35,6 @@ pub struct GraphBuilder {
     pub scope_end: u64,
     pub break_target: usize,
     pub continue_target: usize,
-}
-
-// What a condition code is known to be.
-pub fn literal_truth(condition: u64) -> Truth
-    ensures { λ r. ⌜ r ≡ literalTruth condition ⌝ }
-{
-    if condition <= 1 {
-        return Truth::False;
-    }
-    if condition <= 8 {
-        return Truth::True;
-    }
-    Truth::Unknown
-}
-
-// An edge, in the first free place of the node that it leaves; none right after a jump.
-pub fn connect(edges: &mut [u64], from: usize, to: usize)
-    requires { ⌜ (from < length (now edges)) ⊎ (from ≡ 4294967295) ⌝ }
-    requires { ⌜ to < 2 ^ 32 ⌝ }
-    ensures { λ _. ⌜ now (edges .exit) ≡ joined from to (now (edges .entry)) ⌝ }
-{
-    if from == 4294967295 {
-        return;
-    }
-    let w = edges[from];
-    let first = w % 0x1_0000_0000;
-    let second = w / 0x1_0000_0000;
-    if first == 4294967295 {
-        edges[from] = to as u64 + second * 0x1_0000_0000;
-    } else if second == 4294967295 {
-        edges[from] = first + to as u64 * 0x1_0000_0000;
-    }
-}
-
-// The node of the innermost, then latest, label of a name, among the first `count` labels.
-pub fn label_node(labels: &[u64], count: usize, name: u64) -> Found
-    requires { ⌜ count ≤ length (now labels) ⌝ }
-    ensures { λ r. ⌜ r ≡ labelNode name (labelList count (now (labels .entry))) ⌝ }
-{
-    let mut k = count;
-    while 0 < k {
-        k -= 1;
-        let w = labels[k];
-        if name == w % 0x1_0000_0000 {
-            return Found::At((w / 0x1_0000_0000) as usize);
-        }
-    }
-    Found::Nothing
 }
 
 impl GraphBuilder {
@@ -351,37 +307,6 @@ fn return_exit(argument: u64) -> usize
         return 2;
     }
     3
-}
-
-// Whether a condition may fail, and whether it may hold.
-fn may_fail(truth: Truth) -> bool
-    ensures { λ r. ⌜ r ≡ mayFail truth ⌝ }
-{
-    match truth {
-        Truth::False => true,
-        Truth::True => false,
-        Truth::Unknown => true,
-    }
-}
-
-fn may_hold(truth: Truth) -> bool
-    ensures { λ r. ⌜ r ≡ mayHold truth ⌝ }
-{
-    match truth {
-        Truth::False => false,
-        Truth::True => true,
-        Truth::Unknown => true,
-    }
-}
-
-// An edge where it is wanted.
-fn connect_if(edges: &mut [u64], from: usize, to: usize, wanted: bool)
-    requires { ⌜ (from < length (now edges)) × (to < 2 ^ 32) ⌝ }
-    ensures { λ _. ⌜ now (edges .exit) ≡ cond wanted (joined from to (now (edges .entry))) (now (edges .entry)) ⌝ }
-{
-    if wanted {
-        connect(edges, from, to);
-    }
 }
 
 impl GraphBuilder {

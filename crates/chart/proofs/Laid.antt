@@ -13,7 +13,8 @@ use Rattle.flow.specs.Admitted.{AdmittedSheet}
 use Rattle.flow.proofs.Flags.{reachable-length}
 use Rattle.admission.proofs.Parts.{firstPart, secondPart, Counted, first-is, second-is}
 use Rattle.cfg_steps.specs.declared.GraphBuilder.{GraphBuilder}
-use Rattle.cfg_steps.specs.Columns.{cols, lo, hi, nameNode, nameItem, painted, graphOf}
+use Rattle.cfg_edges.specs.Halves.{lo, hi}
+use Rattle.cfg_steps.specs.Columns.{cols, nameNode, nameItem, painted, graphOf}
 use Rattle.cfg_steps.proofs.Ops.{painted-length}
 use Rattle.cfg.specs.Steps.{Sane, Wide as WideWords, WholeRoom, Whole}
 use Rattle.cfg.proofs.Sanity.{sane, whole-room}

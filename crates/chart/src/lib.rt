@@ -6,7 +6,7 @@ ghost use lib.ListN.{length, take, drop};
 ghost use Rattle.flow.specs.Graph.{Graph, entry};
 ghost use Rattle.flow.specs.Reachable.{reachable as reachableFlags};
 ghost use Rattle.flow.specs.Admitted.{AdmittedSheet};
-ghost use Rattle.cfg_steps.specs.Columns.{lo, hi};
+ghost use Rattle.cfg_edges.specs.Halves.{lo, hi};
 ghost use Rattle.chart.specs.Lent.{PartsOf, columns, Wide, Charted};
 use cfg::of_block;
 use columns::split_codes;

@@ -7,7 +7,8 @@ use native.Mathlib.Numerals.{add-one}
 use native.Mathlib.Omega.{arith}
 use lib.ListN.{length, getD, take, drop, replicate, length-replicate}
 use lib.Seq.{take-suc, getD-take, length-take-le}
-use Rattle.cfg_steps.specs.Columns.{lo, painted}
+use Rattle.cfg_edges.specs.Halves.{lo}
+use Rattle.cfg_steps.specs.Columns.{painted}
 use Rattle.cfg_steps.proofs.Ops.{painted-append, painted-left}
 
 module _ (ks ss : List ℕ) where

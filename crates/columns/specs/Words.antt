@@ -3,7 +3,7 @@
 use mathlib.Core.List.{List}
 use Prim.Native.Nat.{ℕ, _<_}
 use lib.ListN.{length}
-use Rattle.cfg_steps.specs.Columns.{lo, hi}
+use Rattle.cfg_edges.specs.Halves.{lo, hi}
 
 -- its node is one of n, and its item has a kind and a span
 pub record CodeWithin (n : ℕ) (ks ss : List ℕ) (c : ℕ) : Type 0 where

@@ -3,7 +3,8 @@ ghost use mathlib.Core.Path.{_≡_};
 ghost use mathlib.Core.List.{[], _∷_, _++_, map};
 ghost use Prim.Native.Nat.{ℕ, _≤_, _<_};
 ghost use lib.ListN.{length, getD, set, take, drop, replicate};
-ghost use Rattle.cfg_steps.specs.Columns.{lo, hi, hasStart, painted, nameNode, nameItem};
+ghost use Rattle.cfg_edges.specs.Halves.{lo, hi};
+ghost use Rattle.cfg_steps.specs.Columns.{hasStart, painted, nameNode, nameItem};
 ghost use Rattle.columns.specs.Words.{CodeWithin};
 use search::clear;
 

@@ -19,13 +19,14 @@ use Rattle.flow.specs.Graph.{Graph, nodeCount}
 use Rattle.flow.specs.Reachable.{successors}
 use Rattle.flow.specs.Findings.{Use, node, Declaration, isAliveAt, noUse, aRead, aPureWrite, meeting, firstAt, isNoUse, below, meetsHere, comesFrom, meets}
 use Rattle.flow.proofs.Members.{and-both, both-and, append-in, in-append, in-keep, below-in, in-below, oneOf-in, in-oneOf}
-use Rattle.next_uses.specs.Predecessors.{predsOf}
-use Rattle.next_uses.specs.Uses.{byNode, Table, nodeAt, kindAt, Placed, Sorted, nextInNode, opensNode, Used}
-use Rattle.next_uses.specs.Backwards.{Scope, scope, aliveIn, passes, ofSort, sortOf, startsHere, startsTo, backFlags, Columns}
-use Rattle.next_uses.proofs.Chains.{preds-nodes}
+use Rattle.predecessors.specs.Predecessors.{predsOf}
+use Rattle.uses_by_node.specs.Uses.{byNode, Table, nodeAt, kindAt, Placed, Sorted, nextInNode, opensNode, Used}
+use Rattle.predecessors.specs.Scope.{Scope, scope, aliveIn, passes}
+use Rattle.next_uses.specs.Backwards.{ofSort, sortOf, startsHere, startsTo, backFlags, Columns}
+use Rattle.predecessors.proofs.Chains.{preds-nodes}
 use Rattle.next_uses.proofs.Walks.{starts-nodes}
-use Rattle.next_uses.proofs.Sorting.{useAt, NoPlace, FirstPlace, find, first-is, first-by, size, node-is, kind-is, node-below, rising}
-use Rattle.next_uses.proofs.Places.{next-node, node-next}
+use Rattle.uses_by_node.proofs.Sorting.{useAt, NoPlace, FirstPlace, find, first-is, first-by, size, node-is, kind-is, node-below, rising}
+use Rattle.uses_by_node.proofs.Places.{next-node, node-next}
 
 -- ---- who stands in the lists
 

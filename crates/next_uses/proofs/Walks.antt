@@ -11,10 +11,11 @@ use Rattle.search.proofs.Closure.{Nodes}
 use Rattle.search.proofs.Worklist.{Search, keep-in}
 use Rattle.search.proofs.Stamps.{when-nodes}
 use Rattle.flow.proofs.Members.{append-in}
-use Rattle.next_uses.specs.Predecessors.{predsOf}
-use Rattle.next_uses.specs.Uses.{Table, nodeAt, Placed}
-use Rattle.next_uses.specs.Backwards.{Scope, passes, startsHere, startsTo}
-use Rattle.next_uses.proofs.Chains.{preds-nodes}
+use Rattle.predecessors.specs.Predecessors.{predsOf}
+use Rattle.uses_by_node.specs.Uses.{Table, nodeAt, Placed}
+use Rattle.predecessors.specs.Scope.{Scope, passes}
+use Rattle.next_uses.specs.Backwards.{startsHere, startsTo}
+use Rattle.predecessors.proofs.Chains.{preds-nodes}
 
 pub starts-nodes : (s : Scope) (t : Table) (pure : Bool) (n i : ℕ) → Placed n (t .nodes) (t .sorted) → i ≤ length (t .sorted) → Nodes n (startsTo s t pure i)
 starts-nodes s t pure n zero p h v k = absurd k

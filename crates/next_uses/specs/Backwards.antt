@@ -5,29 +5,14 @@ use mathlib.Core.Path.{_≡_}
 use mathlib.Core.Bool.{Bool, true, false, _&&_, not}
 use mathlib.Core.List.{List, [], _++_}
 use lib.ListN.{length, getD, take}
-use lib.Dec.{eqb, ltb}
+use lib.Dec.{eqb}
 use Rattle.search.specs.Search.{cons-if, keep, closure}
 use Rattle.flow.specs.Graph.{Graph, nodeCount}
-use Rattle.search.specs.Stamps.{flagsOf, Fresh}
-use Rattle.flow.specs.Findings.{Meeting, Ahead, isARead, isAPureWrite}
-use Rattle.next_uses.specs.Predecessors.{predsOf, Linked}
-use Rattle.next_uses.specs.Uses.{Table, nodeAt, kindAt, opensNode}
-
--- the code starts of the nodes, the LOCAL's node, and its scope end
-pub record Scope : Type 0 where
-  pub start : List ℕ
-  pub node : ℕ
-  pub scopeEnd : ℕ
-
-abbrev pub scope : List ℕ → ℕ → ℕ → Scope
-scope s v e = record { start = s; node = v; scopeEnd = e }
-
-unfoldable pub aliveIn : Scope → ℕ → Bool
-aliveIn s v = not (eqb v (s .node)) && ltb (getD (s .start) v 0) (s .scopeEnd)
-
--- a path may go on through v: it is alive and holds no use
-unfoldable pub passes : Scope → ℕ → List ℕ → ℕ → Bool
-passes s stamp used v = not (eqb (getD used v 0) stamp) && aliveIn s v
+use Rattle.search.specs.Stamps.{Fresh}
+use Rattle.flow.specs.Findings.{Meeting, isARead, isAPureWrite}
+use Rattle.predecessors.specs.Predecessors.{predsOf, Linked}
+use Rattle.predecessors.specs.Scope.{Scope, aliveIn, passes}
+use Rattle.uses_by_node.specs.Uses.{Table, nodeAt, kindAt, opensNode}
 
 -- the two sorts of a next use: a pure write, or a read
 abbrev pub ofSort : Bool → ℕ → Bool
@@ -66,8 +51,3 @@ pub record Columns (g : Graph) (n : ℕ) (start head a b : List ℕ) : Type 0 wh
   pub count : nodeCount g ≡ n
   pub starts : g .nodes .start ≡ take n start
   pub linked : Linked (g .nodes .first) (g .nodes .second) n n head a b
-
--- the marks hold the flags of both ways
-pub record AheadHeld (stamp n : ℕ) (reads writes : List ℕ) (a : Ahead) : Type 0 where
-  pub reads-are : flagsOf stamp n reads ≡ a .reads
-  pub writes-are : flagsOf stamp n writes ≡ a .writes

@@ -1,3 +1,1 @@
-pub mod Predecessors
-pub mod Uses
 pub mod Backwards

@@ -13,13 +13,13 @@ use lib.Seq.{getD-take}
 use Rattle.flow.specs.Graph.{graph, nodeCount}
 use Rattle.flow.specs.Findings.{Local, Use, Ahead, Finding, onlyIf, underscore, noValue, writesJudged, tracked, allFound, usesOf, localAt, declaration, ahead, isOverwrittenUnread, overwrittenBelow, initialOverwritten, writesOverwritten, ofInitial, ofUse, overwrittenOf, ofEach}
 use Rattle.uses.specs.Grouped.{part}
-use Rattle.next_uses.specs.Uses.{table}
+use Rattle.uses_by_node.specs.Uses.{table}
 use Rattle.locals.specs.Columns.{Cut}
 use Rattle.locals.specs.Entries.{Room}
 use Rattle.locals.specs.Facts.{factsOf}
 use Rattle.locals.proofs.Columns.{own-cut, own-listed, own-sorted, span-of}
-use Rattle.overwritten.specs.declared.LocalDeclaration.{LocalDeclaration}
-use Rattle.overwritten.specs.Marked.{declared, valuesOf, Fits, Stands}
+use Rattle.local_values.specs.declared.LocalDeclaration.{LocalDeclaration}
+use Rattle.local_values.specs.Marked.{declared, valuesOf, Fits, Stands}
 use Rattle.overwritten.specs.Pass.{Pass, isJudged, NoneJudged, DeclaredAt}
 
 -- ---- the tests

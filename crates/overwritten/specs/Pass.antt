@@ -8,12 +8,12 @@ use lib.Dec.{eqb}
 use lib.ListN.{length, getD}
 use Rattle.flow.specs.Sheet.{useWords}
 use Rattle.flow.specs.Findings.{Local, noValue, tracked, writesJudged, usesOf}
-use Rattle.next_uses.specs.Predecessors.{Blank}
-use Rattle.next_uses.specs.Uses.{byNode}
+use Rattle.predecessors.specs.Predecessors.{Blank}
+use Rattle.uses_by_node.specs.Uses.{byNode}
 use Rattle.next_uses.specs.Backwards.{Unmarked}
 use Rattle.locals.specs.Columns.{Charted, Named, Spanned, Located, Parts}
 use Rattle.locals.specs.Facts.{factsOf, Known}
-use Rattle.overwritten.specs.declared.LocalDeclaration.{LocalDeclaration}
+use Rattle.local_values.specs.declared.LocalDeclaration.{LocalDeclaration}
 
 -- the nodes, the names and the uses are those of S and U
 pub record Pass (S U : List ℕ) (n names : ℕ) (first second start nameNode nameEnd nameSpan facts lost starts column words nodes spans : List ℕ) : Type 0 where

@@ -8,7 +8,7 @@ use denote.Ref.{now}
 use Rattle.flow.specs.Refusals.{Test, judgeBenchTooSmall, miscount, badUse, lowest, sheetTests, judgeVerdict}
 use Rattle.flow.specs.declared.Refusal.the-variants.{BadUse}
 use Rattle.admission.specs.Lengths.{lengthTests}
-use Rattle.admission.proofs.Bools.{or-parts}
+use Rattle.sheet_tests.proofs.Bools.{or-parts}
 use Rattle.admission.proofs.Verdicts.{refused-first, admitted-first, second-passes}
 use Rattle.admission.proofs.judge_verdict.Statement.{statement}
 use Rattle.admission.proofs.judge_verdict.Tie as tie

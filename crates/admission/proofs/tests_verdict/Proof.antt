@@ -10,7 +10,7 @@ use denote.Ref.{now}
 use Rattle.flow.specs.Refusals.{outnumbered, pairsUp, sideBySide, inLine, held, namesFit, badItem, tooDeep, badNesting, offTheLine, badName, lowest, sheetTests}
 use Rattle.flow.specs.Sheet.{Item, all, outerEnd}
 use Rattle.flow.specs.Kinds.{itemFits}
-use Rattle.admission.proofs.Bools.{and-parts}
+use Rattle.sheet_tests.proofs.Bools.{and-parts}
 use Rattle.admission.proofs.Parts.{Counted, counted, part-lengths, on-items}
 use Rattle.admission.proofs.tests_verdict.Statement.{statement}
 use Rattle.admission.proofs.tests_verdict.Tie as tie

@@ -2,7 +2,7 @@ use borrow.Author.Needs.{needs}
 use mathlib.Core.Path.{sym, ap, _∙_}
 use lib.ListN.{take, drop}
 use denote.Ref.{now}
-use Rattle.cfg_steps.specs.Columns.{lo, hi}
+use Rattle.cfg_edges.specs.Halves.{lo, hi}
 use Rattle.chart.proofs.Laid.{front}
 use Rattle.chart.proofs.split_nodes.Statement.{statement}
 use Rattle.chart.proofs.split_nodes.Tie as tie

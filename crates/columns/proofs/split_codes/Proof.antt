@@ -6,7 +6,8 @@ use mathlib.Core.List.{List}
 use native.Mathlib.Omega.{arith}
 use lib.ListN.{length, getD, take}
 use denote.Ref.{now}
-use Rattle.cfg_steps.specs.Columns.{lo, hi, painted}
+use Rattle.cfg_edges.specs.Halves.{lo, hi}
+use Rattle.cfg_steps.specs.Columns.{painted}
 use Rattle.columns.proofs.Written.{Written, none, still, turn}
 use Rattle.columns.proofs.Starts.{paint-more, paint-all}
 use Rattle.columns.proofs.split_codes.Statement.{statement}

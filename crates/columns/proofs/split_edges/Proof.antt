@@ -3,7 +3,7 @@
 use Prim.Native.Nat.{_≤_, _-_}
 use mathlib.Core.Path.{_≡_}
 use native.Mathlib.Omega.{arith}
-use Rattle.cfg_steps.specs.Columns.{lo, hi}
+use Rattle.cfg_edges.specs.Halves.{lo, hi}
 use Rattle.columns.proofs.Written.{Written, none, turn}
 use Rattle.columns.proofs.split_edges.Statement.{statement}
 use Rattle.columns.proofs.split_edges.Tie as tie

@@ -5,7 +5,8 @@ use mathlib.Core.Path.{_≡_}
 use mathlib.Core.List.{List}
 use native.Mathlib.Omega.{arith}
 use lib.ListN.{getD}
-use Rattle.cfg_steps.specs.Columns.{hi, nameNode, nameItem}
+use Rattle.cfg_edges.specs.Halves.{hi}
+use Rattle.cfg_steps.specs.Columns.{nameNode, nameItem}
 use Rattle.columns.proofs.Written.{Written, none, still, turn}
 use Rattle.columns.proofs.split_names.Statement.{statement}
 use Rattle.columns.proofs.split_names.Tie as tie

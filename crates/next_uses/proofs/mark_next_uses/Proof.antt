@@ -8,9 +8,10 @@ use native.Mathlib.Omega.{arith}
 use denote.Ref.{now}
 use Rattle.flow.specs.Graph.{Graph}
 use Rattle.flow.specs.Findings.{Declaration, Use, meets, ahead}
-use Rattle.next_uses.specs.Predecessors.{Linked}
-use Rattle.next_uses.specs.Uses.{Table, table, Sorted}
-use Rattle.next_uses.specs.Backwards.{scope, sortOf, backFlags, Columns}
+use Rattle.predecessors.specs.Predecessors.{Linked}
+use Rattle.uses_by_node.specs.Uses.{Table, table, Sorted}
+use Rattle.predecessors.specs.Scope.{scope}
+use Rattle.next_uses.specs.Backwards.{sortOf, backFlags, Columns}
 use Rattle.next_uses.proofs.Meets.{meets-are}
 use borrow.Author.Needs.{needs}
 use Rattle.next_uses.proofs.mark_next_uses.Statement.{statement}

@@ -7,7 +7,7 @@ use denote.Ref.{now}
 use lib.ListN.{length, length-set}
 use Rattle.search.specs.Stamps.{Stamped}
 use Rattle.search.proofs.Stamps.{set-bounded, fresh-stamped}
-use Rattle.next_uses.specs.Uses.{nodeAt, Used}
+use Rattle.uses_by_node.specs.Uses.{nodeAt, Used}
 use Rattle.next_uses.proofs.Turns.{used-none, used-turn}
 use Rattle.next_uses.proofs.mark_used.Statement.{statement}
 use Rattle.next_uses.proofs.mark_used.Tie as tie

@@ -3,7 +3,7 @@
 use mathlib.Core.Path.{_≡_}
 use native.Mathlib.Omega.{arith}
 use denote.Ref.{now}
-use Rattle.next_uses.specs.Uses.{nodeAt}
+use Rattle.uses_by_node.specs.Uses.{nodeAt}
 use borrow.Author.Needs.{needs}
 use Rattle.next_uses.proofs.push_start.Statement.{statement}
 use Rattle.next_uses.proofs.push_start.Tie as tie

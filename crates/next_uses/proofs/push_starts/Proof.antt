@@ -11,8 +11,9 @@ use Rattle.search.specs.Search.{cons-if}
 use Rattle.search.specs.Worklist.{State, st}
 use Rattle.search.specs.Stamps.{stampAll, Ready}
 use Rattle.search.proofs.Stamps.{all-ready, push-room, ready-empty, when-one, when-nodes}
-use Rattle.next_uses.specs.Uses.{Table, table, nodeAt}
-use Rattle.next_uses.specs.Backwards.{Scope, scope, startsHere, startsTo}
+use Rattle.uses_by_node.specs.Uses.{Table, table, nodeAt}
+use Rattle.predecessors.specs.Scope.{Scope, scope}
+use Rattle.next_uses.specs.Backwards.{startsHere, startsTo}
 use Rattle.next_uses.proofs.Turns.{starts-turn}
 use Rattle.next_uses.proofs.push_starts.Statement.{statement}
 use Rattle.next_uses.proofs.push_starts.Tie as tie

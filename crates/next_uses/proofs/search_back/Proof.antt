@@ -10,10 +10,10 @@ use Rattle.search.specs.Worklist.{State, st, pop, topmost}
 use Rattle.search.specs.Stamps.{flagged, stampAll}
 use Rattle.search.proofs.Worklist.{Search, measure}
 use Rattle.search.proofs.Stamps.{Underway, stamp-begin, node-below, top-in, pop-ready, stamp-turn, stamp-falls, stamp-end}
-use Rattle.next_uses.specs.Predecessors.{predsOf, Linked}
-use Rattle.next_uses.specs.Uses.{Placed, table}
-use Rattle.next_uses.specs.Backwards.{scope}
-use Rattle.next_uses.proofs.Chains.{chain-of, some-chain}
+use Rattle.predecessors.specs.Predecessors.{predsOf, Linked}
+use Rattle.uses_by_node.specs.Uses.{Placed, table}
+use Rattle.predecessors.specs.Scope.{scope}
+use Rattle.predecessors.proofs.Chains.{chain-of, some-chain}
 use Rattle.next_uses.proofs.Walks.{backSearch}
 use Rattle.next_uses.proofs.search_back.Statement.{statement}
 use Rattle.next_uses.proofs.search_back.Tie as tie

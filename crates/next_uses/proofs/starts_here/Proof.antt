@@ -3,7 +3,7 @@
 use mathlib.Core.Path.{_≡_}
 use native.Mathlib.Omega.{arith}
 use denote.Ref.{now}
-use Rattle.next_uses.specs.Uses.{nodeAt, kindAt}
+use Rattle.uses_by_node.specs.Uses.{nodeAt, kindAt}
 use Rattle.next_uses.specs.Backwards.{ofSort, startsHere}
 use borrow.Author.Needs.{needs}
 use Rattle.next_uses.proofs.starts_here.Statement.{statement}

@@ -1,0 +1,90 @@
+// The edges of a graph that is being built: an edge in its word, the node that a label's name stands for, and what a condition is known to be.
+ghost use mathlib.Core.Path.{_≡_};
+ghost use mathlib.Core.Bool.{cond};
+ghost use mathlib.Core.Logic.{_⊎_};
+ghost use Prim.Native.Nat.{_≤_, _<_, _^_};
+ghost use lib.ListN.{length};
+ghost use Rattle.flow.specs.Kinds.{literalTruth};
+ghost use Rattle.flow.specs.Graph.{labelNode};
+ghost use Rattle.cfg_edges.specs.Halves.{joined, labelList, mayFail, mayHold};
+use flow::Found;
+use flow::Truth;
+
+// An edge, in the first free place of the node that it leaves; none right after a jump.
+pub fn connect(edges: &mut [u64], from: usize, to: usize)
+    requires { ⌜ (from < length (now edges)) ⊎ (from ≡ 4294967295) ⌝ }
+    requires { ⌜ to < 2 ^ 32 ⌝ }
+    ensures { λ _. ⌜ now (edges .exit) ≡ joined from to (now (edges .entry)) ⌝ }
+{
+    if from == 4294967295 {
+        return;
+    }
+    let w = edges[from];
+    let first = w % 0x1_0000_0000;
+    let second = w / 0x1_0000_0000;
+    if first == 4294967295 {
+        edges[from] = to as u64 + second * 0x1_0000_0000;
+    } else if second == 4294967295 {
+        edges[from] = first + to as u64 * 0x1_0000_0000;
+    }
+}
+
+// An edge where it is wanted.
+pub fn connect_if(edges: &mut [u64], from: usize, to: usize, wanted: bool)
+    requires { ⌜ (from < length (now edges)) × (to < 2 ^ 32) ⌝ }
+    ensures { λ _. ⌜ now (edges .exit) ≡ cond wanted (joined from to (now (edges .entry))) (now (edges .entry)) ⌝ }
+{
+    if wanted {
+        connect(edges, from, to);
+    }
+}
+
+// The node of the innermost, then latest, label of a name, among the first `count` labels.
+pub fn label_node(labels: &[u64], count: usize, name: u64) -> Found
+    requires { ⌜ count ≤ length (now labels) ⌝ }
+    ensures { λ r. ⌜ r ≡ labelNode name (labelList count (now (labels .entry))) ⌝ }
+{
+    let mut k = count;
+    while 0 < k {
+        k -= 1;
+        let w = labels[k];
+        if name == w % 0x1_0000_0000 {
+            return Found::At((w / 0x1_0000_0000) as usize);
+        }
+    }
+    Found::Nothing
+}
+
+// What a condition code is known to be.
+pub fn literal_truth(condition: u64) -> Truth
+    ensures { λ r. ⌜ r ≡ literalTruth condition ⌝ }
+{
+    if condition <= 1 {
+        return Truth::False;
+    }
+    if condition <= 8 {
+        return Truth::True;
+    }
+    Truth::Unknown
+}
+
+// Whether a condition may fail, and whether it may hold.
+pub fn may_fail(truth: Truth) -> bool
+    ensures { λ r. ⌜ r ≡ mayFail truth ⌝ }
+{
+    match truth {
+        Truth::False => true,
+        Truth::True => false,
+        Truth::Unknown => true,
+    }
+}
+
+pub fn may_hold(truth: Truth) -> bool
+    ensures { λ r. ⌜ r ≡ mayHold truth ⌝ }
+{
+    match truth {
+        Truth::False => false,
+        Truth::True => true,
+        Truth::Unknown => true,
+    }
+}

@@ -1,0 +1,4 @@
+pub mod Stacks
+pub mod Sweeps
+pub mod Nesting
+pub mod Lows

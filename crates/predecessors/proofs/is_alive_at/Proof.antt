@@ -1,0 +1,24 @@
+-- `predecessors::is_alive_at` meets its contract: the two cases of its test.
+-- Assumes nothing.
+use borrow.Author.Tests.{eq-eqb, ne-eqb}
+use Rattle.predecessors.specs.Scope.{aliveIn}
+use borrow.Author.Needs.{needs}
+use Rattle.predecessors.proofs.is_alive_at.Statement.{statement}
+use Rattle.predecessors.proofs.is_alive_at.Tie as tie
+
+mul-result : tie.Need-mul-result
+mul-result c = search needs
+
+shared-slice-read-result : tie.Need-shared-slice-read-result
+shared-slice-read-result c = search needs
+
+returns : tie.Need-returns
+unfolding aliveIn
+returns c = rw (eq-eqb _ _ (c .if1 .taken))
+
+returns-2 : tie.Need-returns-2
+unfolding aliveIn
+returns-2 c = rw (ne-eqb _ _ (c .before .if1 .left))
+
+pub is-alive-at-spec : {M : Type 1} → statement M
+is-alive-at-spec = tie.close (tie.spec mul-result shared-slice-read-result returns returns-2)

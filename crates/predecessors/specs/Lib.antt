@@ -1,0 +1,2 @@
+pub mod Predecessors
+pub mod Scope

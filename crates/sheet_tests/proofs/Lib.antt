@@ -1,0 +1,3 @@
+pub mod Bools
+pub mod Sweep
+pub mod Sweeps

@@ -1,0 +1,13 @@
+-- `sheet_tests::depth::is_opener` meets its contract. Assumes nothing.
+use borrow.Author.Tests.{le-leb, lt-leb}
+use Rattle.sheet_tests.proofs.depth.is_opener.Statement.{statement}
+use Rattle.sheet_tests.proofs.depth.is_opener.Tie as tie
+
+returns : tie.Need-returns
+returns c = simp (lt-leb _ _ (c .if1 .taken))
+
+returns-2 : tie.Need-returns-2
+returns-2 c = simp (le-leb _ _ (c .if1 .left))
+
+pub is-opener-spec : {M : Type 1} → statement M
+is-opener-spec = tie.close (tie.spec returns returns-2)

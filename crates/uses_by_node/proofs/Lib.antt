@@ -1,0 +1,4 @@
+pub mod Sorting
+pub mod Places
+pub mod Flags
+pub mod Callers
