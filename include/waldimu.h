@@ -13,9 +13,9 @@
    THE STACK. The proofs say nothing of it. In KB of 1,000 bytes, measured by compare/stack.c, the most found last:
 
      sheet                     chart  judge    run  label check
-     1,024 PLAIN                   2     48     94           18
-     64 nested IF                 47     94    139           18
-     an IF with 1,022 ELSEIF     984  1,030  1,076           18
+     1,024 PLAIN                   2     49     94           18
+     an IF with 1,022 ELSEIF       3     50     95           18
+     64 nested IF                 57    104    149           18
 */
 #ifndef WALDIMU_H
 #define WALDIMU_H
