@@ -18,7 +18,7 @@ use Rattle.flow.proofs.NodeCount.{graph-count}
 use Rattle.flow.proofs.CodeNodes.{code-node}
 use Rattle.flow.proofs.Admission.{admitted, of-chart, of-judge}
 use Rattle.judge.proofs.Few.{findings-few}
-use Rattle.waldimu.specs.Words.{Packable, ChartFits, JudgeFits, PlaceFits, RunFits}
+use Rattle.answer_words.specs.Words.{Packable, ChartFits, JudgeFits, PlaceFits, RunFits}
 
 module _ (S : List ℕ) (e : sheetVerdict S ≡ Admitted) where
   few-nodes : nodeCount (graph S) ≤ 1542

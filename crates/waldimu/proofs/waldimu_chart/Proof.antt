@@ -1,6 +1,6 @@
 -- `waldimu::waldimu_chart` meets its contract: the word is that of the call's answer, and the columns are as the call leaves them. Assumes nothing.
 use mathlib.Core.Path.{sym, subst}
-use Rattle.waldimu.specs.Words.{ChartFits}
+use Rattle.answer_words.specs.Words.{ChartFits}
 use Rattle.waldimu.proofs.Fits.{chart-fits}
 use borrow.Author.Needs.{needs}
 use Rattle.waldimu.proofs.waldimu_chart.Statement.{statement}

@@ -1,7 +1,7 @@
 -- `waldimu::waldimu_judge` meets its contract: the word is that of the call's answer, and the columns are as the call leaves them. Assumes nothing.
 use borrow.Author.Needs.{needs}
 use mathlib.Core.Path.{sym, subst}
-use Rattle.waldimu.specs.Words.{JudgeFits}
+use Rattle.answer_words.specs.Words.{JudgeFits}
 use Rattle.waldimu.proofs.Fits.{judge-fits}
 use Rattle.waldimu.proofs.waldimu_judge.Statement.{statement}
 use Rattle.waldimu.proofs.waldimu_judge.Tie as tie

@@ -1,6 +1,6 @@
 -- `waldimu::waldimu_label_check` meets its contract: the word is that of the call's answer. Assumes nothing.
 use mathlib.Core.Path.{ap, _∙_}
-use Rattle.waldimu.specs.Words.{labelWord}
+use Rattle.answer_words.specs.Words.{labelWord}
 use Rattle.waldimu.proofs.waldimu_label_check.Statement.{statement}
 use Rattle.waldimu.proofs.waldimu_label_check.Tie as tie
 

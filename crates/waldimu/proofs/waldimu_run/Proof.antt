@@ -1,6 +1,6 @@
 -- `waldimu::waldimu_run` meets its contract: the word is that of the call's answer. Assumes nothing.
 use mathlib.Core.Path.{sym, ap, subst, _∙_}
-use Rattle.waldimu.specs.Words.{RunFits, runWord}
+use Rattle.answer_words.specs.Words.{RunFits, runWord}
 use Rattle.waldimu.proofs.Fits.{run-fits}
 use Rattle.waldimu.proofs.waldimu_run.Statement.{statement}
 use Rattle.waldimu.proofs.waldimu_run.Tie as tie

@@ -1,10 +1,10 @@
--- `waldimu::judge_word` meets its contract, by the cases of the answer. Assumes nothing.
+-- `answer_words::judge_word` meets its contract, by the cases of the answer. Assumes nothing.
 use borrow.Author.Needs.{needs}
 use mathlib.Core.Path.{subst}
 use native.Mathlib.Omega.{arith}
-use Rattle.waldimu.specs.Words.{JudgeFits}
-use Rattle.waldimu.proofs.judge_word.Statement.{statement}
-use Rattle.waldimu.proofs.judge_word.Tie as tie
+use Rattle.answer_words.specs.Words.{JudgeFits}
+use Rattle.answer_words.proofs.judge_word.Statement.{statement}
+use Rattle.answer_words.proofs.judge_word.Tie as tie
 
 enum-known-answer : tie.Need-enum-known-answer
 enum-known-answer c = search needs

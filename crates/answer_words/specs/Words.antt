@@ -1,9 +1,7 @@
 -- How an answer crosses to C: as one word. Bits 0 to 3 hold the table's number of a refusal, and 0 where the call is accepted.
 -- Assumes nothing: these are definitions.
 use Prim.Native.Nat.{ℕ, _+_, _*_, _^_, _≤_, _<_}
-use mathlib.Core.Path.{_≡_}
 use mathlib.Core.Bool.{Bool}
-use mathlib.Core.List.{List}
 use Rattle.flow.specs.declared.Counts.{Counts}
 use Rattle.flow.specs.declared.Place.{Place}
 use Rattle.flow.specs.declared.Place.the-variants.{Node, Past}
@@ -16,9 +14,6 @@ use Rattle.flow.specs.declared.JudgeAnswer.the-variants.{Judged, Refused as Jud
 use Rattle.flow.specs.declared.LabelAnswer.{LabelAnswer}
 use Rattle.flow.specs.declared.LabelAnswer.the-variants.{Yes, No, Refused as LabelRefused}
 use Rattle.flow.specs.Refusals.{one, number}
-use Rattle.chart.specs.Lent.{Columns}
-use Rattle.calls.specs.Lent.{ChartPromise}
-use Rattle.judge.specs.Lent.{JudgePromise}
 
 -- nodes from bit 4 on, codes from bit 16, names from bit 32
 abbrev pub countsWord : Counts → ℕ
@@ -48,17 +43,6 @@ abbrev pub labelWord : LabelAnswer → ℕ
 labelWord (LabelRefused r) = number r
 labelWord Yes = 2 ^ 4
 labelWord No = 0
-
--- what the calls for C promise: the word of an answer, and what the call promises of that answer
-pub record ChartForC (S : List ℕ) (x : Columns) (r : ℕ) (y : Columns) : Type 0 where
-  pub answer : ChartAnswer
-  pub word : r ≡ chartWord answer
-  pub promise : ChartPromise S x answer y
-
-pub record JudgeForC (S U : List ℕ) (x : Columns) (words spans marks : List ℕ) (r : ℕ) (y : Columns) (words' spans' marks' : List ℕ) : Type 0 where
-  pub answer : JudgeAnswer
-  pub word : r ≡ judgeWord answer
-  pub promise : JudgePromise S U x words spans marks answer y words' spans' marks'
 
 -- counts that leave each other their bits
 pub record Packable (k : Counts) : Type 0 where

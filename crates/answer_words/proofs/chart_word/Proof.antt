@@ -1,9 +1,9 @@
--- `waldimu::chart_word` meets its contract. Assumes nothing.
+-- `answer_words::chart_word` meets its contract. Assumes nothing.
 use borrow.Author.Needs.{needs}
 use mathlib.Core.Path.{sym, ap, subst, _∙_}
-use Rattle.waldimu.specs.Words.{ChartFits, chartWord}
-use Rattle.waldimu.proofs.chart_word.Statement.{statement}
-use Rattle.waldimu.proofs.chart_word.Tie as tie
+use Rattle.answer_words.specs.Words.{ChartFits, chartWord}
+use Rattle.answer_words.proofs.chart_word.Statement.{statement}
+use Rattle.answer_words.proofs.chart_word.Tie as tie
 
 enum-known-answer : tie.Need-enum-known-answer
 enum-known-answer c = search needs

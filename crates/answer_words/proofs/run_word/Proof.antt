@@ -1,11 +1,11 @@
--- `waldimu::run_word` meets its contract. Assumes nothing.
+-- `answer_words::run_word` meets its contract. Assumes nothing.
 use borrow.Author.Needs.{needs}
 use native.Mathlib.Omega.{arith}
 use mathlib.Core.Path.{sym, ap, ap₂, subst, _∙_}
 use Prim.Native.Nat.{ℕ, _+_, _*_}
-use Rattle.waldimu.specs.Words.{RunFits, runWord}
-use Rattle.waldimu.proofs.run_word.Statement.{statement}
-use Rattle.waldimu.proofs.run_word.Tie as tie
+use Rattle.answer_words.specs.Words.{RunFits, runWord}
+use Rattle.answer_words.proofs.run_word.Statement.{statement}
+use Rattle.answer_words.proofs.run_word.Tie as tie
 
 enum-known-answer : tie.Need-enum-known-answer
 enum-known-answer c = search needs

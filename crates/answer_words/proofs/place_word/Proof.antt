@@ -1,10 +1,10 @@
--- `waldimu::place_word` meets its contract. Assumes nothing.
+-- `answer_words::place_word` meets its contract. Assumes nothing.
 use borrow.Author.Needs.{needs}
 use native.Mathlib.Omega.{arith}
 use mathlib.Core.Path.{sym, ap, subst, _∙_}
-use Rattle.waldimu.specs.Words.{PlaceFits, placeWord}
-use Rattle.waldimu.proofs.place_word.Statement.{statement}
-use Rattle.waldimu.proofs.place_word.Tie as tie
+use Rattle.answer_words.specs.Words.{PlaceFits, placeWord}
+use Rattle.answer_words.proofs.place_word.Statement.{statement}
+use Rattle.answer_words.proofs.place_word.Tie as tie
 
 enum-known-place : tie.Need-enum-known-place
 enum-known-place c = search needs
