@@ -17,7 +17,7 @@ use Rattle.flow.specs.Graph.{nodeCount, graph}
 use Rattle.flow.specs.Reachable.{reachable, nodeAmong, nodeAt, canRun, runAnswer, run}
 use Rattle.flow.specs.Admitted.{AdmittedSheet}
 use Rattle.flow.proofs.CodeNodes.{code-node}
-use Rattle.reach.specs.Columns.{Rising, Within}
+use Rattle.offsets.specs.Codes.{Rising, Within}
 use Rattle.chart.specs.Lent.{Columns, Charted}
 use Rattle.chart.proofs.Read.{nodes-are, flags-read, spans-read, code-nodes-read, ends-rise}
 

@@ -133,8 +133,8 @@ fn run_in(
         name_end,
     );
     let codes = counts.codes;
-    let place = reach::node_at(code_span, code_node, codes, offset as u64);
-    let runs = reach::can_run(reachable, place);
+    let place = offsets::node_at(code_span, code_node, codes, offset as u64);
+    let runs = offsets::can_run(reachable, place);
     RunAnswer::Ran(place, runs)
 }
 

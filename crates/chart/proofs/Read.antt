@@ -12,7 +12,7 @@ use Rattle.flow.specs.Graph.{nodeCount, graph}
 use Rattle.flow.specs.Reachable.{reachable}
 use Rattle.flow.specs.Admitted.{AdmittedSheet}
 use Rattle.flow.proofs.Flags.{reachable-length}
-use Rattle.reach.specs.Columns.{Rising}
+use Rattle.offsets.specs.Codes.{Rising}
 use Rattle.chart.specs.Lent.{over, Columns, chartOf, Charted}
 
 -- a column that begins with n entries

@@ -1,24 +1,17 @@
--- What the code does with the graph's columns, in the graph's terms: the search from the entry gives `reachable`, the first code that ends past an offset gives `nodeAmong`, and a flag gives `canRun`.
+-- The search from the entry over the graph's columns gives `reachable`.
 -- Assumes nothing.
-use Prim.Native.Nat.{ℕ, zero, suc, _+_, _<_, _≤_}
-use mathlib.Core.Path.{_≡_, refl, sym, ap, _∙_}
-use mathlib.Core.List.{List, [], _∷_, _++_, tail}
-use native.Mathlib.Omega.{arith}
-use native.Mathlib.Decide.{ℕ-discrete}
-use native.Mathlib.Nat.{le-of-suc-le-suc, not-suc-le-zero}
-use borrow.Author.Tests.{lt-ltb, le-ltb}
-use lib.Dec.{ltb, eqb}
+use Prim.Native.Nat.{ℕ, _<_, _≤_}
+use mathlib.Core.Path.{_≡_, sym, ap, _∙_}
+use mathlib.Core.List.{List, [], _∷_}
+use borrow.Author.Tests.{lt-ltb}
+use lib.Dec.{ltb}
 use lib.ListN.{length, getD, take}
-use lib.Seq.{length-take-le, getD-take, take-at}
+use lib.Seq.{length-take-le}
 use Rattle.search.specs.Search.{closure, keep}
 use Rattle.search.proofs.Worklist.{Search, flags, keep-below}
-use Rattle.flow.specs.declared.Place.the-variants.{Node, Past}
-use Rattle.flow.specs.Sheet.{endOf}
 use Rattle.flow.specs.Graph.{Graph, nodeCount, entry}
-use Rattle.flow.specs.Reachable.{reachable, nodeAmong, canRun}
-use Rattle.reach.specs.Columns.{edges, Rising, FirstPast}
-
--- ---- reachability
+use Rattle.flow.specs.Reachable.{reachable}
+use Rattle.reach.specs.Columns.{edges}
 
 -- the search from the entry over two columns of n nodes
 abbrev pub fromEntry : List ℕ → List ℕ → ℕ → Search
@@ -40,49 +33,3 @@ flags-of first second n l h g e f =
     let count : nodeCount g ≡ n = ap length e ∙ length-take-le n first l in
     let start : entry ∷ [] ≡ keep (λ v. ltb v n) (entry ∷ []) = sym (entry-kept n h) in
     sym (λ i. closure (start i) (λ u. keep (λ v. ltb v (count i)) (getD (e i) u 0 ∷ getD (f i) u 0 ∷ [])) (count i))
-
--- a column that begins with the flags, as `reach` leaves it, for `can_run`
-pub flags-first : (g : Graph) (m rest : List ℕ) → length (reachable g) ≡ nodeCount g → m ≡ reachable g ++ rest → take (nodeCount g) m ≡ reachable g
-flags-first g m rest h e = rw e (take-at (reachable g) rest (nodeCount g) h)
-
--- ---- the node of an offset
-
--- what ends at or before an offset takes all before it along
-pub through : (codes : ℕ) (spans : List ℕ) (o m : ℕ) → Rising codes spans → m < codes → endOf (getD spans m 0) ≤ o → (i : ℕ) → i < m + 1 → endOf (getD spans i 0) ≤ o
-through codes spans o m r h e i l = elim (ℕ-discrete i m) [ yes p ↦ rw p e | no q ↦ omega (arith, r i m (omega arith) h) ]
-
-getD-tail : (l : List ℕ) (i : ℕ) → getD (tail l) i 0 ≡ getD l (suc i) 0
-getD-tail [] i = refl
-getD-tail (x ∷ l) i = refl
-
-among-at : (spans nodes : List ℕ) (o r : ℕ) → ((i : ℕ) → i < r → endOf (getD spans i 0) ≤ o) → r < length spans → o < endOf (getD spans r 0) → nodeAmong spans nodes o ≡ Node (getD nodes r 0)
-unfolding nodeAmong
-among-at [] nodes o r b l p = absurd (not-suc-le-zero l)
-among-at (s ∷ ss) nodes o zero b l p = rw (lt-ltb o (endOf s) p)
-among-at (s ∷ ss) nodes o (suc r) b l p =
-    rw (le-ltb o (endOf s) (b 0 (omega arith)))
-    (among-at ss (tail nodes) o r (λ i h. b (suc i) (omega arith)) (le-of-suc-le-suc l) p ∙ ap Node (getD-tail nodes r))
-
-among-past : (spans nodes : List ℕ) (o : ℕ) → ((i : ℕ) → i < length spans → endOf (getD spans i 0) ≤ o) → nodeAmong spans nodes o ≡ Past
-unfolding nodeAmong
-among-past [] nodes o b = refl
-among-past (s ∷ ss) nodes o b = rw (le-ltb o (endOf s) (b 0 (omega arith))) (among-past ss (tail nodes) o (λ i h. b (suc i) (omega arith)))
-
-module _ (codes : ℕ) (spans nodes : List ℕ) (o r : ℕ) (l : codes ≤ length spans) (f : FirstPast codes spans o r) where
-  all : length (take codes spans) ≡ codes
-  all = length-take-le codes spans l
-
-  pub first-at : r < codes → Node (getD nodes r 0) ≡ nodeAmong (take codes spans) (take codes nodes) o
-  first-at h =
-      ap Node (sym (getD-take codes nodes r 0 h))
-      ∙ sym (among-at (take codes spans) (take codes nodes) o r (λ i j. rw (getD-take codes spans i 0 (omega arith)) (f .before i j)) (omega (arith, all)) (rw (getD-take codes spans r 0 h) (f .past h)))
-
-  pub first-past : codes ≤ r → Past ≡ nodeAmong (take codes spans) (take codes nodes) o
-  first-past h =
-      sym (among-past (take codes spans) (take codes nodes) o (λ i j. rw (getD-take codes spans i 0 (omega (arith, all))) (f .before i (omega (arith, all)))))
-
--- ---- what can run
-
-pub flag-runs : (g : Graph) (m : List ℕ) (v : ℕ) → take (nodeCount g) m ≡ reachable g → v < nodeCount g → eqb (getD m v 0) 1 ≡ canRun g (Node v)
-unfolding canRun
-flag-runs g m v e h = ap (λ (x : ℕ). eqb x 1) (sym (getD-take (nodeCount g) m v 0 h) ∙ ap (λ (l : List ℕ). getD l v 0) e)

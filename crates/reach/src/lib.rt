@@ -1,23 +1,18 @@
-// What can run: the nodes that a path from the entry reaches, and the node of an offset (cfg.rs).
+// What can run: the nodes that a path from the entry reaches (cfg.rs).
 ghost use mathlib.Core.Path.{_≡_};
-ghost use mathlib.Core.Bool.{true};
-ghost use mathlib.Core.List.{List, _++_};
-ghost use Prim.Native.Nat.{ℕ, _<_, _≤_};
+ghost use mathlib.Core.List.{_++_};
+ghost use Prim.Native.Nat.{_<_, _≤_};
 ghost use lib.ListN.{length, take, drop};
 ghost use lib.Dec.{ltb};
 ghost use Rattle.search.specs.Worklist.{st, pushAll, pushIf, Room};
-ghost use Rattle.flow.specs.Graph.{Graph, nodeCount, entry};
-ghost use Rattle.flow.specs.Reachable.{reachable as reachableFlags, nodeAmong, canRun};
-ghost use Rattle.reach.specs.Columns.{edges, Rising, FirstPast, Within};
-use flow::Place;
+ghost use Rattle.flow.specs.Graph.{Graph, entry};
+ghost use Rattle.flow.specs.Reachable.{reachable as reachableFlags};
+ghost use Rattle.reach.specs.Columns.{edges};
 use search::at;
 use search::clear;
 use search::push_if_new;
 
 const ENTRY: usize = 5;
-
-// A span's word is start + 2^32 × end.
-const END: u64 = 4294967296;
 
 // v pushed; what is no node is passed over.
 fn push_node(marks: &mut [u64], stack: &mut [u64], n: usize, top: usize, v: usize) -> usize
@@ -64,98 +59,5 @@ pub fn reach(first: &[u64], second: &[u64], reachable: &mut [u64], stack: &mut [
         top -= 1;
         let u = at(stack, top);
         top = expand(first, second, reachable, stack, n, top, u);
-    }
-}
-
-// How many codes end at or before an offset. Since the ends rise, those stand first.
-fn partition_point(code_span: &[u64], codes: usize, offset: u64) -> usize
-    requires { ⌜ (codes ≤ length (now «code_span»)) × Rising codes (now «code_span») ⌝ }
-    ensures { λ r. ⌜ FirstPast codes (now («code_span» .entry)) offset r ⌝ }
-{
-    let mut low = 0;
-    let mut high = codes;
-    while low < high {
-        let middle = low + (high - low) / 2;
-        if code_span[middle] / END <= offset {
-            low = middle + 1;
-        } else {
-            high = middle;
-        }
-    }
-    low
-}
-
-// Whether the code at an index is the first that ends past an offset. Since the ends rise, the code before it tells of all before it.
-fn is_first_past(code_span: &[u64], codes: usize, offset: u64, index: usize) -> bool
-    requires { ⌜ (codes ≤ length (now «code_span»)) × Rising codes (now «code_span») ⌝ }
-    ensures { λ r. ⌜ (r ≡ true → FirstPast codes (now («code_span» .entry)) offset index) ⌝ }
-{
-    if index < codes {
-        if code_span[index] / END <= offset {
-            false
-        } else {
-            if 0 < index {
-                code_span[index - 1] / END <= offset
-            } else {
-                true
-            }
-        }
-    } else {
-        false
-    }
-}
-
-// The first code that ends past an offset, or the number of codes. Any hint will do: where it is right, or the code behind it is,
-// there is no search.
-pub fn code_at(code_span: &[u64], codes: usize, offset: u64, hint: usize) -> usize
-    requires { ⌜ (codes ≤ length (now «code_span»)) × Rising codes (now «code_span») ⌝ }
-    ensures { λ r. ⌜ FirstPast codes (now («code_span» .entry)) offset r ⌝ }
-{
-    if hint < codes {
-        if is_first_past(code_span, codes, offset, hint) {
-            hint
-        } else {
-            let next = hint + 1;
-            if is_first_past(code_span, codes, offset, next) {
-                next
-            } else {
-                partition_point(code_span, codes, offset)
-            }
-        }
-    } else {
-        partition_point(code_span, codes, offset)
-    }
-}
-
-// The node of the code at an index; past all codes there is none.
-pub fn place_at(code_node: &[u64], codes: usize, index: usize) -> Place
-    requires { ⌜ codes ≤ length (now «code_node») ⌝ }
-    ensures { λ r. ⌜ ((spans : List ℕ) (offset : ℕ) → codes ≤ length spans → FirstPast codes spans offset index → r ≡ nodeAmong (take codes spans) (take codes (now («code_node» .entry))) offset) ⌝ }
-{
-    if index < codes {
-        Place::Node(at(code_node, index))
-    } else {
-        Place::Past
-    }
-}
-
-// The node of the first code that ends past an offset.
-pub fn node_at(code_span: &[u64], code_node: &[u64], codes: usize, offset: u64) -> Place
-    requires { ⌜ (codes ≤ length (now «code_span»)) × (codes ≤ length (now «code_node»)) ⌝ }
-    requires { ⌜ Rising codes (now «code_span») ⌝ }
-    ensures { λ r. ⌜ r ≡ nodeAmong (take codes (now («code_span» .entry))) (take codes (now («code_node» .entry))) offset ⌝ }
-{
-    let index = partition_point(code_span, codes, offset);
-    place_at(code_node, codes, index)
-}
-
-// Whether the code at a place can run; past all code the answer is yes.
-pub fn can_run(reachable: &[u64], place: Place) -> bool
-    requires { ⌜ Within (length (now reachable)) place ⌝ }
-    ensures { λ r. ⌜ ((g : Graph) → take (nodeCount g) (now (reachable .entry)) ≡ reachableFlags g → Within (nodeCount g) place → r ≡ canRun g place) ⌝ }
-{
-    match place {
-        Place::Node(v) => reachable[v] == 1,
-        Place::Past => true,
     }
 }

@@ -1,4 +1,4 @@
--- `reach::can_run` meets its contract: the flag of a place's node.
+-- `offsets::can_run` meets its contract: the flag of a place's node.
 -- Assumes nothing.
 use Prim.Native.Nat.{_<_}
 use mathlib.Core.Path.{sym, ap, _∙_}
@@ -7,9 +7,9 @@ use native.Mathlib.Omega.{arith}
 use denote.Ref.{now}
 use lib.ListN.{length}
 use Rattle.flow.specs.Reachable.{canRun}
-use Rattle.reach.proofs.Columns.{flag-runs}
-use Rattle.reach.proofs.can_run.Statement.{statement}
-use Rattle.reach.proofs.can_run.Tie as tie
+use Rattle.offsets.proofs.Offsets.{flag-runs}
+use Rattle.offsets.proofs.can_run.Statement.{statement}
+use Rattle.offsets.proofs.can_run.Tie as tie
 
 within : (c : tie.After-place) → c .place .given .0 .0 < length (now (c .before .before .args .reachable))
 within c = c .before .before .pre (c .place .given .0 .0) (c .place .given .1)

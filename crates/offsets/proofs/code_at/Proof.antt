@@ -1,8 +1,8 @@
--- `reach::code_at` meets its contract: by the test where the hint or the code behind it passes it, by the search else.
+-- `offsets::code_at` meets its contract: by the test where the hint or the code behind it passes it, by the search else.
 -- Assumes nothing.
 use borrow.Author.Needs.{needs}
-use Rattle.reach.proofs.code_at.Statement.{statement}
-use Rattle.reach.proofs.code_at.Tie as tie
+use Rattle.offsets.proofs.code_at.Statement.{statement}
+use Rattle.offsets.proofs.code_at.Tie as tie
 
 is-first-past-requires : tie.Need-is-first-past-requires
 is-first-past-requires c κs = search needs

@@ -1,8 +1,8 @@
--- `reach::node_at` meets its contract: the first code that ends past the offset.
+-- `offsets::node_at` meets its contract: the first code that ends past the offset.
 -- Assumes nothing.
 use borrow.Author.Needs.{needs}
-use Rattle.reach.proofs.node_at.Statement.{statement}
-use Rattle.reach.proofs.node_at.Tie as tie
+use Rattle.offsets.proofs.node_at.Statement.{statement}
+use Rattle.offsets.proofs.node_at.Tie as tie
 
 partition-point-requires : tie.Need-partition-point-requires
 partition-point-requires c κs = search needs

@@ -1,11 +1,11 @@
--- `reach::place_at` meets its contract: the first code that ends past an offset has the offset's node.
+-- `offsets::place_at` meets its contract: the first code that ends past an offset has the offset's node.
 -- Assumes nothing.
 use mathlib.Core.Path.{ap, _∙_}
 use borrow.Author.Needs.{needs}
 use Rattle.flow.specs.declared.Place.the-variants.{Node}
-use Rattle.reach.proofs.Columns.{first-at, first-past}
-use Rattle.reach.proofs.place_at.Statement.{statement}
-use Rattle.reach.proofs.place_at.Tie as tie
+use Rattle.offsets.proofs.Offsets.{first-at, first-past}
+use Rattle.offsets.proofs.place_at.Statement.{statement}
+use Rattle.offsets.proofs.place_at.Tie as tie
 
 at-requires : tie.Need-at-requires
 at-requires c κs = search needs

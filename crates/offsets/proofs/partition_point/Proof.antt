@@ -1,13 +1,13 @@
--- `reach::partition_point` meets its contract: codes below `low` end at or before the offset, and the one at `high` ends past it.
+-- `offsets::partition_point` meets its contract: codes below `low` end at or before the offset, and the one at `high` ends past it.
 -- Assumes nothing.
 use Prim.Native.Nat.{ℕ, _+_, _-_, _/_, _≤_, _<_}
 use mathlib.Core.Path.{_≡_}
 use native.Mathlib.Omega.{arith}
 use lib.ListN.{getD}
 use Rattle.flow.specs.Sheet.{endOf}
-use Rattle.reach.proofs.Columns.{through}
-use Rattle.reach.proofs.partition_point.Statement.{statement}
-use Rattle.reach.proofs.partition_point.Tie as tie
+use Rattle.offsets.proofs.Offsets.{through}
+use Rattle.offsets.proofs.partition_point.Statement.{statement}
+use Rattle.offsets.proofs.partition_point.Tie as tie
 
 abbrev Inv-loop : tie.InvT-loop
 Inv-loop spans codes offset low₀ high₀ low high =

@@ -1,13 +1,13 @@
--- `reach::is_first_past` meets its contract: the code before the index takes all before it along.
+-- `offsets::is_first_past` meets its contract: the code before the index takes all before it along.
 -- Assumes nothing.
 use Prim.Native.Nat.{_-_}
 use mathlib.Core.Bool.{false≢true}
 use native.Mathlib.Omega.{arith}
 use borrow.Author.Needs.{needs}
 use borrow.Author.Tests.{leb-true}
-use Rattle.reach.proofs.Columns.{through}
-use Rattle.reach.proofs.is_first_past.Statement.{statement}
-use Rattle.reach.proofs.is_first_past.Tie as tie
+use Rattle.offsets.proofs.Offsets.{through}
+use Rattle.offsets.proofs.is_first_past.Statement.{statement}
+use Rattle.offsets.proofs.is_first_past.Tie as tie
 
 mul-if2 : tie.Need-mul-if2
 mul-if2 c = search needs
