@@ -143,7 +143,7 @@ fn tell(what: &[u8], sheet: &[u64]) {
     io::write_all(STDOUT_FILENO, b", judge ");
     io::print_decimal(STDOUT_FILENO, judge(sheet));
     io::write_all(STDOUT_FILENO, b", run ");
-    io::print_decimal(STDOUT_FILENO, run_number(calls::run(sheet, 0)));
+    io::print_decimal(STDOUT_FILENO, run_number(run::run(sheet, 0)));
     io::write_all(STDOUT_FILENO, b", label check ");
     io::print_decimal(STDOUT_FILENO, label_number(calls::label_check(sheet)));
     io::write_all(STDOUT_FILENO, b"\n");

@@ -1,4 +1,3 @@
-pub mod Judging
 pub mod Promises
 pub mod Few
 pub mod Pieces

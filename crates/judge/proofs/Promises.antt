@@ -21,7 +21,7 @@ use Rattle.flow.proofs.Judged.{judged}
 use Rattle.chart.specs.Lent.{over, Columns, Wide}
 use Rattle.calls.proofs.Bench.{all-long, both-long}
 use Rattle.judge.specs.Lent.{judgeBench, foundIn, MarksLeft, JudgePromise}
-use Rattle.judge.specs.Accepted.{Accepted}
+use Rattle.findings.specs.Accepted.{Accepted}
 
 never : {v : Verdict} {r : Refusal} → v ≡ Refused r → v ≡ Admitted → ⊥
 never p q = let z : _≡_ {A = ℕ} 0 1 = cc in omega arith

@@ -1,6 +1,4 @@
 // The findings of all locals, from the columns of a chart and a use sheet (local_flow.rs).
-ghost use mathlib.Core.Path.{_≡_};
-ghost use mathlib.Core.Bool.{true};
 ghost use mathlib.Core.List.{List};
 ghost use Prim.Native.Nat.{ℕ, _≤_};
 ghost use lib.ListN.{length};
@@ -12,11 +10,9 @@ ghost use Rattle.local_flow.specs.Memory.{Memory};
 use both_lists::list_findings;
 use locals::any_tracked;
 use locals::find_names;
+use locals::is_small;
 use search::clear;
 use uses::sort_uses;
-
-// So many nodes, names and uses a small sheet has at most.
-const SMALL: usize = 128;
 
 // The findings, in memory that is lent: the uses are sorted there, and then the walks take place there. The stack of the walks is
 // scratch memory of the sorting.
@@ -253,18 +249,6 @@ fn compute_large(
         codes,
         names,
     )
-}
-
-// Whether a sheet has so few nodes, names and uses that little memory will do.
-fn is_small(n: usize, names: usize, uses: usize) -> bool
-    ensures { λ r. ⌜ (r ≡ true → (n ≤ 128) × (names ≤ 128) × (uses ≤ 128)) ⌝ }
-{
-    if n <= SMALL {
-        if names <= SMALL {
-            return uses <= SMALL;
-        }
-    }
-    false
 }
 
 // The findings of a sheet with its uses, in their order, and a mark figure for each local. The result is the number of findings.

@@ -1,6 +1,6 @@
 // What the passes over locals share: the facts of each name, a local's part of the uses, and the list of findings that they write (local_flow.rs).
 ghost use mathlib.Core.Path.{_≡_};
-ghost use mathlib.Core.Bool.{false, not};
+ghost use mathlib.Core.Bool.{true, false, not};
 ghost use mathlib.Core.List.{[], _∷_};
 ghost use Prim.Native.Nat.{_+_, _/_, _<_, _≤_};
 ghost use lib.ListN.{length};
@@ -19,6 +19,9 @@ const NAME: u64 = 11;
 
 // As many values stand for a call or `...` last: no name of the LOCAL lacks one.
 const OPEN: u64 = 65535;
+
+// So many nodes, names and uses a small sheet has at most.
+const SMALL: usize = 128;
 
 // The values of the LOCAL that was met last.
 fn values_after(word: u64, values: u64) -> u64
@@ -139,6 +142,18 @@ pub fn any_tracked(facts: &[u16], names: usize) -> bool
             return true;
         }
         i += 1;
+    }
+    false
+}
+
+// Whether a sheet has so few nodes, names and uses that little memory will do.
+pub fn is_small(n: usize, names: usize, uses: usize) -> bool
+    ensures { λ r. ⌜ (r ≡ true → (n ≤ 128) × (names ≤ 128) × (uses ≤ 128)) ⌝ }
+{
+    if n <= SMALL {
+        if names <= SMALL {
+            return uses <= SMALL;
+        }
     }
     false
 }

@@ -7,7 +7,7 @@ mod case;
 mod chart;
 mod findings;
 mod reader;
-mod run;
+mod runs;
 
 struct Tally {
     cases: u64,

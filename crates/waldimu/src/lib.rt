@@ -80,7 +80,7 @@ pub extern "C" fn waldimu_judge(
 pub extern "C" fn waldimu_run(sheet: &[u64], offset: u32) -> u64
     ensures { λ r. ⌜ r ≡ runWord (runs (now (sheet .entry)) offset) ⌝ }
 {
-    run_word(calls::run(sheet, offset))
+    run_word(run::run(sheet, offset))
 }
 
 #[no_mangle]

@@ -54,8 +54,8 @@ returns c = let d = c .before .before .before in judge-refused (S d) (U d) (x d)
 enum-told : tie.Need-enum-told
 enum-told c = search needs
 
-judge-in-requires : tie.Need-judge-in-requires
-judge-in-requires c κs =
+of-sheets-requires : tie.Need-of-sheets-requires
+of-sheets-requires c κs =
     let d = c .before .before .before .before .before .before .before .before .before .before .before .before .before .before in
     let e = verdict-is d ∙ c .before .before .before .before .before .before .before .before .before .before .before .before .enum-told .given .1 in
     let k = ok (S d) (U d) (x d) (words d) (spans d) (marks d) e in
@@ -98,7 +98,7 @@ same-length-12 : tie.Need-same-length-12
 same-length-12 c = search needs
 
 returns-2 : tie.Need-returns-2
-returns-2 c = let d = c .before .before .before .before .before .before .before .before .before .before .before .before .before .before .before .before .before .before .before .before .before .before .before .before .before .before .before .before .before .before .before .before .before .before .before .before .before .before .before in judge-accepted (S d) (U d) (x d) (words d) (spans d) (marks d) (verdict-is d ∙ c .before .before .before .before .before .before .before .before .before .before .before .before .before .before .before .before .before .before .before .before .before .before .before .before .before .before .before .before .before .before .before .before .before .before .before .before .before .enum-told .given .1) (c .before .before .before .before .before .before .before .before .before .before .before .before .before .before .before .before .before .before .before .before .before .before .before .before .judge-in .ensures)
+returns-2 c = let d = c .before .before .before .before .before .before .before .before .before .before .before .before .before .before .before .before .before .before .before .before .before .before .before .before .before .before .before .before .before .before .before .before .before .before .before .before .before .before .before in judge-accepted (S d) (U d) (x d) (words d) (spans d) (marks d) (verdict-is d ∙ c .before .before .before .before .before .before .before .before .before .before .before .before .before .before .before .before .before .before .before .before .before .before .before .before .before .before .before .before .before .before .before .before .before .before .before .before .before .enum-told .given .1) (c .before .before .before .before .before .before .before .before .before .before .before .before .before .before .before .before .before .before .before .before .before .before .before .before .of-sheets .ensures)
 
 pub judge-spec : {M : Type 1} → statement M
 judge-spec =
@@ -109,7 +109,7 @@ judge-spec =
     enum-known-verdict
     returns
     enum-told
-    judge-in-requires
+    of-sheets-requires
     same-length
     same-length-2
     same-length-3

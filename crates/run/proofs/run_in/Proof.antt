@@ -1,9 +1,9 @@
 use borrow.Author.Needs.{needs}
 use denote.Ref.{now}
 use Rattle.flow.specs.Graph.{graph}
-use Rattle.calls.proofs.Running.{node-asks, place-is, place-in, place-long, flags-are, ran}
-use Rattle.calls.proofs.run_in.Statement.{statement}
-use Rattle.calls.proofs.run_in.Tie as tie
+use Rattle.run.proofs.Running.{node-asks, place-is, place-in, place-long, flags-are, ran}
+use Rattle.run.proofs.run_in.Statement.{statement}
+use Rattle.run.proofs.run_in.Tie as tie
 
 of-sheet-requires : tie.Need-of-sheet-requires
 of-sheet-requires c κs = search needs

@@ -1,7 +1,7 @@
 use borrow.Author.Needs.{needs}
-use Rattle.judge.proofs.Judging.{sheets, accepted}
-use Rattle.judge.proofs.judge_in.Statement.{statement}
-use Rattle.judge.proofs.judge_in.Tie as tie
+use Rattle.findings.proofs.Judging.{sheets, accepted}
+use Rattle.findings.proofs.of_sheets.Statement.{statement}
+use Rattle.findings.proofs.of_sheets.Tie as tie
 
 of-sheet-requires : tie.Need-of-sheet-requires
 of-sheet-requires c κs = search needs
@@ -48,8 +48,8 @@ same-length-12 c = search needs
 returns : tie.Need-returns
 returns c = accepted (c .before .before .before .before .before .before .before .before .before .before .before .before .before .before .before .before .before .before .before .before .before .before .before .before .before .before .before .before .before .before .before .before .before .before .before .before .before .before .before .before .before .before .before .before .before .before .before .before .before .before .before .before .before .before .before .before .before .before .before .before .pre .0 .0) (c .before .before .before .before .before .before .before .before .before .before .before .before .before .before .before .before .before .before .before .before .before .before .before .before .before .before .before .before .before .before .before .before .before .before .before .before .of-sheet .ensures) (c .before .before .before .before .before .before .find-all .ensures)
 
-pub judge-in-spec : {M : Type 1} → statement M
-judge-in-spec =
+pub of-sheets-spec : {M : Type 1} → statement M
+of-sheets-spec =
     tie.close
     (tie.spec
     of-sheet-requires

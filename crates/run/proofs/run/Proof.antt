@@ -3,9 +3,9 @@ use mathlib.Core.Path.{sym, _∙_}
 use denote.Ref.{now}
 use lib.Dec.{lit≤}
 use Rattle.flow.proofs.Admission.{admitted}
-use Rattle.calls.proofs.Running.{run-refused, run-accepted}
-use Rattle.calls.proofs.run.Statement.{statement}
-use Rattle.calls.proofs.run.Tie as tie
+use Rattle.run.proofs.Running.{run-refused, run-accepted}
+use Rattle.run.proofs.run.Statement.{statement}
+use Rattle.run.proofs.run.Tie as tie
 
 sheet-verdict-requires : tie.Need-sheet-verdict-requires
 sheet-verdict-requires c κs = search needs

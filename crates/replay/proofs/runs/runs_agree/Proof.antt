@@ -1,8 +1,8 @@
--- `replay::run::runs_agree` is safe and ends. Assumes nothing.
+-- `replay::runs::runs_agree` is safe and ends. Assumes nothing.
 use Prim.Native.Nat.{_≤_, _-_}
 use borrow.Author.Needs.{needs}
-use Rattle.replay.proofs.run.runs_agree.Statement.{statement}
-use Rattle.replay.proofs.run.runs_agree.Tie as tie
+use Rattle.replay.proofs.runs.runs_agree.Statement.{statement}
+use Rattle.replay.proofs.runs.runs_agree.Tie as tie
 
 abbrev Inv-loop : tie.InvT-loop
 Inv-loop sheet stored n k₀ k = k ≤ n

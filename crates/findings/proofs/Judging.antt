@@ -21,7 +21,7 @@ use Rattle.unassigned.specs.Pass.{Marked}
 use Rattle.local_flow.specs.Sheets.{Sheets}
 use Rattle.chart.specs.Lent.{over, Columns, Charted}
 use Rattle.chart.proofs.Read.{Begins, nodes-are, names-are, first-read, second-read, start-read, spans-read, code-nodes-read, ends-rise, code-nodes-in, name-spans-read, name-nodes-read, name-ends-read}
-use Rattle.judge.specs.Accepted.{Found, Accepted}
+use Rattle.findings.specs.Accepted.{Found, Accepted}
 
 module _ {S U : List ℕ} {x y : Columns} {r : Counts} (v : sheetVerdict S ≡ Admitted) (a : AdmittedSheet S) (u : AdmittedUses S U) (h : Charted S x r y) where
   all-names : r .names ≡ length (locals S)

@@ -1,9 +1,9 @@
 use borrow.Author.Needs.{needs}
 use native.Mathlib.Omega.{arith}
 use denote.Ref.{now}
-use Rattle.judge.proofs.Judging.{in-parts, found}
-use Rattle.judge.proofs.find_all.Statement.{statement}
-use Rattle.judge.proofs.find_all.Tie as tie
+use Rattle.findings.proofs.Judging.{in-parts, found}
+use Rattle.findings.proofs.find_all.Statement.{statement}
+use Rattle.findings.proofs.find_all.Tie as tie
 
 shared-slice-read-m : tie.Need-shared-slice-read-m
 shared-slice-read-m c = search needs

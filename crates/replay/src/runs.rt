@@ -1,4 +1,4 @@
-// The stored runs of a case, against what calls::run answers.
+// The stored runs of a case, against what run::run answers.
 ghost use Prim.Native.Nat.{_*_, _≤_};
 ghost use lib.ListN.{length};
 use flow::Place;
@@ -26,7 +26,7 @@ fn answer_is(answer: RunAnswer, node: u64, can: u64) -> bool {
 
 // Whether run answers a stored refusal.
 pub fn refusal_agrees(sheet: &[u64], number: u64) -> bool {
-    match calls::run(sheet, 0) {
+    match run::run(sheet, 0) {
         RunAnswer::Refused(refusal) => admission::number(refusal) == number,
         RunAnswer::Ran(_, _) => false,
     }
@@ -36,7 +36,7 @@ fn run_agrees(sheet: &[u64], offset: u64, node: u64, can: u64) -> bool {
     if offset > NONE {
         return false;
     }
-    answer_is(calls::run(sheet, offset as u32), node, can)
+    answer_is(run::run(sheet, offset as u32), node, can)
 }
 
 // Whether run answers n stored runs: an offset, its node, and 1 where it can run.
