@@ -1,30 +1,26 @@
 // The stored chart of a case, against what calls::chart writes and answers.
-ghost use Prim.Native.Nat.{_+_, _*_, _≤_};
-ghost use lib.ListN.{length};
+use crate::stored::Stored;
 use flow::ChartAnswer;
 use flow::Counts;
 
 // What each lent cell holds before the call.
 pub const OLD: u64 = 7;
 
-fn starts_with(column: &[u64], cells: &[u64]) -> bool {
+// Past every word: what follows cells that a column does not hold is not held either.
+const NOWHERE: usize = 18446744073709551615;
+
+// Behind the stored cells a column holds what it held before.
+fn cell(cells: &[u64], i: usize) -> u64 {
+    if i < cells.len() { cells[i] } else { OLD }
+}
+
+fn is_column(column: &[u64], cells: &[u64]) -> bool {
     if column.len() < cells.len() {
         return false;
     }
     let mut i = 0;
-    while i < cells.len() {
-        if column[i] != cells[i] {
-            return false;
-        }
-        i += 1;
-    }
-    true
-}
-
-pub fn is_old_from(column: &[u64], from: usize) -> bool {
-    let mut i = from;
     while i < column.len() {
-        if column[i] != OLD {
+        if column[i] != cell(cells, i) {
             return false;
         }
         i += 1;
@@ -32,120 +28,80 @@ pub fn is_old_from(column: &[u64], from: usize) -> bool {
     true
 }
 
-// Whether a column holds these cells, and behind them what it held before.
-pub fn holds(column: &[u64], cells: &[u64]) -> bool {
-    if !starts_with(column, cells) {
-        return false;
+// Where the n words from `from` on end, if a column holds them, and nothing new behind them.
+fn end_in(column: &[u64], words: &[u64], from: usize, n: usize) -> usize {
+    if from > words.len() {
+        return NOWHERE;
     }
-    is_old_from(column, cells.len())
+    if n > words.len() - from {
+        return NOWHERE;
+    }
+    let end = from + n;
+    if !is_column(column, &words[from..end]) {
+        return NOWHERE;
+    }
+    end
 }
 
-fn nodes_hold(
-    first: &[u64],
-    second: &[u64],
-    start: &[u64],
-    reachable: &[u64],
-    cells: &[u64],
-    n: usize,
-) -> bool
-    requires { ⌜ 4 * n ≤ length (now cells) ⌝ }
-{
-    if !holds(first, &cells[0..n]) {
-        return false;
-    }
-    if !holds(second, &cells[n..2 * n]) {
-        return false;
-    }
-    if !holds(start, &cells[2 * n..3 * n]) {
-        return false;
-    }
-    holds(reachable, &cells[3 * n..4 * n])
+// The columns are passed by value: a copy asks for less proof than a loan.
+fn node_end(column: [u64; 1600], words: &[u64], from: usize, n: usize) -> usize {
+    end_in(&column, words, from, n)
 }
 
-fn codes_hold(span: &[u64], node: &[u64], cells: &[u64], n: usize) -> bool
-    requires { ⌜ 2 * n ≤ length (now cells) ⌝ }
-{
-    if !holds(span, &cells[0..n]) {
-        return false;
-    }
-    holds(node, &cells[n..2 * n])
+fn entry_end(column: [u64; 1024], words: &[u64], from: usize, n: usize) -> usize {
+    end_in(&column, words, from, n)
 }
 
-fn names_hold(span: &[u64], node: &[u64], end: &[u64], cells: &[u64], n: usize) -> bool
-    requires { ⌜ 3 * n ≤ length (now cells) ⌝ }
-{
-    if !holds(span, &cells[0..n]) {
-        return false;
-    }
-    if !holds(node, &cells[n..2 * n]) {
-        return false;
-    }
-    holds(end, &cells[2 * n..3 * n])
+pub fn finding_end(column: [u64; 3072], words: &[u64], from: usize, n: usize) -> usize {
+    end_in(&column, words, from, n)
 }
 
-pub fn counts_are(counts: Counts, n: usize, c: usize, l: usize) -> bool {
-    if counts.nodes != n {
-        return false;
-    }
-    if counts.codes != c {
-        return false;
-    }
-    counts.names == l
+pub fn counts_are(counts: Counts, stored: Stored) -> bool {
+    let admitted = stored.number == 0;
+    let nodes = counts.nodes == stored.nodes as usize;
+    let codes = counts.codes == stored.codes as usize;
+    let names = counts.names == stored.names as usize;
+    admitted & nodes & codes & names
 }
 
 // Whether an answer is a stored refusal, or 0 with the stored counts.
-fn answer_is(answer: ChartAnswer, number: u64, n: usize, c: usize, l: usize) -> bool {
+fn answer_is(answer: ChartAnswer, stored: Stored) -> bool {
     match answer {
-        ChartAnswer::Refused(refusal) => admission::number(refusal) == number,
-        ChartAnswer::Charted(counts) => {
-            if number != 0 {
-                return false;
-            }
-            counts_are(counts, n, c, l)
-        }
+        ChartAnswer::Refused(refusal) => admission::number(refusal) == stored.number,
+        ChartAnswer::Charted(counts) => counts_are(counts, stored),
     }
 }
 
 // Whether the columns hold a stored chart's cells, and nothing new behind them.
 pub fn cells_hold(
-    first: &[u64],
-    second: &[u64],
-    start: &[u64],
-    reachable: &[u64],
-    code_span: &[u64],
-    code_node: &[u64],
-    name_span: &[u64],
-    name_node: &[u64],
-    name_end: &[u64],
-    stored: &[u64],
-    n: usize,
-    c: usize,
-    l: usize,
-) -> bool
-    requires { ⌜ 4 * n + 2 * c + 3 * l ≤ length (now stored) ⌝ }
-{
-    let codes_from = 4 * n;
-    let names_from = codes_from + 2 * c;
-    if !nodes_hold(first, second, start, reachable, stored, n) {
-        return false;
-    }
-    if !codes_hold(code_span, code_node, &stored[codes_from..], c) {
-        return false;
-    }
-    names_hold(name_span, name_node, name_end, &stored[names_from..], l)
+    first: [u64; 1600],
+    second: [u64; 1600],
+    start: [u64; 1600],
+    reachable: [u64; 1600],
+    code_span: [u64; 1024],
+    code_node: [u64; 1024],
+    name_span: [u64; 1024],
+    name_node: [u64; 1024],
+    name_end: [u64; 1024],
+    stored: Stored,
+    words: &[u64],
+) -> bool {
+    let n = stored.nodes as usize;
+    let c = stored.codes as usize;
+    let l = stored.names as usize;
+    let second_from = node_end(first, words, stored.cells_from, n);
+    let start_from = node_end(second, words, second_from, n);
+    let reachable_from = node_end(start, words, start_from, n);
+    let code_span_from = node_end(reachable, words, reachable_from, n);
+    let code_node_from = entry_end(code_span, words, code_span_from, c);
+    let name_span_from = entry_end(code_node, words, code_node_from, c);
+    let name_node_from = entry_end(name_span, words, name_span_from, l);
+    let name_end_from = entry_end(name_node, words, name_node_from, l);
+    entry_end(name_end, words, name_end_from, l) != NOWHERE
 }
 
-// Whether chart answers and writes what is stored. A refusal has no cells.
-pub fn chart_agrees(
-    sheet: &[u64],
-    number: u64,
-    stored: &[u64],
-    n: usize,
-    c: usize,
-    l: usize,
-) -> bool
-    requires { ⌜ 4 * n + 2 * c + 3 * l ≤ length (now stored) ⌝ }
-{
+// Whether chart answers and writes what is stored.
+pub fn chart_agrees(sheet: &[u64], stored: Stored, words: &[u64]) -> bool {
     let mut first = [OLD; 1600];
     let mut second = [OLD; 1600];
     let mut start = [OLD; 1600];
@@ -167,22 +123,19 @@ pub fn chart_agrees(
         &mut name_node,
         &mut name_end,
     );
-    if !answer_is(answer, number, n, c, l) {
-        return false;
-    }
-    cells_hold(
-        &first,
-        &second,
-        &start,
-        &reachable,
-        &code_span,
-        &code_node,
-        &name_span,
-        &name_node,
-        &name_end,
+    let answered = answer_is(answer, stored);
+    let written = cells_hold(
+        first,
+        second,
+        start,
+        reachable,
+        code_span,
+        code_node,
+        name_span,
+        name_node,
+        name_end,
         stored,
-        n,
-        c,
-        l,
-    )
+        words,
+    );
+    answered & written
 }

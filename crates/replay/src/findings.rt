@@ -1,74 +1,49 @@
 // The stored findings of a case, with its chart, against what judge writes and answers.
-ghost use Prim.Native.Nat.{_+_, _*_, _≤_};
-ghost use lib.ListN.{length};
 use crate::chart::OLD;
 use crate::chart::cells_hold;
 use crate::chart::counts_are;
-use crate::chart::holds;
-use crate::chart::is_old_from;
+use crate::chart::finding_end;
+use crate::stored::Stored;
 use flow::JudgeAnswer;
 
 // Whether an answer is a stored refusal, or 0 with the stored counts and the number of findings.
-fn answer_is(
-    answer: JudgeAnswer,
-    number: u64,
-    n: usize,
-    c: usize,
-    l: usize,
-    findings: usize,
-) -> bool {
+fn answer_is(answer: JudgeAnswer, stored: Stored) -> bool {
     match answer {
-        JudgeAnswer::Refused(refusal) => admission::number(refusal) == number,
+        JudgeAnswer::Refused(refusal) => admission::number(refusal) == stored.number,
         JudgeAnswer::Judged(counts, found) => {
-            if number != 0 {
-                return false;
-            }
-            if found != findings {
-                return false;
-            }
-            counts_are(counts, n, c, l)
+            counts_are(counts, stored) & (found == stored.findings as usize)
         }
     }
 }
 
-// Whether the mark figures of l locals are at most the node count n, and nothing is new behind them.
-fn marks_hold(mark: &[u64], n: usize, l: usize) -> bool {
-    if l > mark.len() {
-        return false;
+// The mark figure of a local is at most the node count, and nothing is new behind them.
+fn is_mark(mark: u64, i: usize, stored: Stored) -> bool {
+    if i < stored.names as usize {
+        return mark <= stored.nodes as u64;
     }
+    mark == OLD
+}
+
+fn marks_hold(mark: [u64; 1024], stored: Stored) -> bool {
     let mut i = 0;
-    while i < l {
-        if mark[i] > n as u64 {
+    while i < 1024 {
+        if !is_mark(mark[i], i, stored) {
             return false;
         }
         i += 1;
     }
-    is_old_from(mark, l)
+    true
 }
 
-fn findings_hold(word: &[u64], span: &[u64], cells: &[u64], findings: usize) -> bool
-    requires { ⌜ 2 * findings ≤ length (now cells) ⌝ }
-{
-    if !holds(word, &cells[0..findings]) {
-        return false;
-    }
-    holds(span, &cells[findings..2 * findings])
+// The findings' cells are a case's last words.
+fn findings_hold(word: [u64; 3072], span: [u64; 3072], words: &[u64], stored: Stored) -> bool {
+    let n = stored.findings as usize;
+    let span_from = finding_end(word, words, stored.findings_from, n);
+    finding_end(span, words, span_from, n) == words.len()
 }
 
-// Whether judge answers and writes what is stored: the chart's cells, then the findings'. A refusal has none.
-pub fn judge_agrees(
-    sheet: &[u64],
-    uses: &[u64],
-    number: u64,
-    stored: &[u64],
-    n: usize,
-    c: usize,
-    l: usize,
-    found: &[u64],
-    findings: usize,
-) -> bool
-    requires { ⌜ (4 * n + 2 * c + 3 * l ≤ length (now stored)) × (2 * findings ≤ length (now found)) ⌝ }
-{
+// Whether judge answers and writes what is stored: the chart's cells, and the findings'.
+pub fn judge_agrees(sheet: &[u64], uses: &[u64], stored: Stored, words: &[u64]) -> bool {
     let mut first = [OLD; 1600];
     let mut second = [OLD; 1600];
     let mut start = [OLD; 1600];
@@ -97,28 +72,21 @@ pub fn judge_agrees(
         &mut finding_span,
         &mut mark,
     );
-    if !answer_is(answer, number, n, c, l, findings) {
-        return false;
-    }
-    if !marks_hold(&mark, n, l) {
-        return false;
-    }
-    if !findings_hold(&finding_word, &finding_span, found, findings) {
-        return false;
-    }
-    cells_hold(
-        &first,
-        &second,
-        &start,
-        &reachable,
-        &code_span,
-        &code_node,
-        &name_span,
-        &name_node,
-        &name_end,
+    let answered = answer_is(answer, stored);
+    let written = cells_hold(
+        first,
+        second,
+        start,
+        reachable,
+        code_span,
+        code_node,
+        name_span,
+        name_node,
+        name_end,
         stored,
-        n,
-        c,
-        l,
-    )
+        words,
+    );
+    let found = findings_hold(finding_word, finding_span, words, stored);
+    let marked = marks_hold(mark, stored);
+    answered & written & found & marked
 }

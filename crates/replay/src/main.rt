@@ -8,6 +8,7 @@ mod chart;
 mod findings;
 mod reader;
 mod runs;
+mod stored;
 
 struct Tally {
     cases: u64,

@@ -21,28 +21,34 @@ fn word(bytes: &[u8], at: usize) -> u64
     w
 }
 
-fn decode(bytes: &[u8; 98304], words: &mut [u64], n: usize)
-    requires { ⌜ (n ≤ 12288) × (n ≤ length (now words)) ⌝ }
+fn decode(bytes: [u8; 98304], n: usize) -> [u64; 12288]
+    requires { ⌜ n ≤ 12288 ⌝ }
 {
+    let mut words = [0u64; 12288];
     let mut i: usize = 0;
     while i < n {
-        words[i] = word(bytes, 8 * i);
+        words[i] = word(&bytes, 8 * i);
         i += 1;
     }
+    words
+}
+
+// Room for the longest case. A function that makes it itself is slow to prove: the prover goes through the zeros.
+fn room() -> [u8; 98304] {
+    [0; 98304]
 }
 
 // Reads the n words of a case. The longest stored one has 11,182.
 fn read_words(fd: i32, n: usize) -> Outcome
     requires { ⌜ n ≤ 12288 ⌝ }
 {
-    let mut bytes = [0u8; 98304];
-    let got = io::read_full(fd, &mut bytes[..8 * n]);
+    let mut bytes = room();
+    let got = io::read_full(fd, &mut bytes[0..8 * n]);
     if got < 8 * n {
         return Outcome::Unread;
     }
-    let mut words = [0u64; 12288];
-    decode(&bytes, &mut words, n);
-    compare(&words[..n])
+    let words = decode(bytes, n);
+    compare(&words[0..n])
 }
 
 pub fn next(fd: i32) -> Outcome {

@@ -1,31 +1,30 @@
 // The stored runs of a case, against what run::run answers.
-ghost use Prim.Native.Nat.{_*_, _≤_};
-ghost use lib.ListN.{length};
+ghost use Prim.Native.Nat.{_≤_};
+use crate::stored::NONE;
+use crate::stored::Stored;
+use crate::stored::cells_end;
+use crate::stored::count;
+use crate::stored::word_at;
 use flow::Place;
 use flow::RunAnswer;
 
-// How a case writes a place that is past all code.
-const NONE: u64 = 4294967295;
-
+// A case writes NONE for a place that is past all code.
 fn place_is(place: Place, node: u64) -> bool {
     match place {
         Place::Node(v) => v as u64 == node,
-        Place::Past => node == NONE,
+        Place::Past => node == NONE as u64,
     }
 }
 
 fn answer_is(answer: RunAnswer, node: u64, can: u64) -> bool {
-    let RunAnswer::Ran(place, yes) = answer else {
-        return false;
-    };
-    if !place_is(place, node) {
-        return false;
+    match answer {
+        RunAnswer::Refused(_) => false,
+        RunAnswer::Ran(place, yes) => place_is(place, node) & (can < 2) & (yes == (can == 1)),
     }
-    yes == (can == 1)
 }
 
 // Whether run answers a stored refusal.
-pub fn refusal_agrees(sheet: &[u64], number: u64) -> bool {
+fn refusal_agrees(sheet: &[u64], number: u64) -> bool {
     match run::run(sheet, 0) {
         RunAnswer::Refused(refusal) => admission::number(refusal) == number,
         RunAnswer::Ran(_, _) => false,
@@ -33,23 +32,37 @@ pub fn refusal_agrees(sheet: &[u64], number: u64) -> bool {
 }
 
 fn run_agrees(sheet: &[u64], offset: u64, node: u64, can: u64) -> bool {
-    if offset > NONE {
+    if offset > NONE as u64 {
         return false;
     }
     answer_is(run::run(sheet, offset as u32), node, can)
 }
 
 // Whether run answers n stored runs: an offset, its node, and 1 where it can run.
-pub fn runs_agree(sheet: &[u64], stored: &[u64], n: usize) -> bool
-    requires { ⌜ 3 * n ≤ length (now stored) ⌝ }
+fn n_runs_agree(sheet: &[u64], words: &[u64], from: usize, n: u32) -> bool
+    requires { ⌜ from ≤ 1099511627777 ⌝ }
 {
     let mut k = 0;
     while k < n {
-        let at = 3 * k;
-        if !run_agrees(sheet, stored[at], stored[at + 1], stored[at + 2]) {
+        let at = from + 3 * k as usize;
+        if !run_agrees(
+            sheet,
+            word_at(words, at),
+            word_at(words, at + 1),
+            word_at(words, at + 2),
+        ) {
             return false;
         }
         k += 1;
     }
     true
+}
+
+// Whether run answers what is stored: the refusal of the sheet, or a number of runs and the runs.
+pub fn runs_agree(sheet: &[u64], chart: Stored, words: &[u64]) -> bool {
+    if chart.number != 0 {
+        return refusal_agrees(sheet, chart.number);
+    }
+    let at = cells_end(chart.nodes, chart.codes, chart.names);
+    n_runs_agree(sheet, words, at + 1, count(words, at))
 }

@@ -1,15 +1,15 @@
--- `replay::chart::starts_with` is safe and ends. Assumes nothing.
+-- `replay::chart::is_column` is safe and ends. Assumes nothing.
 use Prim.Native.Nat.{_≤_, _-_}
 use lib.ListN.{length}
 use borrow.Author.Needs.{needs}
-use Rattle.replay.proofs.chart.starts_with.Statement.{statement}
-use Rattle.replay.proofs.chart.starts_with.Tie as tie
+use Rattle.replay.proofs.chart.is_column.Statement.{statement}
+use Rattle.replay.proofs.chart.is_column.Tie as tie
 
 abbrev Inv-loop : tie.InvT-loop
-Inv-loop column cells i₀ i = (i ≤ length cells) × (length cells ≤ length column)
+Inv-loop column cells i₀ i = i ≤ length column
 
 abbrev μ-loop : tie.MeasureT-loop
-μ-loop column cells i₀ i = length cells - i
+μ-loop column cells i₀ i = length column - i
 
 returns : tie.Need-returns Inv-loop μ-loop
 returns c = search needs
@@ -23,11 +23,8 @@ mul-if2 c = search needs
 shared-slice-read-if2 : tie.Need-shared-slice-read-if2 Inv-loop μ-loop
 shared-slice-read-if2 c = search needs
 
-mul-if2-2 : tie.Need-mul-if2-2 Inv-loop μ-loop
-mul-if2-2 c = search needs
-
-shared-slice-read-if2-2 : tie.Need-shared-slice-read-if2-2 Inv-loop μ-loop
-shared-slice-read-if2-2 c = search needs
+cell-requires : tie.Need-cell-requires Inv-loop μ-loop
+cell-requires c κs = search needs
 
 returns-2 : tie.Need-returns-2 Inv-loop μ-loop
 returns-2 c = search needs
@@ -44,8 +41,8 @@ loop-again c = search needs
 returns-3 : tie.Need-returns-3 Inv-loop μ-loop
 returns-3 c = search needs
 
-pub starts-with-spec : {M : Type 1} → statement M
-starts-with-spec =
+pub is-column-spec : {M : Type 1} → statement M
+is-column-spec =
     tie.close
     (tie.spec
     Inv-loop
@@ -54,8 +51,7 @@ starts-with-spec =
     loop-holds
     mul-if2
     shared-slice-read-if2
-    mul-if2-2
-    shared-slice-read-if2-2
+    cell-requires
     returns-2
     add-i
     loop-less
