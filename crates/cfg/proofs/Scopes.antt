@@ -12,24 +12,10 @@ use Rattle.flow.specs.Graph.{Settings, Label, buildBlock, inside, inLoop, enter
 use Rattle.blocks.specs.Open.{openAt, Ender}
 use Rattle.cfg_steps.specs.declared.GraphBuilder.{GraphBuilder}
 use Rattle.cfg_edges.specs.Halves.{labelList}
-use Rattle.cfg_steps.specs.Columns.{Cols, cols, graphOf, settingsOf, Good, Did, Entered}
+use Rattle.cfg_steps.specs.Columns.{Cols, cols, graphOf, settingsOf, within, Good, Did, Entered}
 use Rattle.cfg_steps.proofs.Ops.{grown-trans, same-labels, take-less}
 use Rattle.cfg.specs.Steps.{bare, Finished, Scoped, Looped}
 use Rattle.cfg.proofs.Blocks.{nodes-of}
-
--- other settings with the same place, counts and current node
-abbrev pub within : ℕ → ℕ → ℕ → ℕ → GraphBuilder → GraphBuilder
-within labels scope breaks continues b = record {
-  item = b .item;
-  nodes = b .nodes;
-  codes = b .codes;
-  names = b .names;
-  labels = labels;
-  cursor = b .cursor;
-  «scope_end» = scope;
-  «break_target» = breaks;
-  «continue_target» = continues;
-}
 
 pub good-within : {b : GraphBuilder} {x : Cols} (labels scope breaks continues : ℕ) → labels ≤ b .labels → scope < 2 ^ 32 → breaks < b .nodes → continues < b .nodes → Good b x → Good (within labels scope breaks continues b) x
 good-within labels scope breaks continues hl hs hb hc ok = record {
@@ -80,18 +66,17 @@ module _ (ks ss : List ℕ) {b : GraphBuilder} {x : Cols} (ok : Good b x) (s : �
     entered-room h = rw (n .item) (omega (arith, h, n .nodes))
 
     -- the block is built, and the settings return
-    pub scoped : {r : GraphBuilder} {z : Cols} → Finished ks ss e y r z → Scoped ks ss s b x (within (b .labels) (b .«scope_end») (r .«break_target») (r .«continue_target») r) z
+    pub scoped : {r r' : GraphBuilder} {z : Cols} → Finished ks ss e y r z → r' ≡ within (b .labels) (b .«scope_end») (b .«break_target») (b .«continue_target») r → Scoped ks ss s b x r' z
     unfolding settingsOf graphOf
-    scoped {r} {z} f =
+    scoped {r} {r'} {z} f back =
         let m = f .moved in
-        let brk : r .«break_target» ≡ b .«break_target» = ap (λ (q : Settings). q .breakTo) (m .settings) ∙ n .breakTarget in
-        let con : r .«continue_target» ≡ b .«continue_target» = ap (λ (q : Settings). q .continueTo) (m .settings) ∙ n .continueTarget in
         let kept : take (b .labels) (z .labels) ≡ take (b .labels) (x .labels) =
         take-less {n = b .labels} {m = e .labels} (z .labels) (y .labels) (omega (arith, n .labels)) (m .grown .labelsKept) ∙ n .grown .labelsKept in
         let g = grown-trans (omega (arith, n .labels)) (n .grown) (m .grown) in
+        subst (λ (q : GraphBuilder). Scoped ks ss s b x q z) (sym back)
         record {
           moved = record {
-            good = good-within (b .labels) (b .«scope_end») (r .«break_target») (r .«continue_target») (omega (arith, m .labels, n .labels)) (ok .scopeEnd) (m .good .breakTarget) (m .good .continueTarget) (m .good);
+            good = good-within (b .labels) (b .«scope_end») (b .«break_target») (b .«continue_target») (omega (arith, m .labels, n .labels)) (ok .scopeEnd) (omega (arith, ok .breakTarget, g .nodes)) (omega (arith, ok .continueTarget, g .nodes)) (m .good);
             grown = record {
               nodes = g .nodes;
               codes = g .codes;
@@ -109,7 +94,7 @@ module _ (ks ss : List ℕ) {b : GraphBuilder} {x : Cols} (ok : Good b x) (s : �
             forward = omega (arith, m .forward, n .item);
             within = m .within;
             labels = refl;
-            settings = same-settings brk con refl (same-labels (b .labels) (z .labels) (x .labels) kept);
+            settings = same-settings refl refl refl (same-labels (b .labels) (z .labels) (x .labels) kept);
           };
           ended = f .ended;
           shut = f .shut ∙ ap (λ (j : ℕ). bare (openAt ks ss j)) (n .item);
@@ -124,17 +109,16 @@ module _ (ks ss : List ℕ) {b : GraphBuilder} {x : Cols} (ok : Good b x) (s aft
   abbrev looping : GraphBuilder
   looping = within (b .labels) (b .«scope_end») after next b
 
-  pub looped : {t r : GraphBuilder} (e c n l : List ℕ) {z : Cols} → Scoped ks ss s looping x t (cols e c n l) → Did ks (λ js. closeInto next) 0 t (cols e c n l) r z
-      → Looped ks ss s after next b x (within (r .labels) (r .«scope_end») (b .«break_target») (b .«continue_target») r) z
+  pub looped : {t r r' : GraphBuilder} (e c n l : List ℕ) {z : Cols} → Scoped ks ss s looping x t (cols e c n l) → Did ks (λ js. closeInto next) 0 t (cols e c n l) r z
+      → r' ≡ within (b .labels) (b .«scope_end») (b .«break_target») (b .«continue_target») r → Looped ks ss s after next b x r' z
   unfolding settingsOf graphOf inLoop
-  looped {t} {r} e c n l {z} f d =
+  looped {t} {r} {r'} e c n l {z} f d back =
       let m = f .moved in
       let g = grown-trans (omega (arith, m .labels)) (m .grown) (d .grown) in
-      let scope : r .«scope_end» ≡ b .«scope_end» = ap (λ (q : Settings). q .scopeEnd) (d .settings ∙ m .settings) in
-      let list : labelList (r .labels) (z .labels) ≡ labelList (b .labels) (x .labels) = ap (λ (q : Settings). q .labels) (d .settings ∙ m .settings) in
+      subst (λ (q : GraphBuilder). Looped ks ss s after next b x q z) (sym back)
       record {
         moved = record {
-          good = good-within (r .labels) (r .«scope_end») (b .«break_target») (b .«continue_target») (omega arith) (d .good .scopeEnd) (omega (arith, ok .breakTarget, g .nodes)) (omega (arith, ok .continueTarget, g .nodes)) (d .good);
+          good = good-within (b .labels) (b .«scope_end») (b .«break_target») (b .«continue_target») (omega (arith, d .labels, m .labels)) (ok .scopeEnd) (omega (arith, ok .breakTarget, g .nodes)) (omega (arith, ok .continueTarget, g .nodes)) (d .good);
           grown = record {
             nodes = g .nodes;
             codes = g .codes;
@@ -151,8 +135,8 @@ module _ (ks ss : List ℕ) {b : GraphBuilder} {x : Cols} (ok : Good b x) (s aft
           };
           forward = omega (arith, m .forward, d .item);
           within = omega (arith, m .within, d .item);
-          labels = d .labels ∙ m .labels;
-          settings = same-settings refl refl scope list;
+          labels = refl;
+          settings = same-settings refl refl refl (same-labels (b .labels) (z .labels) (x .labels) (g .labelsKept));
         };
         ended = λ h. subst (λ (j : ℕ). Ender (kindOf (getD ks j 0))) (sym (d .item)) (f .ended (rw (← d .item) h));
         shut = ap (openAt ks ss) (d .item) ∙ f .shut;

@@ -62,15 +62,11 @@ fn scoped_block(
     requires { ⌜ Sane (now kinds) × Good b (cols (now edges) (now codes) (now names) (now labels)) × (b .item ≤ length (now kinds)) × BlockRoom (now kinds) b × («scope_end» < 4294967296) ⌝ }
     ensures { λ r. ⌜ ((ss : List ℕ) → length ss ≡ length (now (kinds .entry)) → Scoped (now (kinds .entry)) ss «scope_end» b (cols (now (edges .entry)) (now (codes .entry)) (now (names .entry)) (now (labels .entry))) r (cols (now (edges .exit)) (now (codes .exit)) (now (names .exit)) (now (labels .exit)))) ⌝ }
 {
-    let outer_scope_end = b.scope_end;
-    let outer_labels = b.labels;
     let mut t = b;
     t.scope_end = scope_end;
     let e = t.enter_block(kinds, edges, labels);
-    let mut r = block(kinds, edges, codes, names, labels, e);
-    r.labels = outer_labels;
-    r.scope_end = outer_scope_end;
-    r
+    let r = block(kinds, edges, codes, names, labels, e);
+    r.return_to(b)
 }
 
 // A loop's body: BREAK goes to break_target, CONTINUE and the body's end to continue_target.
@@ -89,16 +85,12 @@ fn loop_body(
     requires { ⌜ («break_target» < b .nodes) × («continue_target» < b .nodes) ⌝ }
     ensures { λ r. ⌜ ((ss : List ℕ) → length ss ≡ length (now (kinds .entry)) → Looped (now (kinds .entry)) ss «scope_end» «break_target» «continue_target» b (cols (now (edges .entry)) (now (codes .entry)) (now (names .entry)) (now (labels .entry))) r (cols (now (edges .exit)) (now (codes .exit)) (now (names .exit)) (now (labels .exit)))) ⌝ }
 {
-    let outer_break = b.break_target;
-    let outer_continue = b.continue_target;
     let mut t = b;
     t.break_target = break_target;
     t.continue_target = continue_target;
     let s = scoped_block(kinds, edges, codes, names, labels, t, scope_end);
-    let mut r = s.close_into(edges, continue_target);
-    r.break_target = outer_break;
-    r.continue_target = outer_continue;
-    r
+    let r = s.close_into(edges, continue_target);
+    r.return_to(b)
 }
 
 // The WHILE of item i.

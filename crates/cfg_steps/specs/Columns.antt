@@ -63,6 +63,20 @@ graphOf ks ss b x = record {
 unfoldable pub settingsOf : GraphBuilder → Cols → Settings
 settingsOf b x = record { breakTo = b .«break_target»; continueTo = b .«continue_target»; scopeEnd = b .«scope_end»; labels = labelList (b .labels) (x .labels) }
 
+-- other settings with the same place, counts and current node
+abbrev pub within : ℕ → ℕ → ℕ → ℕ → GraphBuilder → GraphBuilder
+within labels scope breaks continues b = record {
+  item = b .item;
+  nodes = b .nodes;
+  codes = b .codes;
+  names = b .names;
+  labels = labels;
+  cursor = b .cursor;
+  «scope_end» = scope;
+  «break_target» = breaks;
+  «continue_target» = continues;
+}
+
 -- the columns are wide enough, and all that they hold are nodes and items that were read
 pub record Good (b : GraphBuilder) (x : Cols) : Type 0 where
   pub wideEdges : 1600 ≤ length (x .edges)

@@ -10,7 +10,7 @@ ghost use Rattle.flow.specs.Sheet.{kindOf, argumentOf};
 ghost use Rattle.flow.specs.Graph.{labelNode, newNode, advanceTo, code, closeInto, jump, recordCode, declare, simpleStmt, orBreak, connect, moveTo, enterWhen, unlessTrue, unlessFalse};
 ghost use Rattle.blocks.specs.Open.{labelsAt, labelsHere};
 ghost use Rattle.cfg_edges.specs.Halves.{labelList};
-ghost use Rattle.cfg_steps.specs.Columns.{cols, hasStart, settingsOf, Good, Standing, Did, Entered, LabelsFit, labelled, coded, simpleMade};
+ghost use Rattle.cfg_steps.specs.Columns.{cols, hasStart, settingsOf, within, Good, Standing, Did, Entered, LabelsFit, labelled, coded, simpleMade};
 use blocks::depth_after;
 use blocks::ends_at;
 use blocks::is_label;
@@ -70,6 +70,17 @@ impl GraphBuilder {
         let from = self.cursor;
         connect(edges, from, target);
         self.cursor = 4294967295;
+        self
+    }
+
+    // "Break target, continue target and scope end return to their outer settings when a body closes", and so do the labels in force.
+    pub fn return_to(mut self, outer: GraphBuilder) -> GraphBuilder
+        ensures { λ r. ⌜ r ≡ within (outer .labels) (outer .«scope_end») (outer .«break_target») (outer .«continue_target») self ⌝ }
+    {
+        self.labels = outer.labels;
+        self.scope_end = outer.scope_end;
+        self.break_target = outer.break_target;
+        self.continue_target = outer.continue_target;
         self
     }
 

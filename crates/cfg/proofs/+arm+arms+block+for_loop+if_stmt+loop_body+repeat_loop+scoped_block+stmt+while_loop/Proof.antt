@@ -61,6 +61,7 @@ use Rattle.cfg_steps.proofs.GraphBuilder.for_head.Reads as for-head-reads
 use Rattle.cfg_steps.proofs.GraphBuilder.loop_end.Reads as loop-end-reads
 use Rattle.cfg_steps.proofs.GraphBuilder.repeat_end.Reads as repeat-end-reads
 use Rattle.cfg_steps.proofs.GraphBuilder.repeat_head.Reads as repeat-head-reads
+use Rattle.cfg_steps.proofs.GraphBuilder.return_to.Reads as return-to-reads
 use Rattle.cfg_steps.proofs.GraphBuilder.simple_stmt.Reads as simple-stmt-reads
 use Rattle.cfg_steps.proofs.GraphBuilder.while_head.Reads as while-head-reads
 use Rattle.blocks.proofs.ends_at.Reads as ends-at-reads
@@ -190,13 +191,13 @@ abbrev if-stmt-claims : ℕ → if-stmt-lts.Claims
 if-stmt-claims t = (code-and-after-reads.Asked, code-and-after-reads.Learnt, scoped-block-below t, scoped-block.Post, close-into-reads.Asked, close-into-reads.Learnt, arms-below t, arms.Post)
 
 abbrev loop-body-claims : ℕ → loop-body-lts.Claims
-loop-body-claims t = (scoped-block-below t, scoped-block.Post, close-into-reads.Asked, close-into-reads.Learnt)
+loop-body-claims t = (scoped-block-below t, scoped-block.Post, close-into-reads.Asked, close-into-reads.Learnt, return-to-reads.Asked, return-to-reads.Learnt)
 
 abbrev repeat-loop-claims : ℕ → repeat-loop-lts.Claims
 repeat-loop-claims t = (literal-truth-reads.Asked, literal-truth-reads.Learnt, repeat-head-reads.Asked, repeat-head-reads.Learnt, loop-body-below t, loop-body.Post, past-reads.Asked, past-reads.Learnt, repeat-end-reads.Asked, repeat-end-reads.Learnt)
 
 abbrev scoped-block-claims : ℕ → scoped-block-lts.Claims
-scoped-block-claims t = (enter-block-reads.Asked, enter-block-reads.Learnt, block-below t, block.Post)
+scoped-block-claims t = (enter-block-reads.Asked, enter-block-reads.Learnt, block-below t, block.Post, return-to-reads.Asked, return-to-reads.Learnt)
 
 abbrev stmt-claims : ℕ → stmt-lts.Claims
 stmt-claims t = (scoped-block-below t, scoped-block.Post, past-reads.Asked, past-reads.Learnt, while-loop-below t, while-loop.Post, repeat-loop-below t, repeat-loop.Post, for-loop-below t, for-loop.Post, if-stmt-below t, if-stmt.Post, simple-stmt-reads.Asked, simple-stmt-reads.Learnt)
@@ -404,8 +405,11 @@ loop-body-scoped-block-requires t c κs = (omega (arith, c .before .before .befo
 loop-body-close-into-requires : (t : ℕ) → loop-body-lts.Need-close-into-requires (loop-body-claims t) (loop-body-at t) loop-body.Post
 loop-body-close-into-requires t c κs = let s = c .before .before .before .before .before .before .before .before .before .scoped-block .ensures (c .before .before .before .before .before .before .before .before .before .before .before .before .before .before .before .before .before .before .before .args .kinds .now) refl .moved in (stands (s .good), omega (arith, s .grown .nodes, c .before .before .before .before .before .before .before .before .before .before .before .before .before .before .before .before .before .before .before .pre .1 .1 .1))
 
+loop-body-return-to-requires : (t : ℕ) → loop-body-lts.Need-return-to-requires (loop-body-claims t) (loop-body-at t) loop-body.Post
+loop-body-return-to-requires t c κs = tt
+
 loop-body-returns : (t : ℕ) → loop-body-lts.Need-returns (loop-body-claims t) (loop-body-at t) loop-body.Post
-loop-body-returns t c = λ ss e. let s = c .before .before .before .before .before .before .before .before .before .before .before .before .scoped-block .ensures ss e in looped _ ss (c .before .before .before .before .before .before .before .before .before .before .before .before .before .before .before .before .before .before .before .before .before .before .pre .1 .0 .1) (c .before .before .before .before .before .before .before .before .before .before .before .before .before .before .before .before .before .before .before .before .before .before .args .scope-end) (c .before .before .before .before .before .before .before .before .before .before .before .before .before .before .before .before .before .before .before .before .before .before .args .break-target) (c .before .before .before .before .before .before .before .before .before .before .before .before .before .before .before .before .before .before .before .before .before .before .args .continue-target) _ _ _ _ s (c .before .before .close-into .ensures _ _ _ _ (s .moved .good))
+loop-body-returns t c = λ ss e. let s = c .before .before .before .before .before .before .before .before .before .before .before .before .before .scoped-block .ensures ss e in looped _ ss (c .before .before .before .before .before .before .before .before .before .before .before .before .before .before .before .before .before .before .before .before .before .before .before .pre .1 .0 .1) (c .before .before .before .before .before .before .before .before .before .before .before .before .before .before .before .before .before .before .before .before .before .before .before .args .scope-end) (c .before .before .before .before .before .before .before .before .before .before .before .before .before .before .before .before .before .before .before .before .before .before .before .args .break-target) (c .before .before .before .before .before .before .before .before .before .before .before .before .before .before .before .before .before .before .before .before .before .before .before .args .continue-target) _ _ _ _ s (c .before .before .before .close-into .ensures _ _ _ _ (s .moved .good)) (c .return-to .ensures)
 
 repeat-loop-mul-argument : (t : ℕ) → repeat-loop-lts.Need-mul-argument (repeat-loop-claims t) (repeat-loop-at t) repeat-loop.Post
 repeat-loop-mul-argument t c = omega (arith, c .before .before .before .before .before .pre .1 .4)
@@ -457,8 +461,11 @@ scoped-block-block-requires t c κs =
     let n = c .before .before .before .before .before .before .before .before .enter-block .ensures (c .before .before .before .before .before .before .before .before .before .before .before .before .before .before .before .before .args .kinds .now) _ _ refl (good-within (c .before .before .before .before .before .before .before .before .before .before .before .before .before .before .before .before .args .b .labels) (c .before .before .before .before .before .before .before .before .before .before .before .before .before .before .before .before .args .scope-end) (c .before .before .before .before .before .before .before .before .before .before .before .before .before .before .before .before .args .b .«break_target») (c .before .before .before .before .before .before .before .before .before .before .before .before .before .before .before .before .args .b .«continue_target») (le-refl _) (c .before .before .before .before .before .before .before .before .before .before .before .before .before .before .before .before .pre .1 .4) (c .before .before .before .before .before .before .before .before .before .before .before .before .before .before .before .before .pre .1 .1 .breakTarget) (c .before .before .before .before .before .before .before .before .before .before .before .before .before .before .before .before .pre .1 .1 .continueTarget) (c .before .before .before .before .before .before .before .before .before .before .before .before .before .before .before .before .pre .1 .1)) in
     (omega (arith, c .before .before .before .before .before .before .before .before .before .before .before .before .before .before .before .before .pre .0, n .item), (c .before .before .before .before .before .before .before .before .before .before .before .before .before .before .before .before .pre .1 .0, n .good, omega (arith, n .item, c .before .before .before .before .before .before .before .before .before .before .before .before .before .before .before .before .pre .1 .2), λ ss e. entered-room _ ss (c .before .before .before .before .before .before .before .before .before .before .before .before .before .before .before .before .pre .1 .1) (c .before .before .before .before .before .before .before .before .before .before .before .before .before .before .before .before .args .scope-end) (c .before .before .before .before .before .before .before .before .enter-block .ensures ss _ _ e (good-within (c .before .before .before .before .before .before .before .before .before .before .before .before .before .before .before .before .args .b .labels) (c .before .before .before .before .before .before .before .before .before .before .before .before .before .before .before .before .args .scope-end) (c .before .before .before .before .before .before .before .before .before .before .before .before .before .before .before .before .args .b .«break_target») (c .before .before .before .before .before .before .before .before .before .before .before .before .before .before .before .before .args .b .«continue_target») (le-refl _) (c .before .before .before .before .before .before .before .before .before .before .before .before .before .before .before .before .pre .1 .4) (c .before .before .before .before .before .before .before .before .before .before .before .before .before .before .before .before .pre .1 .1 .breakTarget) (c .before .before .before .before .before .before .before .before .before .before .before .before .before .before .before .before .pre .1 .1 .continueTarget) (c .before .before .before .before .before .before .before .before .before .before .before .before .before .before .before .before .pre .1 .1))) (c .before .before .before .before .before .before .before .before .before .before .before .before .before .before .before .before .pre .1 .3 ss e)))
 
+scoped-block-return-to-requires : (t : ℕ) → scoped-block-lts.Need-return-to-requires (scoped-block-claims t) (scoped-block-at t) scoped-block.Post
+scoped-block-return-to-requires t c κs = tt
+
 scoped-block-returns : (t : ℕ) → scoped-block-lts.Need-returns (scoped-block-claims t) (scoped-block-at t) scoped-block.Post
-scoped-block-returns t c = λ ss e. scoped _ ss (c .before .before .before .before .before .before .before .before .before .before .before .before .before .before .before .before .before .before .before .before .before .before .before .before .before .pre .1 .1) (c .before .before .before .before .before .before .before .before .before .before .before .before .before .before .before .before .before .before .before .before .before .before .before .before .before .args .scope-end) (c .before .before .before .before .before .before .before .before .before .before .before .before .before .before .before .before .before .enter-block .ensures ss _ _ e (good-within (c .before .before .before .before .before .before .before .before .before .before .before .before .before .before .before .before .before .before .before .before .before .before .before .before .before .args .b .labels) (c .before .before .before .before .before .before .before .before .before .before .before .before .before .before .before .before .before .before .before .before .before .before .before .before .before .args .scope-end) (c .before .before .before .before .before .before .before .before .before .before .before .before .before .before .before .before .before .before .before .before .before .before .before .before .before .args .b .«break_target») (c .before .before .before .before .before .before .before .before .before .before .before .before .before .before .before .before .before .before .before .before .before .before .before .before .before .args .b .«continue_target») (le-refl _) (c .before .before .before .before .before .before .before .before .before .before .before .before .before .before .before .before .before .before .before .before .before .before .before .before .before .pre .1 .4) (c .before .before .before .before .before .before .before .before .before .before .before .before .before .before .before .before .before .before .before .before .before .before .before .before .before .pre .1 .1 .breakTarget) (c .before .before .before .before .before .before .before .before .before .before .before .before .before .before .before .before .before .before .before .before .before .before .before .before .before .pre .1 .1 .continueTarget) (c .before .before .before .before .before .before .before .before .before .before .before .before .before .before .before .before .before .before .before .before .before .before .before .before .before .pre .1 .1))) (c .before .before .before .before .before .before .before .before .block .ensures ss e)
+scoped-block-returns t c = λ ss e. scoped _ ss (c .before .before .before .before .before .before .before .before .before .before .before .before .before .before .before .before .before .before .before .before .before .before .before .before .before .before .pre .1 .1) (c .before .before .before .before .before .before .before .before .before .before .before .before .before .before .before .before .before .before .before .before .before .before .before .before .before .before .args .scope-end) (c .before .before .before .before .before .before .before .before .before .before .before .before .before .before .before .before .before .before .enter-block .ensures ss _ _ e (good-within (c .before .before .before .before .before .before .before .before .before .before .before .before .before .before .before .before .before .before .before .before .before .before .before .before .before .before .args .b .labels) (c .before .before .before .before .before .before .before .before .before .before .before .before .before .before .before .before .before .before .before .before .before .before .before .before .before .before .args .scope-end) (c .before .before .before .before .before .before .before .before .before .before .before .before .before .before .before .before .before .before .before .before .before .before .before .before .before .before .args .b .«break_target») (c .before .before .before .before .before .before .before .before .before .before .before .before .before .before .before .before .before .before .before .before .before .before .before .before .before .before .args .b .«continue_target») (le-refl _) (c .before .before .before .before .before .before .before .before .before .before .before .before .before .before .before .before .before .before .before .before .before .before .before .before .before .before .pre .1 .4) (c .before .before .before .before .before .before .before .before .before .before .before .before .before .before .before .before .before .before .before .before .before .before .before .before .before .before .pre .1 .1 .breakTarget) (c .before .before .before .before .before .before .before .before .before .before .before .before .before .before .before .before .before .before .before .before .before .before .before .before .before .before .pre .1 .1 .continueTarget) (c .before .before .before .before .before .before .before .before .before .before .before .before .before .before .before .before .before .before .before .before .before .before .before .before .before .before .pre .1 .1))) (c .before .before .before .before .before .before .before .before .before .block .ensures ss e) (c .return-to .ensures)
 
 stmt-mul-w : (t : ℕ) → stmt-lts.Need-mul-w (stmt-claims t) (stmt-at t) stmt.Post
 stmt-mul-w t c = omega (arith, c .before .before .before .before .before .pre .1 .2)
@@ -627,16 +634,16 @@ if-stmt-same-length-4 : (t : ℕ) → if-stmt-lts.Need-same-length-4 (if-stmt-cl
 if-stmt-same-length-4 t c = (if-stmt-returns t c (c .before .before .before .before .before .before .before .before .before .before .before .before .before .before .before .before .before .before .before .before .before .before .before .before .before .before .before .before .before .before .before .before .before .before .before .before .before .before .before .before .before .before .before .args .kinds .now) refl) .moved .grown .labelsLength
 
 loop-body-same-length : (t : ℕ) → loop-body-lts.Need-same-length (loop-body-claims t) (loop-body-at t) loop-body.Post
-loop-body-same-length t c = (loop-body-returns t c (c .before .before .before .before .before .before .before .before .before .before .before .before .before .before .before .before .before .before .before .before .before .before .args .kinds .now) refl) .moved .grown .edgesLength
+loop-body-same-length t c = (loop-body-returns t c (c .before .before .before .before .before .before .before .before .before .before .before .before .before .before .before .before .before .before .before .before .before .before .before .args .kinds .now) refl) .moved .grown .edgesLength
 
 loop-body-same-length-2 : (t : ℕ) → loop-body-lts.Need-same-length-2 (loop-body-claims t) (loop-body-at t) loop-body.Post
-loop-body-same-length-2 t c = (loop-body-returns t c (c .before .before .before .before .before .before .before .before .before .before .before .before .before .before .before .before .before .before .before .before .before .before .args .kinds .now) refl) .moved .grown .codesLength
+loop-body-same-length-2 t c = (loop-body-returns t c (c .before .before .before .before .before .before .before .before .before .before .before .before .before .before .before .before .before .before .before .before .before .before .before .args .kinds .now) refl) .moved .grown .codesLength
 
 loop-body-same-length-3 : (t : ℕ) → loop-body-lts.Need-same-length-3 (loop-body-claims t) (loop-body-at t) loop-body.Post
-loop-body-same-length-3 t c = (loop-body-returns t c (c .before .before .before .before .before .before .before .before .before .before .before .before .before .before .before .before .before .before .before .before .before .before .args .kinds .now) refl) .moved .grown .namesLength
+loop-body-same-length-3 t c = (loop-body-returns t c (c .before .before .before .before .before .before .before .before .before .before .before .before .before .before .before .before .before .before .before .before .before .before .before .args .kinds .now) refl) .moved .grown .namesLength
 
 loop-body-same-length-4 : (t : ℕ) → loop-body-lts.Need-same-length-4 (loop-body-claims t) (loop-body-at t) loop-body.Post
-loop-body-same-length-4 t c = (loop-body-returns t c (c .before .before .before .before .before .before .before .before .before .before .before .before .before .before .before .before .before .before .before .before .before .before .args .kinds .now) refl) .moved .grown .labelsLength
+loop-body-same-length-4 t c = (loop-body-returns t c (c .before .before .before .before .before .before .before .before .before .before .before .before .before .before .before .before .before .before .before .before .before .before .before .args .kinds .now) refl) .moved .grown .labelsLength
 
 repeat-loop-same-length : (t : ℕ) → repeat-loop-lts.Need-same-length (repeat-loop-claims t) (repeat-loop-at t) repeat-loop.Post
 repeat-loop-same-length t c = (repeat-loop-returns t c (c .before .before .before .before .before .before .before .before .before .before .before .before .before .before .before .before .before .before .before .before .before .before .before .before .before .before .before .before .before .before .before .before .args .kinds .now) refl) .moved .grown .edgesLength
@@ -651,16 +658,16 @@ repeat-loop-same-length-4 : (t : ℕ) → repeat-loop-lts.Need-same-length-4 (re
 repeat-loop-same-length-4 t c = (repeat-loop-returns t c (c .before .before .before .before .before .before .before .before .before .before .before .before .before .before .before .before .before .before .before .before .before .before .before .before .before .before .before .before .before .before .before .before .args .kinds .now) refl) .moved .grown .labelsLength
 
 scoped-block-same-length : (t : ℕ) → scoped-block-lts.Need-same-length (scoped-block-claims t) (scoped-block-at t) scoped-block.Post
-scoped-block-same-length t c = (scoped-block-returns t c (c .before .before .before .before .before .before .before .before .before .before .before .before .before .before .before .before .before .before .before .before .before .before .before .before .before .args .kinds .now) refl) .moved .grown .edgesLength
+scoped-block-same-length t c = (scoped-block-returns t c (c .before .before .before .before .before .before .before .before .before .before .before .before .before .before .before .before .before .before .before .before .before .before .before .before .before .before .args .kinds .now) refl) .moved .grown .edgesLength
 
 scoped-block-same-length-2 : (t : ℕ) → scoped-block-lts.Need-same-length-2 (scoped-block-claims t) (scoped-block-at t) scoped-block.Post
-scoped-block-same-length-2 t c = (scoped-block-returns t c (c .before .before .before .before .before .before .before .before .before .before .before .before .before .before .before .before .before .before .before .before .before .before .before .before .before .args .kinds .now) refl) .moved .grown .codesLength
+scoped-block-same-length-2 t c = (scoped-block-returns t c (c .before .before .before .before .before .before .before .before .before .before .before .before .before .before .before .before .before .before .before .before .before .before .before .before .before .before .args .kinds .now) refl) .moved .grown .codesLength
 
 scoped-block-same-length-3 : (t : ℕ) → scoped-block-lts.Need-same-length-3 (scoped-block-claims t) (scoped-block-at t) scoped-block.Post
-scoped-block-same-length-3 t c = (scoped-block-returns t c (c .before .before .before .before .before .before .before .before .before .before .before .before .before .before .before .before .before .before .before .before .before .before .before .before .before .args .kinds .now) refl) .moved .grown .namesLength
+scoped-block-same-length-3 t c = (scoped-block-returns t c (c .before .before .before .before .before .before .before .before .before .before .before .before .before .before .before .before .before .before .before .before .before .before .before .before .before .before .args .kinds .now) refl) .moved .grown .namesLength
 
 scoped-block-same-length-4 : (t : ℕ) → scoped-block-lts.Need-same-length-4 (scoped-block-claims t) (scoped-block-at t) scoped-block.Post
-scoped-block-same-length-4 t c = (scoped-block-returns t c (c .before .before .before .before .before .before .before .before .before .before .before .before .before .before .before .before .before .before .before .before .before .before .before .before .before .args .kinds .now) refl) .moved .grown .labelsLength
+scoped-block-same-length-4 t c = (scoped-block-returns t c (c .before .before .before .before .before .before .before .before .before .before .before .before .before .before .before .before .before .before .before .before .before .before .before .before .before .before .args .kinds .now) refl) .moved .grown .labelsLength
 
 stmt-same-length : (t : ℕ) → stmt-lts.Need-same-length (stmt-claims t) (stmt-at t) stmt.Post
 stmt-same-length t c = (stmt-returns t c (c .before .before .before .before .before .before .before .before .before .before .before .before .before .before .before .before .before .before .before .before .before .args .kinds .now) refl) .moved .grown .edgesLength
@@ -858,6 +865,7 @@ pub +arm+arms+block+for-loop+if-stmt+loop-body+repeat-loop+scoped-block+stmt+whi
     loop-body.Post
     (loop-body-scoped-block-requires t)
     (loop-body-close-into-requires t)
+    (loop-body-return-to-requires t)
     (loop-body-same-length t)
     (loop-body-same-length-2 t)
     (loop-body-same-length-3 t)
@@ -885,6 +893,7 @@ pub +arm+arms+block+for-loop+if-stmt+loop-body+repeat-loop+scoped-block+stmt+whi
     scoped-block.Post
     (scoped-block-enter-block-requires t)
     (scoped-block-block-requires t)
+    (scoped-block-return-to-requires t)
     (scoped-block-same-length t)
     (scoped-block-same-length-2 t)
     (scoped-block-same-length-3 t)
