@@ -6,8 +6,8 @@ ghost use Rattle.flow.specs.Refusals.{lowest, sheetTests, sheetVerdict, chartVe
 use flow::Bench;
 use flow::Refusal;
 use flow::Verdict;
-use nesting_tests::line::off_the_line;
-use nesting_tests::nest::bad_nesting;
+use line_tests::off_the_line;
+use nesting_tests::bad_nesting;
 use sheet_tests::depth::too_deep;
 use sheet_tests::item::bad_item;
 use sheet_tests::name::bad_name;

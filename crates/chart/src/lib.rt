@@ -9,7 +9,7 @@ ghost use Rattle.flow.specs.Admitted.{AdmittedSheet};
 ghost use Rattle.cfg_edges.specs.Halves.{lo, hi};
 ghost use Rattle.chart.specs.Lent.{PartsOf, columns, Wide, Charted};
 use cfg::of_block;
-use columns::split_codes;
+use code_columns::split_codes;
 use columns::split_edges;
 use columns::split_names;
 use flow::Counts;

@@ -9,8 +9,9 @@ use Rattle.flow.specs.declared.Counts.{Counts}
 use Rattle.flow.specs.Sheet.{startOf, endOf}
 use Rattle.flow.specs.Listing.{numbers, findingLine, findingLines}
 use Rattle.flow.proofs.Laws.{either}
-use Rattle.lines.specs.Output.{Room, findingsOf, headLines, roomForAll}
-use Rattle.lines.proofs.Digits.{at-most, below-power}
+use Rattle.line_writer.specs.Output.{Room}
+use Rattle.line_writer.proofs.Digits.{at-most, below-power}
+use Rattle.lines.specs.Report.{findingsOf, headLines, roomForAll}
 
 -- numbers of 20 digits
 pub numbers-long : (ns : List ℕ) → length (numbers ns) ≤ 21 * length ns + 1

@@ -1,29 +1,12 @@
--- The texts of `Listing.antt` as pieces, one for each byte, number or finding, and a finding's line by its list.
+-- The lines of findings as pieces, one for each, and a finding's line by its list.
 -- Assumes nothing.
-use mathlib.Core.Path.{_≡_, refl, sym, ap, _∙_}
-use mathlib.Core.List.{List, [], _∷_, _++_, append-assoc, flatMap}
+use mathlib.Core.Path.{_≡_, refl, ap}
+use mathlib.Core.List.{List, [], _∷_, _++_, flatMap}
 use Prim.Native.Nat.{ℕ, _-_, _/_, _%_, _^_}
 use borrow.Author.Tests.{eq-eqb, ne-eqb}
 use Rattle.flow.specs.Sheet.{startOf, endOf}
 use Rattle.flow.specs.Findings.{Finding}
-use Rattle.flow.specs.Listing.{decimal, numbers, line, findingLine, findingLines}
-
-abbrev pub byteOf : ℕ → List ℕ
-byteOf b = b ∷ []
-
-pub bytes-pieces : (bs : List ℕ) → bs ≡ flatMap byteOf bs
-unfolding flatMap
-bytes-pieces [] = refl
-bytes-pieces (b ∷ bs) = ap (λ (l : List ℕ). b ∷ l) (bytes-pieces bs)
-
--- a number with the space before it
-abbrev pub spaced : ℕ → List ℕ
-spaced n = 32 ∷ decimal n
-
-pub numbers-pieces : (ns : List ℕ) → numbers ns ≡ flatMap spaced ns ++ (10 ∷ [])
-unfolding flatMap numbers
-numbers-pieces [] = refl
-numbers-pieces (n ∷ ns) = ap (λ (l : List ℕ). spaced n ++ l) (numbers-pieces ns) ∙ sym (append-assoc (spaced n) (flatMap spaced ns) (10 ∷ []))
+use Rattle.flow.specs.Listing.{line, findingLine, findingLines}
 
 pub findings-pieces : (fs : List Finding) → findingLines fs ≡ flatMap findingLine fs
 unfolding flatMap findingLines

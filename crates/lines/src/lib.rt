@@ -1,17 +1,15 @@
-// The words that flowlist reads, and the lines that it prints, written into a lent output.
+// The lines that flowlist prints, written into a lent output.
 ghost use mathlib.Core.Path.{_≡_};
 ghost use Prim.Native.Nat.{_-_, _≤_};
 ghost use lib.ListN.{length, take};
 ghost use Rattle.flow.specs.Refusals;
 ghost use Rattle.flow.specs.Listing;
-ghost use Rattle.lines.specs.Output.{Room, Appended, Printed, findingsOf, headLines, reportOf, found, answerLines, roomForAll};
+ghost use Rattle.line_writer.specs.Output.{Room, Appended, Printed};
+ghost use Rattle.lines.specs.Report.{findingsOf, headLines, reportOf, found, answerLines, roomForAll};
 use flow::Counts;
 use flow::JudgeAnswer;
 use flow::Refusal;
-use writer::line;
-
-pub mod reader;
-mod writer;
+use line_writer::line;
 
 // Bytes that hold every output, as the specs' `roomForAll` has it.
 pub const ROOM: usize = 169140;

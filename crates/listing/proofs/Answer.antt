@@ -17,8 +17,9 @@ use Rattle.flow.specs.Listing.{ownBench}
 use Rattle.chart.specs.Lent.{over, Columns, columns, chartOf}
 use Rattle.calls.specs.Lent.{shortest, chartLeaves}
 use Rattle.judge.specs.Lent.{judgeBench, leaves, JudgePromise}
-use Rattle.lines.specs.Output.{found, answerLines, sheetsPrint}
-use Rattle.lines.proofs.Split.{shown, few-found, answer-prints}
+use Rattle.file_words.specs.Input.{sheetsPrint}
+use Rattle.lines.specs.Report.{found, answerLines}
+use Rattle.lines.proofs.Answer.{shown, few-found, answer-prints}
 
 -- ---- the listing's own columns
 

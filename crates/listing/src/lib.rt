@@ -2,7 +2,9 @@
 ghost use Prim.Native.Nat.{_≤_};
 ghost use lib.ListN.{length};
 ghost use Rattle.flow.specs.Listing;
-ghost use Rattle.lines.specs.Output.{Printed, roomForAll, sheetsPrint};
+ghost use Rattle.file_words.specs.Input.{sheetsPrint};
+ghost use Rattle.line_writer.specs.Output.{Printed};
+ghost use Rattle.lines.specs.Report.{roomForAll};
 use flow::Refusal;
 
 // What a sheet and a use sheet print.
@@ -46,7 +48,7 @@ fn of_words(words: &[u64], output: &mut [u8]) -> usize
     requires { ⌜ roomForAll ≤ length (now output) ⌝ }
     ensures { λ r. ⌜ Printed (Listing.printedWords (now (words .entry))) (now (output .entry)) (now (output .exit)) r ⌝ }
 {
-    let end = lines::reader::sheet_end(words);
+    let end = file_words::sheet_end(words);
     of_sheets(&words[..end], &words[end..], output)
 }
 
@@ -55,11 +57,11 @@ pub fn listing(input: &[u8], output: &mut [u8]) -> usize
     requires { ⌜ roomForAll ≤ length (now output) ⌝ }
     ensures { λ r. ⌜ Printed (Listing.printed (now (input .entry))) (now (output .entry)) (now (output .exit)) r ⌝ }
 {
-    if lines::reader::lost_or_spare(input) {
+    if file_words::lost_or_spare(input) {
         return lines::refused(output, Refusal::Miscount);
     }
     let n = input.len() / 8;
-    let mut words = [0u64; lines::reader::WORDS];
-    lines::reader::read_words(input, &mut words, n);
+    let mut words = [0u64; file_words::WORDS];
+    file_words::read_words(input, &mut words, n);
     of_words(&words[..n], output)
 }

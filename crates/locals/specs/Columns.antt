@@ -10,7 +10,7 @@ use Rattle.flow.specs.Sheet.{useWords, useSpans, startOf}
 use Rattle.flow.specs.Graph.{nodeCount, graph}
 use Rattle.flow.specs.Reachable.{nodeAt}
 use Rattle.flow.specs.Findings.{Use, locals, nodeOf, usesOf, allFound}
-use Rattle.uses.specs.Grouped.{part}
+use Rattle.bucket_sort.specs.Grouped.{part}
 use Rattle.live_walk.specs.Walk.{Charts, Long}
 
 -- the first n cells are the nodes of the graph

@@ -3,17 +3,16 @@
 use Prim.Native.Nat.{ℕ, suc, _+_, _-_, _≤_, _<_}
 use mathlib.Core.Bool.{Bool, true, false, cond, _||_, true≢false, false≢true}
 use mathlib.Core.List.{List, [], _∷_, tail}
-use mathlib.Core.Path.{_≡_, refl, sym, ap, ap₂, subst, _∙_}
+use mathlib.Core.Path.{_≡_, refl, sym, ap, ap₂, _∙_}
 use native.Mathlib.Nat.{suc-add}
 use native.Mathlib.Omega.{arith}
 use lib.Dec.{eqb, leb, ltb, leb·suc-suc}
 use lib.ListN.{length}
 use borrow.Author.Tests.{ltb-false, eqb-true, leb-true}
 use Rattle.flow.specs.Kinds.{opens, closes}
-use Rattle.flow.specs.Refusals.{one, outnumbered, mayStand, openAfter, pairsUp, scopesAfter}
+use Rattle.flow.specs.Refusals.{one, outnumbered, mayStand, openAfter}
 use Rattle.flow.specs.Sheet.{Item, kind, oneOf}
 use Rattle.nesting_tests.specs.Stack.{stackOf}
-use Rattle.nesting_tests.specs.Turn.{Room}
 use Rattle.sheet_tests.proofs.Bools.{or-parts, and-parts}
 use Rattle.nesting_tests.proofs.Stacks.{length-stackOf}
 
@@ -96,7 +95,7 @@ length-tail [] = refl
 length-tail (o ∷ os) = omega arith
 
 -- a list that an opener adds x to, a closer takes the first from, and a kind of its own puts y first in
-turned-length : (k x y : ℕ) (l : List ℕ) (t : Bool) → (t ≡ true → 0 < length l) → length (cond (opens k) (x ∷ l) (cond (closes k) (tail l) (cond t (y ∷ tail l) l))) ≡ length l + one (opens k) - one (closes k)
+pub turned-length : (k x y : ℕ) (l : List ℕ) (t : Bool) → (t ≡ true → 0 < length l) → length (cond (opens k) (x ∷ l) (cond (closes k) (tail l) (cond t (y ∷ tail l) l))) ≡ length l + one (opens k) - one (closes k)
 turned-length k x y l t h = go (opens k) (closes k) t refl refl refl
   where
     go : (b e u : Bool) → opens k ≡ b → closes k ≡ e → t ≡ u → length (cond b (x ∷ l) (cond e (tail l) (cond u (y ∷ tail l) l))) ≡ length l + one b - one e
@@ -110,49 +109,6 @@ pub open-length : (k : ℕ) (os : List ℕ) → mayStand k os ≡ true → lengt
 unfolding openAfter
 open-length k os e = turned-length k k 7 os (eqb k 7) (λ p. stands-in k os e (rw (eqb-true k 7 p)))
 
-pub scopes-length : (k e : ℕ) (ss : List ℕ) → Room (length ss) k → length (scopesAfter k e ss) ≡ length ss + one (opens k) - one (closes k)
-unfolding scopesAfter
-scopes-length k e ss r = turned-length k e e ss (oneOf k (6 ∷ 7 ∷ [])) (λ p. omega (arith, r .closer))
-
--- what 4 and 5 show of the items to come, with depth items open
-pub record Nested (depth : ℕ) (is : List Item) : Type 0 where
-  pub opened : List ℕ
-  pub counted : length opened ≡ depth
-  pub pairs : pairsUp opened is ≡ true
-  pub few : outnumbered depth 0 is ≡ false
-
-stands : (os : List ℕ) (i : Item) (is : List Item) → pairsUp os (i ∷ is) ≡ true → (mayStand (kind i) os ≡ true) × (pairsUp (openAfter (kind i) os) is ≡ true)
-unfolding pairsUp
-stands os i is e = and-parts _ _ e
-
-pub nested-room : (count : ℕ) (i : Item) (is : List Item) → 0 < count → Nested (count - 1) (i ∷ is) → Room count (kind i)
-nested-room count i is h n =
-    let s = stands (n .opened) i is (n .pairs) in
-    record {
-      most = omega (arith, most (count - 1) i is (n .few));
-      closer = omega (arith, closer-in (kind i) (n .opened) (s .0), n .counted);
-      arm = omega (arith, arm-in (kind i) (n .opened) (s .0), n .counted);
-    }
-
-pub nested-next : (d : ℕ) (i : Item) (is : List Item) → Nested d (i ∷ is) → Nested (d + one (opens (kind i)) - one (closes (kind i))) is
-nested-next d i is n =
-    let s = stands (n .opened) i is (n .pairs) in
-    record {
-      opened = openAfter (kind i) (n .opened);
-      counted = open-length (kind i) (n .opened) (s .0) ∙ ap (λ (x : ℕ). x + one (opens (kind i)) - one (closes (kind i))) (n .counted);
-      pairs = s .1;
-      few = deep-next d i is (omega (arith, closer-in (kind i) (n .opened) (s .0), n .counted)) (n .few);
-    }
-
 pub depth-next : (k d r : ℕ) (a b : List ℕ) → mayStand k (stackOf d a) ≡ true → stackOf r b ≡ openAfter k (stackOf d a) → r ≡ d + one (opens k) - one (closes k)
 depth-next k d r a b m e =
     sym (length-stackOf r b) ∙ ap length e ∙ open-length k (stackOf d a) m ∙ ap (λ (n : ℕ). n + one (opens k) - one (closes k)) (length-stackOf d a)
-
--- the scopes around are one more than what is open
-pub scopes-next : (i : Item) (is : List Item) (e count r : ℕ) (a b : List ℕ) → 0 < count → Nested (count - 1) (i ∷ is) → stackOf r b ≡ scopesAfter (kind i) e (stackOf count a) → (0 < r) × Nested (r - 1) is
-scopes-next i is e count r a b h n p =
-    let room = nested-room count i is h n in
-    let l = length-stackOf count a in
-    let z : r ≡ count + one (opens (kind i)) - one (closes (kind i)) = sym (length-stackOf r b) ∙ ap length p ∙ scopes-length (kind i) e (stackOf count a) (subst (λ (m : ℕ). Room m (kind i)) (sym l) room) ∙ ap (λ (m : ℕ). m + one (opens (kind i)) - one (closes (kind i))) l in
-    let y : count - 1 + one (opens (kind i)) - one (closes (kind i)) ≡ r - 1 = omega (arith, z, room .closer) in
-    (omega (arith, z, room .closer), subst (λ (m : ℕ). Nested m is) y (nested-next (count - 1) i is n))

@@ -1,3 +1,130 @@
-// Refusals 5 and 6: the tests of a sheet's two arrays that keep a stack of what is open.
-pub mod line;
-pub mod nest;
+// Refusal 5, bad nesting: openers and closers that do not pair, arms outside an IF, and neighbours that may not stand side by side.
+ghost use mathlib.Core.Path.{_≡_};
+ghost use mathlib.Core.Bool.{true, false, _&&_, not};
+ghost use mathlib.Core.List.{[], _∷_};
+ghost use Prim.Native.Nat.{_+_, _≤_};
+ghost use lib.ListN.{length};
+ghost use Rattle.flow.specs.Sheet.{oneOf, together};
+ghost use Rattle.flow.specs.Kinds.{kinds, opens};
+ghost use Rattle.flow.specs.Refusals.{one, innermost, mayStand, openAfter, besideEachOther, outnumbered, pairsUp, sideBySide};
+ghost use Rattle.nesting_tests.specs.Stack.{stackOf};
+use sheet_tests::depth::is_closer;
+use sheet_tests::depth::is_opener;
+use sheet_tests::kind::CONTINUE;
+use sheet_tests::kind::ELSE;
+use sheet_tests::kind::ELSEIF;
+use sheet_tests::kind::END;
+use sheet_tests::kind::IF;
+use sheet_tests::kind::LOCAL;
+use sheet_tests::kind::NAME;
+use sheet_tests::kind::REPEAT;
+use sheet_tests::kind::RETURN;
+use sheet_tests::kind::UNTIL;
+
+// The kind of the innermost open item, 0 where nothing is open.
+fn innermost_of(opened: &[u64; 64], depth: usize) -> u64
+    requires { ⌜ depth ≤ 64 ⌝ }
+    ensures { λ r. ⌜ r ≡ innermost (stackOf depth (now (opened .entry))) ⌝ }
+{
+    if depth == 0 {
+        return 0;
+    }
+    opened[depth - 1]
+}
+
+fn may_stand(opened: &[u64; 64], depth: usize, kind: u64) -> bool
+    requires { ⌜ depth ≤ 64 ⌝ }
+    ensures { λ r. ⌜ r ≡ mayStand kind (stackOf depth (now (opened .entry))) ⌝ }
+{
+    let inner = innermost_of(opened, depth);
+    if kind == END {
+        if inner == 0 {
+            return false;
+        }
+        return inner != REPEAT;
+    }
+    if kind == UNTIL {
+        return inner == REPEAT;
+    }
+    if kind == ELSEIF {
+        return inner == IF;
+    }
+    if kind == ELSE {
+        return inner == IF;
+    }
+    true
+}
+
+// How many items are open past one of this kind. An IF becomes an ELSE once its ELSE has come.
+fn open_after(opened: &mut [u64; 64], depth: usize, kind: u64) -> usize
+    requires { ⌜ (length (now opened) ≡ 64) × (depth ≤ 64) × (depth + one (opens kind) ≤ 64) ⌝ }
+    requires { ⌜ mayStand kind (stackOf depth (now opened)) ≡ true ⌝ }
+    ensures { λ r. ⌜ length (now (opened .exit)) ≡ 64 ⌝ }
+    ensures { λ r. ⌜ stackOf r (now (opened .exit)) ≡ openAfter kind (stackOf depth (now (opened .entry))) ⌝ }
+{
+    if is_opener(kind) {
+        opened[depth] = kind;
+        return depth + 1;
+    }
+    if is_closer(kind) {
+        return depth - 1;
+    }
+    if kind == ELSE {
+        opened[depth - 1] = ELSE;
+    }
+    depth
+}
+
+// What may follow RETURN and CONTINUE: what ends their block.
+fn ends_block(kind: u64) -> bool
+    ensures { λ r. ⌜ r ≡ oneOf kind (0 ∷ kinds .END ∷ kinds .UNTIL ∷ kinds .ELSEIF ∷ kinds .ELSE ∷ []) ⌝ }
+{
+    match kind {
+        0 => true,
+        END => true,
+        UNTIL => true,
+        ELSEIF => true,
+        ELSE => true,
+        _ => false,
+    }
+}
+
+// Whether two kinds may stand side by side, 0 at the sheet's ends.
+fn may_follow(last: u64, kind: u64) -> bool
+    ensures { λ r. ⌜ r ≡ besideEachOther last kind ⌝ }
+{
+    match last {
+        LOCAL => kind == NAME,
+        NAME => true,
+        RETURN => ends_block(kind),
+        CONTINUE => ends_block(kind),
+        _ => kind != NAME,
+    }
+}
+
+pub fn bad_nesting(kinds: &[u64], spans: &[u64]) -> bool
+    requires { ⌜ (length (now kinds) ≡ length (now spans)) × (length (now kinds) ≤ 1024) ⌝ }
+    requires { ⌜ outnumbered 0 0 (together (now kinds) (now spans)) ≡ false ⌝ }
+    ensures { λ r. ⌜ r ≡ not (pairsUp [] (together (now (kinds .entry)) (now (spans .entry))) && sideBySide 0 (together (now (kinds .entry)) (now (spans .entry)))) ⌝ }
+{
+    let mut opened = [0u64; 64];
+    let mut depth: usize = 0;
+    let mut last = 0;
+    let mut i = 0;
+    while i < kinds.len() {
+        let kind = kinds[i] % 256;
+        if !may_stand(&opened, depth, kind) {
+            return true;
+        }
+        if !may_follow(last, kind) {
+            return true;
+        }
+        depth = open_after(&mut opened, depth, kind);
+        last = kind;
+        i += 1;
+    }
+    if innermost_of(&opened, depth) == 0 {
+        return !may_follow(last, 0);
+    }
+    true
+}

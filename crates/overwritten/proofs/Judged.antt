@@ -12,7 +12,7 @@ use lib.ListN.{length, getD, take, drop, length-take}
 use lib.Seq.{getD-take}
 use Rattle.flow.specs.Graph.{graph, nodeCount}
 use Rattle.flow.specs.Findings.{Local, Use, Ahead, Finding, onlyIf, underscore, noValue, writesJudged, tracked, allFound, usesOf, localAt, declaration, ahead, isOverwrittenUnread, overwrittenBelow, initialOverwritten, writesOverwritten, ofInitial, ofUse, overwrittenOf, ofEach}
-use Rattle.uses.specs.Grouped.{part}
+use Rattle.bucket_sort.specs.Grouped.{part}
 use Rattle.uses_by_node.specs.Uses.{table}
 use Rattle.locals.specs.Columns.{Cut}
 use Rattle.locals.specs.Entries.{Room}

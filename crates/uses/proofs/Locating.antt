@@ -17,8 +17,8 @@ use Rattle.flow.specs.Graph.{Graph}
 use Rattle.flow.specs.Reachable.{nodeAmong, nodeAt}
 use Rattle.flow.specs.Findings.{nodeOf, found}
 use Rattle.flow.proofs.Laws.{either}
+use Rattle.bucket_sort.proofs.Cells.{set-more}
 use Rattle.uses.specs.Uses.{CodeTable, UseTable, placeOf, LocalsAre, lostAfter, Located}
-use Rattle.uses.proofs.Cells.{set-more}
 
 -- ---- the nodes are the codes'
 

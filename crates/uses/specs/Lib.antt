@@ -1,3 +1,2 @@
-pub mod Grouped
 pub mod Uses
 pub mod Spelled

@@ -7,8 +7,8 @@ use native.Mathlib.Omega.{arith}
 use lib.ListN.{length, take, getD}
 use Rattle.flow.specs.Findings.{Finding}
 use Rattle.flow.specs.Listing.{findingLine}
-use Rattle.lines.specs.Output.{findingsOf}
-use Rattle.lines.proofs.Pieces.{Passed, none, long, room, turn, all}
+use Rattle.line_writer.proofs.Pieces.{Passed, none, long, room, turn, all}
+use Rattle.lines.specs.Report.{findingsOf}
 use Rattle.lines.proofs.Rows.{rows, row}
 use Rattle.lines.proofs.Texts.{findings-pieces}
 use Rattle.lines.proofs.finding_lines.Statement.{statement}

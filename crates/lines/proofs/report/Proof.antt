@@ -7,8 +7,9 @@ use native.Mathlib.Omega.{arith}
 use lib.ListN.{take, length-append}
 use lib.Seq.{length-take-le}
 use Rattle.flow.specs.Listing.{findingLines}
-use Rattle.lines.specs.Output.{Room, headLines, findingsOf}
-use Rattle.lines.proofs.Appended.{first-room, then-room, both, printed}
+use Rattle.line_writer.specs.Output.{Room}
+use Rattle.line_writer.proofs.Appended.{first-room, then-room, both, printed}
+use Rattle.lines.specs.Report.{headLines, findingsOf}
 use Rattle.lines.proofs.Sizes.{findings-long, head-long, from-start}
 use Rattle.lines.proofs.report.Statement.{statement}
 use Rattle.lines.proofs.report.Tie as tie

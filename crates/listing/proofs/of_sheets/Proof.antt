@@ -6,7 +6,8 @@ use mathlib.Core.List.{List}
 use Prim.Native.Nat.{ℕ, _≤_}
 use native.Mathlib.Omega.{arith}
 use lib.ListN.{length}
-use Rattle.lines.specs.Output.{found, answerLines, sheetsPrint}
+use Rattle.file_words.specs.Input.{sheetsPrint}
+use Rattle.lines.specs.Report.{found, answerLines}
 use Rattle.listing.proofs.Answer.{held, prints}
 use Rattle.listing.proofs.of_sheets.Statement.{statement}
 use Rattle.listing.proofs.of_sheets.Tie as tie

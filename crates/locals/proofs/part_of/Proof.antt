@@ -2,7 +2,7 @@
 -- Assumes nothing.
 use mathlib.Core.Path.{ap₂}
 use denote.Ref.{now}
-use Rattle.uses.specs.Grouped.{part}
+use Rattle.bucket_sort.specs.Grouped.{part}
 use borrow.Author.Needs.{needs}
 use Rattle.locals.proofs.part_of.Statement.{statement}
 use Rattle.locals.proofs.part_of.Tie as tie

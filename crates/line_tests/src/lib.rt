@@ -1,0 +1,162 @@
+// Refusal 6, off the line: code that starts before the code before it ends, or ends past the scope end of a block around it.
+ghost use mathlib.Core.Path.{_≡_};
+ghost use mathlib.Core.Bool.{Bool, true, false, cond, _&&_, not};
+ghost use mathlib.Core.List.{[], _∷_};
+ghost use Prim.Native.Nat.{ℕ, _+_, _%_, _≤_, _<_};
+ghost use lib.ListN.{length};
+ghost use Rattle.flow.specs.Sheet.{together, endOf};
+ghost use Rattle.flow.specs.Kinds.{isCode};
+ghost use Rattle.flow.specs.Refusals.{outnumbered, pairsUp, inLine, scopesAfter, held};
+ghost use Rattle.nesting_tests.specs.Stack.{stackOf};
+ghost use Rattle.line_tests.specs.Turn.{lineFits, heldHere, Room, Scopes};
+use sheet_tests::depth::is_closer;
+use sheet_tests::depth::is_opener;
+use sheet_tests::kind::ELSE;
+use sheet_tests::kind::ELSEIF;
+use sheet_tests::kind::FOR;
+use sheet_tests::kind::GOTO;
+use sheet_tests::kind::IF;
+use sheet_tests::kind::LABEL;
+use sheet_tests::kind::LOCAL;
+use sheet_tests::kind::PLAIN;
+use sheet_tests::kind::UNTIL;
+use sheet_tests::kind::WHILE;
+
+// Whether an item is code, whatever its span: of the labels those that have a name.
+fn is_code(word: u64) -> bool
+    ensures { λ r. ⌜ ((s : ℕ) → r ≡ isCode (record { word = word; span = s })) ⌝ }
+{
+    let kind = word % 256;
+    match kind {
+        WHILE => true,
+        FOR => true,
+        IF => true,
+        ELSEIF => true,
+        UNTIL => true,
+        LOCAL => true,
+        LABEL => word / 256 != 0,
+        _ => {
+            if kind < GOTO {
+                return false;
+            }
+            kind <= PLAIN
+        }
+    }
+}
+
+fn line_after(code: bool, span: u64, line: u64) -> u64
+    ensures { λ r. ⌜ r ≡ cond code (endOf span) line ⌝ }
+{
+    if code {
+        return span / 4294967296;
+    }
+    line
+}
+
+// A header is held by the blocks around its statement, an ELSEIF by those around its IF. Code that ends within the least scope
+// end around ends within all, so `lows` has that for each place of `ends`, and no item looks at the whole stack.
+fn item_held(
+    ends: &[u64; 65],
+    lows: &[u64; 65],
+    count: usize,
+    code: bool,
+    line: u64,
+    word: u64,
+    span: u64,
+) -> bool
+    requires { ⌜ Room count (word % 256) ⌝ }
+    requires { ⌜ Scopes count (now ends) (now lows) ⌝ }
+    requires { ⌜ code ≡ isCode (record { word = word; span = span }) ⌝ }
+    ensures { λ r. ⌜ r ≡ (lineFits line (record { word = word; span = span }) && heldHere (stackOf count (now (ends .entry))) (record { word = word; span = span })) ⌝ }
+{
+    if !code {
+        return true;
+    }
+    if span % 4294967296 < line {
+        return false;
+    }
+    let kind = word % 256;
+    let end = span / 4294967296;
+    if kind == ELSEIF {
+        return end <= lows[count - 2];
+    }
+    if end > lows[count - 1] {
+        return false;
+    }
+    if kind == UNTIL {
+        return end == ends[count - 1];
+    }
+    true
+}
+
+// A scope end on the stack at a place, and the least of it and those below.
+fn put_scope(ends: &mut [u64; 65], lows: &mut [u64; 65], at: usize, end: u64)
+    requires { ⌜ (0 < at) × (at < 65) ⌝ }
+    requires { ⌜ Scopes at (now ends) (now lows) ⌝ }
+    ensures { λ _. ⌜ stackOf (at + 1) (now (ends .exit)) ≡ end ∷ stackOf at (now (ends .entry)) ⌝ }
+    ensures { λ _. ⌜ Scopes (at + 1) (now (ends .exit)) (now (lows .exit)) ⌝ }
+{
+    let around = lows[at - 1];
+    ends[at] = end;
+    if end < around {
+        lows[at] = end;
+    } else {
+        lows[at] = around;
+    }
+}
+
+// How many scopes are around past an item of this kind.
+fn scopes_after(
+    ends: &mut [u64; 65],
+    lows: &mut [u64; 65],
+    count: usize,
+    kind: u64,
+    end: u64,
+) -> usize
+    requires { ⌜ Room count kind ⌝ }
+    requires { ⌜ Scopes count (now ends) (now lows) ⌝ }
+    ensures { λ r. ⌜ stackOf r (now (ends .exit)) ≡ scopesAfter kind end (stackOf count (now (ends .entry))) ⌝ }
+    ensures { λ r. ⌜ Scopes r (now (ends .exit)) (now (lows .exit)) ⌝ }
+{
+    if is_opener(kind) {
+        put_scope(ends, lows, count, end);
+        return count + 1;
+    }
+    if is_closer(kind) {
+        return count - 1;
+    }
+    if kind == ELSEIF {
+        put_scope(ends, lows, count - 1, end);
+        return count;
+    }
+    if kind == ELSE {
+        put_scope(ends, lows, count - 1, end);
+        return count;
+    }
+    count
+}
+
+pub fn off_the_line(outer: u64, kinds: &[u64], spans: &[u64]) -> bool
+    requires { ⌜ (length (now kinds) ≡ length (now spans)) × (length (now kinds) ≤ 1024) ⌝ }
+    requires { ⌜ outnumbered 0 0 (together (now kinds) (now spans)) ≡ false ⌝ }
+    requires { ⌜ pairsUp [] (together (now kinds) (now spans)) ≡ true ⌝ }
+    ensures { λ r. ⌜ r ≡ not (inLine 0 (together (now (kinds .entry)) (now (spans .entry))) && held (outer ∷ []) (together (now (kinds .entry)) (now (spans .entry)))) ⌝ }
+{
+    let mut ends = [outer; 65];
+    let mut lows = [outer; 65];
+    let mut count: usize = 1;
+    let mut line = 0;
+    let mut i = 0;
+    while i < kinds.len() {
+        let word = kinds[i];
+        let span = spans[i];
+        let code = is_code(word);
+        if !item_held(&ends, &lows, count, code, line, word, span) {
+            return true;
+        }
+        line = line_after(code, span, line);
+        count = scopes_after(&mut ends, &mut lows, count, word % 256, word / 256 / 32);
+        i += 1;
+    }
+    false
+}

@@ -1,0 +1,4 @@
+pub mod Appended
+pub mod Pieces
+pub mod Digits
+pub mod Texts
