@@ -1,10 +1,10 @@
-// The edges of a graph that is being built: an edge in its word, the node that a label's name stands for, and what a condition is known to be.
+// The edges of a graph that is being built: an edge in its word, the node that a label's name stands for, what a condition is known to be, and whether a call raises.
 ghost use mathlib.Core.Path.{_≡_};
 ghost use mathlib.Core.Bool.{cond};
 ghost use mathlib.Core.Logic.{_⊎_};
 ghost use Prim.Native.Nat.{_≤_, _<_, _^_};
 ghost use lib.ListN.{length};
-ghost use Rattle.flow.specs.Kinds.{literalTruth};
+ghost use Rattle.flow.specs.Kinds.{literalTruth, raises};
 ghost use Rattle.flow.specs.Graph.{labelNode};
 ghost use Rattle.cfg_edges.specs.Halves.{joined, labelList, mayFail, mayHold};
 use flow::Found;
@@ -87,4 +87,11 @@ pub fn may_hold(truth: Truth) -> bool
         Truth::True => true,
         Truth::Unknown => true,
     }
+}
+
+// Whether a call with this argument raises.
+pub fn call_raises(argument: u64) -> bool
+    ensures { λ r. ⌜ r ≡ raises argument ⌝ }
+{
+    argument == 6
 }

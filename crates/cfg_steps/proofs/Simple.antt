@@ -11,6 +11,7 @@ use lib.Dec.{eqb}
 use borrow.Author.Tests.{eq-eqb, ne-eqb}
 use Rattle.flow.specs.declared.Found.the-variants.{At, Nothing}
 use Rattle.flow.specs.Sheet.{kindOf}
+use Rattle.flow.specs.Kinds.{raises}
 use Rattle.flow.specs.Graph.{Graph, Label, labelNode, orBreak, jump, code, declare, simpleStmt, advanceTo, recordCode}
 use Rattle.cfg_steps.specs.declared.GraphBuilder.{GraphBuilder}
 use Rattle.cfg_edges.specs.Halves.{hi, labelList}
@@ -99,13 +100,13 @@ module _ (k a p q s : ℕ) (g : Graph) where
   unfolding coded
   coded-return t e r = rw (e, r)
 
-  pub coded-raise : k ≡ 17 → a ≡ 6 → jump s 4 g ≡ coded k a p q s g
+  pub coded-raise : k ≡ 17 → raises a ≡ true → jump s 4 g ≡ coded k a p q s g
   unfolding coded
   coded-raise e r = rw (e, r)
 
-  pub coded-call : k ≡ 17 → (a ≡ 6 → ⊥) → code s g ≡ coded k a p q s g
+  pub coded-call : k ≡ 17 → raises a ≡ false → code s g ≡ coded k a p q s g
   unfolding coded
-  coded-call e r = rw (e, ne-eqb a 6 r)
+  coded-call e r = rw (e, r)
 
   pub coded-on : (k ≡ 14 → ⊥) → (k ≡ 15 → ⊥) → (k ≡ 16 → ⊥) → (k ≡ 17 → ⊥) → code s g ≡ coded k a p q s g
   unfolding coded

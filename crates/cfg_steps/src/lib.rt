@@ -14,6 +14,7 @@ ghost use Rattle.cfg_steps.specs.Columns.{cols, hasStart, settingsOf, wi
 use blocks::depth_after;
 use blocks::ends_at;
 use blocks::is_label;
+use cfg_edges::call_raises;
 use cfg_edges::connect;
 use cfg_edges::connect_if;
 use cfg_edges::label_node;
@@ -270,7 +271,7 @@ impl GraphBuilder {
             return self.jump(edges, codes, i, exit);
         }
         if kind == 17 {
-            if argument == 6 {
+            if call_raises(argument) {
                 return self.jump(edges, codes, i, 4);
             }
             return self.code(edges, codes, i);

@@ -1,4 +1,2 @@
-pub mod Stamps
 pub mod Walk
 pub mod Walking
-pub mod EmptyReads

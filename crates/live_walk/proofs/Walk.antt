@@ -1,44 +1,31 @@
 -- The live walk over the columns that code has, in the graph's terms.
 -- Assumes nothing.
 use Prim.Native.Nat.{ℕ, suc, _+_, _<_, _≤_}
-use mathlib.Core.Path.{_≡_, refl, sym, ap, subst, _∙_}
+use mathlib.Core.Path.{_≡_, refl, sym, ap, _∙_}
 use mathlib.Core.Logic.{⊎-elim}
-use mathlib.Core.Bool.{Bool, true, false, _&&_, not}
+use mathlib.Core.Bool.{Bool, true, false, not}
 use mathlib.Core.List.{List, [], _∷_, _++_}
 use native.Mathlib.Omega.{arith}
 use native.Mathlib.Numerals.{add-one}
-use borrow.Author.Tests.{ltb-true}
-use lib.Dec.{eqb, ltb}
-use lib.ListN.{length, getD, take, drop, length-take, drop-of-length-le}
-use lib.Seq.{length-take-le, getD-take, drop-cons}
-use Rattle.search.specs.Search.{closure, keep}
-use Rattle.search.specs.Worklist.{State, pushAll, pushIf, Room}
+use lib.Dec.{eqb}
+use lib.ListN.{length, getD, drop, drop-of-length-le}
+use lib.Seq.{drop-cons}
+use Rattle.search.specs.Search.{closure}
+use Rattle.search.specs.Worklist.{State, pushAll}
 use Rattle.search.proofs.Closure.{Nodes}
-use Rattle.search.proofs.Worklist.{Search, Moved, flags, two-pushes, all-append, keep-in, keep-keep}
+use Rattle.search.proofs.Worklist.{Search, flags, all-append}
 use Rattle.flow.specs.Graph.{Graph, Nodes as GraphNodes, nodeCount}
-use Rattle.flow.specs.Reachable.{successors}
 use Rattle.flow.specs.Findings.{Use, Declaration, node, isWrite, isAliveAt, onlyIf, liveSuccessors, afterWrites, liveAfterWrites}
-use Rattle.flow.proofs.Flags.{edge-node}
-use Rattle.flow.proofs.Members.{and-both, append-in}
-use Rattle.live_walk.specs.Stamps.{view, Ready, Leaves}
-use Rattle.live_walk.specs.Walk.{Charts, chart, bare, enters, useAt, usesAt, Spells}
-
--- pushes leave columns that are ready for more
-pub still-ready : {stamp n : ℕ} {m k m′ k′ : List ℕ} {t t′ : ℕ} {s : State} → Ready stamp n m k t → Moved n (view stamp n m k t) s → Leaves stamp n m′ k′ t′ s → Ready stamp n m′ k′ t′
-still-ready {n = n} r w l = record { few = r .few; room = subst (Room n) (sym (l .state)) (w .fits); fresh = l .fresh }
-
-pub enters-node : (n : ℕ) (start : List ℕ) (d : Declaration) (v : ℕ) → enters n start d v ≡ true → v < n
-enters-node n start d v e = ltb-true v n (and-both (ltb v n) (isAliveAt (chart n [] [] start) d v) e .0)
+use Rattle.flow.proofs.Members.{append-in}
+use Rattle.live_steps.specs.Walk.{Charts, chart, bare, useAt, usesAt, Spells}
+use Rattle.live_steps.proofs.Steps.{live-nodes, count-is, heads, spells-tail}
 
 module _ (n : ℕ) (first second start : List ℕ) (d : Declaration) where
   abbrev charted : Graph
   charted = chart n first second start
 
-  pub live-nodes : (u : ℕ) → Nodes n (liveSuccessors charted d u)
-  live-nodes u v i = omega (arith, length-take n first, edge-node charted u v (keep-in (isAliveAt charted d) (successors charted u) v i .0))
-
   pub only-nodes : (b : Bool) (u : ℕ) → Nodes n (onlyIf b (liveSuccessors charted d u))
-  only-nodes true u v i = live-nodes u v i
+  only-nodes true u v i = live-nodes n first second start d u v i
   only-nodes false u v i = absurd i
 
   pub after-nodes : (us : List Use) → Nodes n (afterWrites charted d us)
@@ -49,25 +36,7 @@ module _ (n : ℕ) (first second start : List ℕ) (d : Declaration) where
 
   -- the search from after the writes among us
   abbrev pub fromWrites : List Use → Search
-  fromWrites us = record { n = n; starts = afterWrites charted d us; next = liveSuccessors charted d; starts-in = after-nodes us; next-in = live-nodes }
-
-  module _ (l : n ≤ length first) where
-    pub count-is : nodeCount charted ≡ n
-    count-is = length-take-le n first l
-
-    -- the live successors of a node, by one test of what its two cells hold
-    live-edges : (u : ℕ) → u < n → liveSuccessors charted d u ≡ keep (enters n start d) (getD first u 0 ∷ getD second u 0 ∷ [])
-    unfolding isAliveAt
-    live-edges u h =
-        keep-keep (λ v. ltb v (nodeCount charted)) (isAliveAt charted d) (getD (take n first) u 0 ∷ getD (take n second) u 0 ∷ [])
-        ∙ (λ i. keep (λ v. ltb v (count-is i) && isAliveAt charted d v) (getD-take n first u 0 h i ∷ getD-take n second u 0 h i ∷ []))
-
-    -- two pushes of what the cells hold
-    pub expanded : (u : ℕ) → u < n → {a b : ℕ} → a ≡ getD first u 0 → b ≡ getD second u 0 → (s s₁ s₂ : State) → s₁ ≡ pushIf (enters n start d) a s → s₂ ≡ pushIf (enters n start d) b s₁ → s₂ ≡ pushAll (liveSuccessors charted d u) s
-    expanded u h ea eb s s₁ s₂ q r =
-        two-pushes (enters n start d) (getD first u 0) (getD second u 0) s s₁ s₂
-        (q ∙ ap (λ (x : ℕ). pushIf (enters n start d) x s) ea) (r ∙ ap (λ (x : ℕ). pushIf (enters n start d) x s₁) eb)
-        ∙ ap (λ (vs : List ℕ). pushAll vs s) (sym (live-edges u h))
+  fromWrites us = record { n = n; starts = afterWrites charted d us; next = liveSuccessors charted d; starts-in = after-nodes us; next-in = live-nodes n first second start d }
 
 -- ---- where the walk starts, one use after the other
 
@@ -100,16 +69,6 @@ module _ (g : Graph) (d : Declaration) where
   bare-live : (us : List Use) → liveAfterWrites g d us ≡ liveAfterWrites (bare (g .nodes)) d us
   unfolding liveAfterWrites isAliveAt
   bare-live us = ap (λ (vs : List ℕ). closure vs (liveSuccessors g d) (nodeCount g)) (bare-after us)
-
-module _ {A : Type 0} {x y : A} {xs ys : List A} (e : x ∷ xs ≡ y ∷ ys) where
-  pub heads : x ≡ y
-  heads = cc
-
-  pub tails : xs ≡ ys
-  tails = cc
-
-pub spells-tail : {u : Use} {us : List Use} {k : ℕ} {ks words nodes : List ℕ} → Spells (u ∷ us) (k ∷ ks) words nodes → Spells us ks words nodes
-spells-tail s = record { kinds = tails (s .kinds); places = tails (s .places) }
 
 -- uses with the same kinds and nodes have the same nodes after their writes
 spelled-after : (g : Graph) (d : Declaration) (words nodes : List ℕ) (us : List Use) (mine : List ℕ) → Spells us mine words nodes → afterWrites g d us ≡ afterWrites g d (usesAt words nodes mine)

@@ -9,8 +9,8 @@ use Rattle.search.specs.Search.{zeros}
 use Rattle.search.specs.Worklist.{State, pushAll}
 use Rattle.search.proofs.Count.{zeros-all}
 use Rattle.search.proofs.Worklist.{Search, Going, Moved, begin, rebase, turn, falls, flags, marks-are, stacked-node, measure, waiting, all-waiting, pop-moved}
-use Rattle.live_walk.specs.Stamps.{flagsOf, Fresh, view, Ready, Leaves}
-use Rattle.live_walk.proofs.Stamps.{length-flags, fresh-none, fresh-ready}
+use Rattle.live_steps.specs.Stamps.{flagsOf, Fresh, view, Ready, Leaves}
+use Rattle.live_steps.proofs.Stamps.{length-flags, fresh-none, fresh-ready}
 
 -- a search with stamps, after count turns
 pub record Walking (g : Search) (stamp : ℕ) (m k : List ℕ) (t count : ℕ) : Type 0 where

@@ -17,7 +17,7 @@ use Rattle.locals.proofs.Facts.{names-counted, names-known}
 use Rattle.locals.proofs.Columns.{uses-located, parts-in-order, parts-by-node}
 use Rattle.locals.proofs.Entries.{added-none}
 use Rattle.unassigned.specs.Pass.{Marked}
-use Rattle.live_walk.proofs.Stamps.{fresh-first}
+use Rattle.live_steps.proofs.Stamps.{fresh-first}
 use Rattle.overwritten.proofs.Judged.{none-listed, each-none}
 use Rattle.overwritten.proofs.Locals.{lent}
 use Rattle.both_lists.specs.Passes.{Passes, Walks}

@@ -7,7 +7,7 @@ use lib.ListN.{length, getD, take}
 use mathlib.Core.Bool.{_&&_}
 use Rattle.flow.specs.Graph.{Graph}
 use Rattle.flow.specs.Findings.{Use, Ahead, Finding, Declaration, onlyIf, ofInitial, ofUse, isOverwrittenUnread, overwrittenBelow}
-use Rattle.live_walk.specs.Walk.{Charts}
+use Rattle.live_steps.specs.Walk.{Charts}
 use Rattle.uses_by_node.specs.Uses.{Table, Listed, Sorted}
 use Rattle.uses_by_node.specs.Marks.{AheadHeld}
 use Rattle.local_values.specs.declared.LocalDeclaration.{LocalDeclaration}

@@ -15,7 +15,7 @@ use Rattle.flow.proofs.Uses.{entry, From, end, one, from-all, uses-law}
 use Rattle.uses.specs.Spelled.{usesAt as usesAtNode, byNode as groupedByNode}
 use Rattle.uses.specs.Uses.{placeOf, LocalsAre, Located as LocatedUses, Sorted as SortedUses}
 use Rattle.uses.proofs.Bridge.{kept-law, node-is, mine-part, sorted-part, mine-numbers, sorted-numbers}
-use Rattle.live_walk.specs.Walk.{declared, Spells, AllPlaced, OfLocal}
+use Rattle.live_steps.specs.Walk.{declared, Spells, AllPlaced, OfLocal}
 use Rattle.uses_by_node.specs.Uses.{usesAt, byNode, table, Listed, Sorted}
 use Rattle.locals.specs.Columns.{Named, Located, Parts, Cut, partAt}
 

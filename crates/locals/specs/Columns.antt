@@ -11,7 +11,7 @@ use Rattle.flow.specs.Graph.{nodeCount, graph}
 use Rattle.flow.specs.Reachable.{nodeAt}
 use Rattle.flow.specs.Findings.{Use, locals, nodeOf, usesOf, allFound}
 use Rattle.bucket_sort.specs.Grouped.{part}
-use Rattle.live_walk.specs.Walk.{Charts, Long}
+use Rattle.live_steps.specs.Walk.{Charts, Long}
 
 -- the first n cells are the nodes of the graph
 pub record Charted (S : List ℕ) (n : ℕ) (first second start : List ℕ) : Type 0 where

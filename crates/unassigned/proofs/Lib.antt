@@ -1,3 +1,3 @@
-pub mod Walks
+pub mod Findings
 pub mod Locals
 pub mod Passes

@@ -8,16 +8,18 @@ use native.Mathlib.Omega.{arith}
 use lib.ListN.{length, getD, length-map}
 use Rattle.flow.specs.Graph.{graph}
 use Rattle.flow.specs.Findings.{Use, onlyIf, tracked, noValue, localAt, declaration, usesOf, allFound, liveAfterWrites, firstEmptyRead, firstUnassignedUse, ofUse, unassignedOf}
-use Rattle.live_walk.specs.Walk.{AllPlaced, OfLocal, declared}
+use Rattle.live_steps.specs.Walk.{AllPlaced, OfLocal, declared}
 use Rattle.locals.specs.Columns.{Cut, partAt}
 use Rattle.locals.specs.Entries.{Listed, Added}
 use Rattle.locals.proofs.Columns.{own-cut, mine-placed, mine-local, span-of, declared-at}
 use Rattle.locals.proofs.Room.{unassigned-few}
-use Rattle.unassigned.specs.declared.Declared.{Declared}
-use Rattle.unassigned.specs.declared.Walked.{Walked}
-use Rattle.unassigned.specs.Walks.{codeOf, findingsAt, Tells, Finds}
+use Rattle.declarations.specs.declared.Declared.{Declared}
+use Rattle.declarations.specs.Due.{Tells}
+use Rattle.local_walk.specs.declared.Walked.{Walked}
+use Rattle.local_walk.specs.Walks.{codeOf, Finds}
+use Rattle.unassigned.specs.Findings.{findingsAt}
 use Rattle.unassigned.specs.Pass.{Pass}
-use Rattle.unassigned.proofs.Walks.{findings-are, first-own, only-own}
+use Rattle.unassigned.proofs.Findings.{findings-are, first-own, only-own}
 
 module _ {S U : List ℕ} {n names : ℕ} {first second start nameNode nameEnd facts words spans nodes lost starts byLocal : List ℕ} (p : Pass S U n names first second start nameNode nameEnd facts words spans nodes lost starts byLocal) (ℓ : ℕ) (h : ℓ < names) where
   pub local-cut : Cut ℓ starts byLocal

@@ -6,7 +6,7 @@ use mathlib.Core.List.{List}
 use lib.ListN.{length, getD, set, drop}
 use Rattle.flow.specs.Sheet.{useWords}
 use Rattle.flow.specs.Findings.{usesOf}
-use Rattle.live_walk.specs.Stamps.{Fresh}
+use Rattle.live_steps.specs.Stamps.{Fresh}
 use Rattle.locals.specs.Facts.{Known}
 use Rattle.locals.specs.Columns.{Charted, Named, Located, Parts}
 

@@ -6,9 +6,9 @@ use borrow.Author.Needs.{needs}
 use denote.Ref.{now}
 use lib.ListN.{length}
 use Rattle.search.proofs.Worklist.{Search, measure}
-use Rattle.live_walk.specs.Stamps.{view}
-use Rattle.live_walk.specs.Walk.{declared, usesAt}
-use Rattle.live_walk.proofs.Stamps.{fresh-ready}
+use Rattle.live_steps.specs.Stamps.{view}
+use Rattle.live_steps.specs.Walk.{declared, usesAt}
+use Rattle.live_steps.proofs.Stamps.{fresh-ready}
 use Rattle.live_walk.proofs.Walk.{fromWrites, walked-is}
 use Rattle.live_walk.proofs.Walking.{Walking, walking-begins, walking-ready, walking-node, walking-less, walking-on, walking-ends, walking-count}
 use Rattle.live_walk.proofs.live_walk.Statement.{statement}

@@ -12,9 +12,10 @@ use Rattle.search.specs.Worklist.{State, pushAll}
 use Rattle.search.proofs.Worklist.{all-moved}
 use Rattle.flow.specs.Graph.{Graph}
 use Rattle.flow.specs.Findings.{Use, Declaration, node, isWrite, onlyIf, liveSuccessors}
-use Rattle.live_walk.specs.Stamps.{view, Ready, Leaves}
-use Rattle.live_walk.specs.Walk.{chart, declared, useAt}
-use Rattle.live_walk.proofs.Walk.{still-ready, only-nodes, seeds, seed-step, seed-done}
+use Rattle.live_steps.specs.Stamps.{view, Ready, Leaves}
+use Rattle.live_steps.specs.Walk.{chart, declared, useAt}
+use Rattle.live_steps.proofs.Steps.{still-ready}
+use Rattle.live_walk.proofs.Walk.{only-nodes, seeds, seed-step, seed-done}
 use Rattle.live_walk.proofs.seed.Statement.{statement}
 use Rattle.live_walk.proofs.seed.Tie as tie
 

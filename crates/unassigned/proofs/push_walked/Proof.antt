@@ -4,7 +4,7 @@ use Prim.Native.Nat.{_+_, _*_}
 use mathlib.Core.Path.{refl}
 use native.Mathlib.Omega.{arith}
 use Rattle.locals.proofs.Entries.{listed-none}
-use Rattle.unassigned.proofs.Walks.{findings-none, findings-one}
+use Rattle.unassigned.proofs.Findings.{findings-none, findings-one}
 use borrow.Author.Needs.{needs}
 use Rattle.unassigned.proofs.push_walked.Statement.{statement}
 use Rattle.unassigned.proofs.push_walked.Tie as tie

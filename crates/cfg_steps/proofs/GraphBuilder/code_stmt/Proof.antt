@@ -1,5 +1,5 @@
 use borrow.Author.Needs.{needs}
-use mathlib.Core.Path.{refl}
+use mathlib.Core.Path.{refl, sym, _∙_}
 use native.Mathlib.Omega.{arith}
 use Rattle.cfg_steps.proofs.Simple.{did-as, may-jump, may-code, coded-break, coded-continue, coded-return, coded-raise, coded-call, coded-on}
 use Rattle.cfg_steps.proofs.GraphBuilder.code_stmt.Statement.{statement}
@@ -44,8 +44,11 @@ same-length-6 c = search needs
 returns-3 : tie.Need-returns-3
 returns-3 c = λ ks n l ok q. did-as refl (λ ss g. coded-return _ _ _ _ _ g _ (c .before .before .before .before .before .before .before .before .if3 .taken) (c .before .before .before .before .before .before .before .return-exit .ensures .0)) (c .before .before .before .before .jump3 .ensures ks n l ok q)
 
+call-raises-requires : tie.Need-call-raises-requires
+call-raises-requires c κs = search needs
+
 jump-requires-4 : tie.Need-jump-requires-4
-jump-requires-4 c κs = may-jump _ _ (c .before .before .before .before .before .before .before .before .before .pre .0 .2) (c .before .before .before .before .before .before .before .before .before .pre .1 .0) (c .before .before .before .before .before .before .before .before .before .pre .1 .1) (c .before .before .before .before .before .before .before .before .before .pre .1 .2) (omega (arith, c .before .before .before .before .before .before .before .before .before .pre .0 .2 .exits))
+jump-requires-4 c κs = may-jump _ _ (c .before .before .before .before .before .before .before .before .before .before .pre .0 .2) (c .before .before .before .before .before .before .before .before .before .before .pre .1 .0) (c .before .before .before .before .before .before .before .before .before .before .pre .1 .1) (c .before .before .before .before .before .before .before .before .before .before .pre .1 .2) (omega (arith, c .before .before .before .before .before .before .before .before .before .before .pre .0 .2 .exits))
 
 same-length-7 : tie.Need-same-length-7
 same-length-7 c = search needs
@@ -54,10 +57,10 @@ same-length-8 : tie.Need-same-length-8
 same-length-8 c = search needs
 
 returns-4 : tie.Need-returns-4
-returns-4 c = λ ks n l ok q. did-as refl (λ ss g. coded-raise _ _ _ _ _ g (c .before .before .before .before .before .before .before .before .if4 .taken) (c .before .before .before .before .before .before .before .if5 .taken)) (c .before .before .before .before .jump4 .ensures ks n l ok q)
+returns-4 c = λ ks n l ok q. did-as refl (λ ss g. coded-raise _ _ _ _ _ g (c .before .before .before .before .before .before .before .before .before .if4 .taken) (sym (c .before .before .before .before .before .before .before .before .call-raises .ensures) ∙ c .before .before .before .before .before .before .before .if5 .taken)) (c .before .before .before .before .jump4 .ensures ks n l ok q)
 
 code-requires : tie.Need-code-requires
-code-requires c κs = may-code _ (c .before .before .before .before .before .before .before .before .before .pre .0 .2) (c .before .before .before .before .before .before .before .before .before .pre .1 .0) (c .before .before .before .before .before .before .before .before .before .pre .1 .1) (c .before .before .before .before .before .before .before .before .before .pre .1 .2)
+code-requires c κs = may-code _ (c .before .before .before .before .before .before .before .before .before .before .pre .0 .2) (c .before .before .before .before .before .before .before .before .before .before .pre .1 .0) (c .before .before .before .before .before .before .before .before .before .before .pre .1 .1) (c .before .before .before .before .before .before .before .before .before .before .pre .1 .2)
 
 same-length-9 : tie.Need-same-length-9
 same-length-9 c = search needs
@@ -66,7 +69,7 @@ same-length-10 : tie.Need-same-length-10
 same-length-10 c = search needs
 
 returns-5 : tie.Need-returns-5
-returns-5 c = λ ks n l ok q. did-as refl (λ ss g. coded-call _ _ _ _ _ g (c .before .before .before .before .before .before .before .before .if4 .taken) (c .before .before .before .before .before .before .before .if5 .left)) (c .before .before .before .before .code .ensures .0 ks n l ok q)
+returns-5 c = λ ks n l ok q. did-as refl (λ ss g. coded-call _ _ _ _ _ g (c .before .before .before .before .before .before .before .before .before .if4 .taken) (sym (c .before .before .before .before .before .before .before .before .call-raises .ensures) ∙ c .before .before .before .before .before .before .before .if5 .left)) (c .before .before .before .before .code .ensures .0 ks n l ok q)
 
 code-requires-2 : tie.Need-code-requires-2
 code-requires-2 c κs = search needs
@@ -97,6 +100,7 @@ code-stmt-spec =
     same-length-5
     same-length-6
     returns-3
+    call-raises-requires
     jump-requires-4
     same-length-7
     same-length-8

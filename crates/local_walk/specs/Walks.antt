@@ -1,0 +1,28 @@
+-- What the walk of one local tells: its first unassigned use as a number.
+-- Assumes nothing: these are definitions.
+use Prim.Native.Nat.{ℕ, _+_, _≤_}
+use mathlib.Core.Path.{_≡_}
+use mathlib.Core.List.{List, [], _∷_}
+use lib.ListN.{length}
+use Rattle.flow.specs.Graph.{Graph}
+use Rattle.flow.specs.Findings.{Use, onlyIf, liveAfterWrites, firstEmptyRead}
+use Rattle.live_steps.specs.Stamps.{Fresh}
+use Rattle.live_steps.specs.Walk.{declared}
+use Rattle.declarations.specs.declared.Declared.{Declared}
+use Rattle.local_walk.specs.declared.Walked.{Walked}
+
+-- the first use of a list, as its number + 1; 0 for none
+abbrev pub codeOf : List Use → ℕ
+codeOf [] = 0
+codeOf (u ∷ us) = u .number + 1
+
+-- the walk finds the first unassigned use of us, if it is due
+abbrev pub Finds : Graph → Declared → List Use → Walked → Type 0
+Finds g d us r = r .first ≡ codeOf (onlyIf (d .due) (firstEmptyRead (liveAfterWrites g (declared (d .node) (d .«scope_end»)) us) [] us))
+
+-- the walk leaves its columns ready for the next stamp
+pub record Leaves (stamp n uses : ℕ) (r : Walked) (visited stack : List ℕ) : Type 0 where
+  pub few : r .nodes ≤ n
+  pub within : r .first ≤ uses
+  pub fresh : Fresh (stamp + 1) n visited
+  pub long : n ≤ length stack
