@@ -155,21 +155,26 @@ good-declare : (s : ℕ) (st : Settings) (g : Graph) → g .current < nodeCount 
 good-declare s st g h r =
     record { each = simp (declared, keeps, new-name) (snoc-below (written g .names .node) (g .current) (nodeCount g) h (r .each)) }
 
-good-simple : (k a s : ℕ) (q : Bool) (st : Settings) (g : Graph) → (not (eqb k NAME) || q) ≡ true → Here q g → Good g → Good (simpleStmt k a s st g)
+-- what holds after each operation that a simple statement may be holds after the statement; P stays a variable, so that the cases stay small
+simple-cases : (P : Graph → Type 0) (k a s : ℕ) (st : Settings) (g : Graph) → (k ≡ NAME → P (declare s st g)) → P g → ((f : Found) → P (standAt f s g)) → ((b : ℕ) → P (jump s b g)) → P (code s g) → P (simpleStmt k a s st g)
 unfolding simpleStmt
-good-simple k a s q st g f h r =
+simple-cases P k a s st g name stays stand jumps codes =
     elim (ℕ-discrete k NAME) [
-      | yes e ↦ rw e (good-declare s st g (h (rw e at f)) r)
+      | yes e ↦ rw e (name e)
       | no n ↦
           rw (ne-eqb k NAME n)
-          (either Good (eqb k LABEL) (either Good (eqb a 0) r (good-stand (labelNode a (st .labels)) s g r))
-          (either Good (eqb k GOTO) (good-jump s _ g r)
-          (either Good (eqb k BREAK) (good-jump s _ g r)
-          (either Good (eqb k CONTINUE) (good-jump s _ g r)
-          (either Good (eqb k RETURN) (good-jump s _ g r)
-          (either Good (eqb k CALL && raises a) (good-jump s _ g r)
-          (either Good (eqb k EMPTY) r (good-code s g r))))))))
+          (either P (eqb k LABEL) (either P (eqb a 0) stays (stand (labelNode a (st .labels))))
+          (either P (eqb k GOTO) (jumps _)
+          (either P (eqb k BREAK) (jumps _)
+          (either P (eqb k CONTINUE) (jumps _)
+          (either P (eqb k RETURN) (jumps _)
+          (either P (eqb k CALL && raises a) (jumps _)
+          (either P (eqb k EMPTY) stays codes)))))))
     ]
+
+good-simple : (k a s : ℕ) (q : Bool) (st : Settings) (g : Graph) → (not (eqb k NAME) || q) ≡ true → Here q g → Good g → Good (simpleStmt k a s st g)
+good-simple k a s q st g f h r =
+    simple-cases Good k a s st g (λ e. good-declare s st g (h (rw e at f)) r) r (λ p. good-stand p s g r) (λ b. good-jump s b g r) (good-code s g r)
 
 -- behind a LOCAL its node is current, and a NAME leaves it so
 current-code : (s : ℕ) (g : Graph) → code s g .current < nodeCount (code s g)
