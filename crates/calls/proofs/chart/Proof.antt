@@ -1,3 +1,5 @@
+-- `calls::chart` meets its contract: refused, no column was touched; admitted, the columns are wide enough for the graph.
+-- Assumes nothing.
 use borrow.Author.Needs.{needs}
 use mathlib.Core.Path.{_≡_, sym, ap, _∙_}
 use mathlib.Core.List.{List}

@@ -1,3 +1,5 @@
+-- The builders of blocks, statements and arms meet their contracts together: at each call the items that are left fall, or the builder's rank does.
+-- Assumes nothing.
 use Rattle.cfg_steps.proofs.Loops.{move-did}
 use mathlib.Core.Logic.{inl}
 use lib.Dec.{lit≤}

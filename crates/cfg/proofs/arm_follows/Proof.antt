@@ -1,3 +1,5 @@
+-- `cfg::arm_follows` meets its contract, by the item's kind.
+-- Assumes nothing.
 use mathlib.Core.Path.{_≡_}
 use mathlib.Core.Bool.{true, true≢false, false≢true}
 use native.Mathlib.Omega.{arith}

@@ -1,3 +1,5 @@
+-- `cfg::of_block` meets its contract: the outermost block from the entry, whose end goes to End.
+-- Assumes nothing.
 use borrow.Author.Needs.{needs}
 use native.Mathlib.Omega.{arith}
 use mathlib.Core.Path.{refl}

@@ -1,3 +1,5 @@
+-- `cfg::start_nodes` meets its contract: six words that hold no successor.
+-- Assumes nothing.
 use borrow.Author.Needs.{needs}
 use native.Mathlib.Omega.{arith}
 use lib.ListN.{length-set}

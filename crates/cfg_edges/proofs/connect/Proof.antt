@@ -1,3 +1,5 @@
+-- `cfg_edges::connect` meets its contract: an edge goes in the first free half of its node's word.
+-- Assumes nothing.
 use borrow.Author.Needs.{needs}
 use native.Mathlib.Omega.{arith}
 use borrow.Author.Tests.{eq-eqb, ne-eqb}

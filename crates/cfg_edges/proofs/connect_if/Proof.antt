@@ -1,3 +1,5 @@
+-- `cfg_edges::connect_if` meets its contract: an edge, or none.
+-- Assumes nothing.
 use borrow.Author.Needs.{needs}
 use mathlib.Core.Logic.{inl}
 use Rattle.cfg_edges.proofs.connect_if.Statement.{statement}

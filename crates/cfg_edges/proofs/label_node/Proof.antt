@@ -1,3 +1,5 @@
+-- `cfg_edges::label_node` meets its contract: from the last label on, the first of that name.
+-- Assumes nothing.
 use Prim.Native.Nat.{_≤_}
 use mathlib.Core.Path.{_≡_, refl, sym, ap, _∙_}
 use native.Mathlib.Omega.{arith}

@@ -1,3 +1,5 @@
+-- `cfg_edges::literal_truth` meets its contract, by the codes of conditions.
+-- Assumes nothing.
 use borrow.Author.Tests.{le-leb, lt-leb}
 use Rattle.flow.specs.Kinds.{literalTruth}
 use Rattle.cfg_edges.proofs.literal_truth.Statement.{statement}

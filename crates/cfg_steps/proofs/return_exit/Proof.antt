@@ -1,3 +1,5 @@
+-- `cfg_steps::return_exit` meets its contract: the exit by RETURN's argument.
+-- Assumes nothing.
 use borrow.Author.Tests.{eq-eqb, ne-eqb}
 use lib.Dec.{lit<}
 use Rattle.cfg_steps.proofs.return_exit.Statement.{statement}

@@ -1,3 +1,5 @@
+-- `chart::of_sheet` meets its contract: the graph of the sheet's parts, in the lent columns.
+-- Assumes nothing.
 use borrow.Author.Needs.{needs}
 use denote.Ref.{now}
 use Rattle.chart.proofs.Laid.{sheet-parts}

@@ -1,3 +1,5 @@
+-- `chart::split_nodes` meets its contract: successors from the words of edges, and the reachable flags by a search over them.
+-- Assumes nothing.
 use borrow.Author.Needs.{needs}
 use mathlib.Core.Path.{sym, ap, _∙_}
 use lib.ListN.{take, drop}

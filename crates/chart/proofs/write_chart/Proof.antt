@@ -1,3 +1,5 @@
+-- `chart::write_chart` meets its contract: each column is what the definition gives, over what stood there before.
+-- Assumes nothing.
 use borrow.Author.Needs.{needs}
 use mathlib.Core.Path.{_∙_}
 use denote.Ref.{now}

@@ -1,3 +1,5 @@
+-- `findings::find_all` meets its contract: the parts of both sheets are what the search for findings asks.
+-- Assumes nothing.
 use borrow.Author.Needs.{needs}
 use native.Mathlib.Omega.{arith}
 use denote.Ref.{now}

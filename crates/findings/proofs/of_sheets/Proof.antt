@@ -1,3 +1,5 @@
+-- `findings::of_sheets` meets its contract: a chart's columns are what the search for findings asks.
+-- Assumes nothing.
 use borrow.Author.Needs.{needs}
 use Rattle.findings.proofs.Judging.{sheets, accepted}
 use Rattle.findings.proofs.of_sheets.Statement.{statement}

@@ -1,3 +1,5 @@
+-- `run::run` meets its contract: refused by the sheet's verdict, or the answer by a chart in columns of its own.
+-- Assumes nothing.
 use borrow.Author.Needs.{needs}
 use mathlib.Core.Path.{sym, _∙_}
 use denote.Ref.{now}

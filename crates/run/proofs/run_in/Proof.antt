@@ -1,3 +1,5 @@
+-- `run::run_in` meets its contract: the place among the chart's codes, and the flag of its node.
+-- Assumes nothing.
 use borrow.Author.Needs.{needs}
 use denote.Ref.{now}
 use Rattle.flow.specs.Graph.{graph}

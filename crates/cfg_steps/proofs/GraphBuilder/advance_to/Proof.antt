@@ -1,3 +1,5 @@
+-- `cfg_steps::GraphBuilder::advance_to` meets its contract: the step `advanceTo` on the graph that the columns stand for.
+-- Assumes nothing.
 use borrow.Author.Needs.{needs}
 use native.Mathlib.Omega.{arith}
 use Rattle.cfg_steps.proofs.Ops.{advance-did, standing}

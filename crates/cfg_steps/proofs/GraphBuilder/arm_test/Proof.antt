@@ -1,3 +1,5 @@
+-- `cfg_steps::GraphBuilder::arm_test` meets its contract: ELSEIF's code node is reached from the test before.
+-- Assumes nothing.
 use borrow.Author.Needs.{needs}
 use mathlib.Core.List.{[]}
 use mathlib.Core.Logic.{inl}

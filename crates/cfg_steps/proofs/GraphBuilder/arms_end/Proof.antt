@@ -1,3 +1,5 @@
+-- `cfg_steps::GraphBuilder::arms_end` meets its contract: without ELSE the last test goes on to the join.
+-- Assumes nothing.
 use borrow.Author.Needs.{needs}
 use Rattle.cfg_steps.proofs.Loops.{arms-end-did}
 use Rattle.cfg_steps.proofs.GraphBuilder.arms_end.Statement.{statement}

@@ -1,3 +1,5 @@
+-- `cfg_steps::GraphBuilder::close_into` meets its contract: the step `closeInto` on the graph that the columns stand for.
+-- Assumes nothing.
 use borrow.Author.Needs.{needs}
 use native.Mathlib.Omega.{arith}
 use Rattle.cfg_steps.proofs.Ops.{close-did, standing}

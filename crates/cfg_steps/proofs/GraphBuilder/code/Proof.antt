@@ -1,3 +1,5 @@
+-- `cfg_steps::GraphBuilder::code` meets its contract: the step `code` on the graph that the columns stand for.
+-- Assumes nothing.
 use borrow.Author.Needs.{needs}
 use native.Mathlib.Omega.{arith}
 use mathlib.Core.Logic.{inl}

@@ -1,3 +1,5 @@
+-- `cfg_steps::GraphBuilder::code_and_after` meets its contract: a code node, then a node after it.
+-- Assumes nothing.
 use borrow.Author.Needs.{needs}
 use Rattle.cfg_steps.proofs.Ops.{did-trans}
 use Rattle.cfg_steps.proofs.GraphBuilder.code_and_after.Statement.{statement}

@@ -1,3 +1,5 @@
+-- `cfg_steps::GraphBuilder::code_stmt` meets its contract, by the kinds of statements with code: each is its step of the definition.
+-- Assumes nothing.
 use borrow.Author.Needs.{needs}
 use mathlib.Core.Path.{refl, sym, _∙_}
 use native.Mathlib.Omega.{arith}

@@ -1,3 +1,5 @@
+-- `cfg_steps::GraphBuilder::declare` meets its contract: a name's word holds the current node, the item and the scope end.
+-- Assumes nothing.
 use borrow.Author.Needs.{needs}
 use native.Mathlib.Omega.{arith}
 use Rattle.cfg_steps.proofs.Ops.{declare-did}

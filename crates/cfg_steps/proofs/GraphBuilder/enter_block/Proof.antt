@@ -1,3 +1,5 @@
+-- `cfg_steps::GraphBuilder::enter_block` meets its contract: after i items the labels that stand directly in the block so far have their nodes.
+-- Assumes nothing.
 use native.Mathlib.Omega.{arith}
 use Prim.Native.Nat.{ℕ, _≤_, _-_}
 use mathlib.Core.Path.{_≡_, refl}

@@ -1,3 +1,5 @@
+-- `cfg_steps::GraphBuilder::for_head` meets its contract: a code node, then the nodes head and after.
+-- Assumes nothing.
 use borrow.Author.Needs.{needs}
 use mathlib.Core.Path.{refl}
 use native.Mathlib.Omega.{arith}

@@ -1,3 +1,5 @@
+-- `cfg_steps::GraphBuilder::goto_stmt` meets its contract: a jump to the label's node, or to Break where none is found.
+-- Assumes nothing.
 use borrow.Author.Needs.{needs}
 use mathlib.Core.Path.{refl, sym, ap, _∙_}
 use lib.ListN.{getD}

@@ -1,3 +1,5 @@
+-- `cfg_steps::GraphBuilder::jump` meets its contract: a code node, closed into the target.
+-- Assumes nothing.
 use borrow.Author.Needs.{needs}
 use native.Mathlib.Omega.{arith}
 use Rattle.cfg_steps.proofs.Ops.{jump-did}

@@ -1,3 +1,5 @@
+-- `cfg_steps::GraphBuilder::label_stmt` meets its contract: a named label is stood at, and name 0 does nothing.
+-- Assumes nothing.
 use borrow.Author.Needs.{needs}
 use mathlib.Core.Path.{refl, sym, _∙_}
 use native.Mathlib.Omega.{arith}

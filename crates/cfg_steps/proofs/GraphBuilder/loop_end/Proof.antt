@@ -1,3 +1,5 @@
+-- `cfg_steps::GraphBuilder::loop_end` meets its contract: the head goes on to after unless its condition is true.
+-- Assumes nothing.
 use borrow.Author.Needs.{needs}
 use mathlib.Core.Path.{refl, ap, _∙_}
 use native.Mathlib.Omega.{arith}

@@ -1,3 +1,5 @@
+-- `cfg_steps::GraphBuilder::new_label` meets its contract: a node for a label, which comes into force.
+-- Assumes nothing.
 use borrow.Author.Needs.{needs}
 use Rattle.cfg_steps.proofs.Scan.{label-entered}
 use Rattle.cfg_steps.proofs.GraphBuilder.new_label.Statement.{statement}

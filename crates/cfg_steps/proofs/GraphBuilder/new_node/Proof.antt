@@ -1,3 +1,5 @@
+-- `cfg_steps::GraphBuilder::new_node` meets its contract: the step `newNode` on the graph that the columns stand for.
+-- Assumes nothing.
 use borrow.Author.Needs.{needs}
 use Rattle.cfg_steps.proofs.Ops.{new-did}
 use Rattle.cfg_steps.proofs.GraphBuilder.new_node.Statement.{statement}

@@ -1,3 +1,5 @@
+-- `cfg_steps::GraphBuilder::record_code` meets its contract: the step `recordCode` on the graph that the columns stand for.
+-- Assumes nothing.
 use borrow.Author.Needs.{needs}
 use mathlib.Core.Path.{refl}
 use Rattle.cfg_steps.proofs.Ops.{record-did}

@@ -1,3 +1,5 @@
+-- `cfg_steps::GraphBuilder::repeat_end` meets its contract: UNTIL's code at the condition, which goes on as its truth allows.
+-- Assumes nothing.
 use borrow.Author.Needs.{needs}
 use native.Mathlib.Omega.{arith}
 use Rattle.cfg_steps.proofs.Loops.{repeat-did}

@@ -1,3 +1,5 @@
+-- `cfg_steps::GraphBuilder::repeat_head` meets its contract: the nodes body, condition and after, and the move to the body.
+-- Assumes nothing.
 use borrow.Author.Needs.{needs}
 use native.Mathlib.Omega.{arith}
 use mathlib.Core.List.{[]}

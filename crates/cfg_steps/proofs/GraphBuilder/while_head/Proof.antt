@@ -1,3 +1,5 @@
+-- `cfg_steps::GraphBuilder::while_head` meets its contract: a code node and the node after, and nothing current where the condition is false.
+-- Assumes nothing.
 use borrow.Author.Needs.{needs}
 use mathlib.Core.Path.{refl, sym, _∙_}
 use mathlib.Core.Logic.{inr}
