@@ -15,7 +15,7 @@
      sheet                     chart  judge    run  label check
      1,024 PLAIN                   2     49     94           18
      an IF with 1,022 ELSEIF       3     50     95           18
-     64 nested IF                 57    104    149           18
+     64 nested IF                 59    106    151           18
 */
 #ifndef WALDIMU_H
 #define WALDIMU_H
