@@ -1,6 +1,6 @@
 -- 01, "Label check": "Yes exactly when no two labels with the same name number, not 0, stand directly in the same block and every GOTO finds a label."
 -- Every GOTO finds a label: Lua 5.2 and 5.3, section 3.3.4: "A label is visible in the entire block where it is defined, except inside nested blocks where a label with the same name is defined and inside nested functions. A goto may jump to any visible label as long as it does not enter into the scope of a local variable." So a label of an enclosing block is found, too.
--- No label twice in one block: 5.4 and 5.5, section 3.3.4, let no label be declared where one of its name is visible; 5.2 and 5.3 do not say it there, and their compilers refuse it within a block.
+-- No label twice in one block: section 3.3.4 of 5.2 does not say it, and the compilers of 5.2 and later refuse it. The section on goto of 5.4, by request C-16's account of it, forbids even a name that a label of an enclosing block has.
 -- That no goto enters the scope of a local, and 5.4's ban on a name that an enclosing block's label has, come with request C-16. 5.1 and Luau have no goto.
 -- Assumes nothing: these are definitions.
 use mathlib.Core.Bool.{Bool, true, cond, _&&_, _||_, not}
