@@ -1,11 +1,21 @@
--- The lowest of tests with further tests behind them. Assumes nothing.
+-- The first of tests that applies: it is the first in the list, or stands behind tests that pass. Assumes nothing.
 use mathlib.Core.Bool.{Bool, true, false, cond}
 use mathlib.Core.List.{List, [], _∷_, _++_}
-use mathlib.Core.Path.{_≡_, refl, sym, ap, subst, _∙_}
-use Rattle.flow.specs.Refusals.{Test, lowest}
+use mathlib.Core.Path.{_≡_, refl, ap, _∙_}
+use Rattle.flow.specs.Refusals.{Test, firstApplying}
 use Rattle.flow.specs.declared.Refusal.{Refusal}
 use Rattle.flow.specs.declared.Verdict.{Verdict}
 use Rattle.flow.specs.declared.Verdict.the-variants.{Admitted, Refused}
+
+pub applies-first : (t : Test) (ts : List Test) → t .1 ≡ true → firstApplying (t ∷ ts) ≡ Refused (t .0)
+unfolding firstApplying
+applies-first t ts e = rw e
+
+pub passes-first : (t : Test) (ts : List Test) → t .1 ≡ false → firstApplying (t ∷ ts) ≡ firstApplying ts
+unfolding firstApplying
+passes-first t ts e = rw e
+
+-- ---- tests with further tests behind them
 
 abbrev orElse : Verdict → Verdict → Verdict
 orElse Admitted v = v
@@ -15,29 +25,13 @@ pick : (b : Bool) (r : Refusal) (u v w : Verdict) → u ≡ orElse v w → cond 
 pick true r u v w e = refl
 pick false r u v w e = e
 
-behind : (xs ts : List Test) → lowest (xs ++ ts) ≡ orElse (lowest xs) (lowest ts)
-unfolding lowest
+behind : (xs ts : List Test) → firstApplying (xs ++ ts) ≡ orElse (firstApplying xs) (firstApplying ts)
+unfolding firstApplying
 behind [] ts = refl
-behind (x ∷ xs) ts = pick (x .1) (x .0) (lowest (xs ++ ts)) (lowest xs) (lowest ts) (behind xs ts)
+behind (x ∷ xs) ts = pick (x .1) (x .0) (firstApplying (xs ++ ts)) (firstApplying xs) (firstApplying ts) (behind xs ts)
 
-pub refused-first : (xs ts : List Test) (r : Refusal) → lowest xs ≡ Refused r → lowest (xs ++ ts) ≡ Refused r
-refused-first xs ts r e = behind xs ts ∙ ap (λ (v : Verdict). orElse v (lowest ts)) e
+pub refused-before : (xs ts : List Test) (r : Refusal) → firstApplying xs ≡ Refused r → firstApplying (xs ++ ts) ≡ Refused r
+refused-before xs ts r e = behind xs ts ∙ ap (λ (v : Verdict). orElse v (firstApplying ts)) e
 
-pub admitted-first : (xs ts : List Test) → lowest xs ≡ Admitted → lowest (xs ++ ts) ≡ lowest ts
-admitted-first xs ts e = behind xs ts ∙ ap (λ (v : Verdict). orElse v (lowest ts)) e
-
--- where none is reported, none applies
-abbrev Taken : Verdict → Type 0
-Taken Admitted = Unit {0}
-Taken (Refused r) = ⊥
-
-none-applies : (t : Test) (ts : List Test) → lowest (t ∷ ts) ≡ Admitted → (t .1 ≡ false) × (lowest ts ≡ Admitted)
-unfolding lowest
-none-applies t ts e = go (t .1) refl e
-  where
-    go : (b : Bool) → t .1 ≡ b → cond b (Refused (t .0)) (lowest ts) ≡ Admitted → (t .1 ≡ false) × (lowest ts ≡ Admitted)
-    go true p q = absurd (subst Taken (sym q) tt)
-    go false p q = (p, q)
-
-pub second-passes : (t u : Test) → lowest (t ∷ u ∷ []) ≡ Admitted → u .1 ≡ false
-second-passes t u e = none-applies u [] (none-applies t (u ∷ []) e .1) .0
+pub admitted-before : (xs ts : List Test) → firstApplying xs ≡ Admitted → firstApplying (xs ++ ts) ≡ firstApplying ts
+admitted-before xs ts e = behind xs ts ∙ ap (λ (v : Verdict). orElse v (firstApplying ts)) e

@@ -1,9 +1,9 @@
-// Admission: for any words the lowest refusal that applies, or that the sheet is admitted.
+// Admission: for any words the first refusal in the order of precedence, or that the sheets are admitted.
 ghost use mathlib.Core.Path.{_≡_};
 ghost use mathlib.Core.Bool.{false};
-ghost use mathlib.Core.List.{[]};
-ghost use Rattle.flow.specs.Refusals.{lowest, sheetTests, sheetVerdict, chartVerdict, judgeVerdict};
-use flow::Bench;
+ghost use Rattle.flow.specs.Refusals.{firstApplying, itemTests, sheetVerdict, pairVerdict, badUse};
+ghost use Rattle.sheet_parts.specs.Parts.{Counted};
+ghost use Rattle.admission.specs.Leading.{leadingTests};
 use flow::Refusal;
 use flow::Verdict;
 use line_tests::off_the_line;
@@ -14,33 +14,16 @@ use sheet_tests::name::bad_name;
 use sheet_tests::use_words::bad_use;
 use sheet_tests::use_words::name_count;
 
-mod room;
+mod counts;
 
-// The table's number of a refusal.
-pub fn number(refusal: Refusal) -> u64
-    ensures { λ r. ⌜ r ≡ Rattle.flow.specs.Refusals.number refusal ⌝ }
-{
-    match refusal {
-        Refusal::BenchTooSmall => 1,
-        Refusal::Miscount => 2,
-        Refusal::BadItem => 3,
-        Refusal::TooDeep => 4,
-        Refusal::BadNesting => 5,
-        Refusal::OffTheLine => 6,
-        Refusal::BadName => 7,
-        Refusal::BadUse => 8,
-    }
-}
-
-// 3 to 7. The two arrays are handed on as parts that start inside the sheet.
-fn tests_verdict(sheet: &[u64]) -> Verdict
-    requires { ⌜ Rattle.flow.specs.Refusals.miscount 2 (now sheet) ≡ false ⌝ }
-    ensures { λ r. ⌜ r ≡ lowest (sheetTests (now (sheet .entry)) []) ⌝ }
+// 3 to 7, which ask of the sheet alone.
+fn item_verdict(sheet: &[u64]) -> Verdict
+    requires { ⌜ Counted 2 (now sheet) ⌝ }
+    ensures { λ r. ⌜ r ≡ firstApplying (itemTests (now (sheet .entry))) ⌝ }
 {
     let outer = sheet[1];
-    let m = 2 + sheet[0] as usize;
-    let kinds = &sheet[2..m];
-    let spans = &sheet[m..];
+    let kinds = sheet_parts::kinds(sheet);
+    let spans = sheet_parts::spans(sheet);
     if bad_item(outer, kinds, spans) {
         return Verdict::Refused(Refusal::BadItem);
     }
@@ -59,49 +42,44 @@ fn tests_verdict(sheet: &[u64]) -> Verdict
     Verdict::Admitted
 }
 
-pub fn sheet_verdict(sheet: &[u64]) -> Verdict
-    ensures { λ r. ⌜ r ≡ sheetVerdict (now (sheet .entry)) ⌝ }
+// 8: "local number not below the names, high part not 0 to 2 or 4 to 6, or start past end".
+fn use_is_bad(sheet: &[u64], uses: &[u64]) -> bool
+    requires { ⌜ Counted 2 (now sheet) × Counted 1 (now uses) ⌝ }
+    ensures { λ r. ⌜ r ≡ badUse (now (sheet .entry)) (now (uses .entry)) ⌝ }
 {
-    if room::miscount(sheet) {
+    let names = name_count(sheet_parts::kinds(sheet), sheet_parts::spans(sheet));
+    let words = sheet_parts::use_words(uses);
+    let spans = sheet_parts::use_spans(uses);
+    bad_use(names, words, spans)
+}
+
+// 1 to 7. `short` and `miscounted` are refusals 1 and 2 as measured: a lent column is too short, a sheet is miscounted.
+fn leading_verdict(short: bool, miscounted: bool, sheet: &[u64]) -> Verdict
+    requires { ⌜ (miscounted ≡ false → Counted 2 (now sheet)) ⌝ }
+    ensures { λ r. ⌜ r ≡ firstApplying (leadingTests short miscounted (now (sheet .entry))) ⌝ }
+{
+    if short {
+        return Verdict::Refused(Refusal::BenchTooSmall);
+    }
+    if miscounted {
         return Verdict::Refused(Refusal::Miscount);
     }
-    tests_verdict(sheet)
+    item_verdict(sheet)
 }
 
-pub fn chart_verdict(bench: Bench, sheet: &[u64]) -> Verdict
-    ensures { λ r. ⌜ r ≡ chartVerdict bench (now (sheet .entry)) ⌝ }
+// Of every call that takes a sheet. The call has measured its own lent columns.
+pub fn sheet_verdict(short: bool, sheet: &[u64]) -> Verdict
+    ensures { λ r. ⌜ r ≡ sheetVerdict short (now (sheet .entry)) ⌝ }
 {
-    let lengths = room::length_verdict(room::chart_bench_too_small(bench), room::miscount(sheet));
-    if let Verdict::Refused(refusal) = lengths {
-        return Verdict::Refused(refusal);
-    }
-    tests_verdict(sheet)
+    leading_verdict(short, counts::miscounted(sheet, 2), sheet)
 }
 
-// 8, for sheets that are counted right.
-fn use_is_bad(sheet: &[u64], uses: &[u64]) -> bool
-    requires { ⌜ Rattle.flow.specs.Refusals.miscount 2 (now sheet) ≡ false ⌝ }
-    requires { ⌜ Rattle.flow.specs.Refusals.miscount 1 (now uses) ≡ false ⌝ }
-    ensures { λ r. ⌜ r ≡ Rattle.flow.specs.Refusals.badUse (now (sheet .entry)) (now (uses .entry)) ⌝ }
+// Of every call that takes a pair. A further test of the pair comes behind 8.
+pub fn pair_verdict(short: bool, sheet: &[u64], uses: &[u64]) -> Verdict
+    ensures { λ r. ⌜ r ≡ pairVerdict short (now (sheet .entry)) (now (uses .entry)) ⌝ }
 {
-    let m = 2 + sheet[0] as usize;
-    let names = name_count(&sheet[2..m], &sheet[m..]);
-    let n = 1 + uses[0] as usize;
-    bad_use(names, &uses[1..n], &uses[n..])
-}
-
-pub fn judge_verdict(bench: Bench, sheet: &[u64], uses: &[u64]) -> Verdict
-    ensures { λ r. ⌜ r ≡ judgeVerdict bench (now (sheet .entry)) (now (uses .entry)) ⌝ }
-{
-    let lengths = room::length_verdict(
-        room::judge_bench_too_small(bench),
-        room::any_miscount(sheet, uses),
-    );
-    if let Verdict::Refused(refusal) = lengths {
-        return Verdict::Refused(refusal);
-    }
-    let tests = tests_verdict(sheet);
-    if let Verdict::Refused(refusal) = tests {
+    let leading = leading_verdict(short, counts::either_miscounted(sheet, uses), sheet);
+    if let Verdict::Refused(refusal) = leading {
         return Verdict::Refused(refusal);
     }
     if use_is_bad(sheet, uses) {

@@ -1,67 +1,61 @@
--- How an answer crosses to C: as one word. Bits 0 to 3 hold the table's number of a refusal, and 0 where the call is accepted.
+-- How an answer crosses to C: as one word, made of what the answer tells; and the cuts of `include/waldimu.h`, which give back from the word what was told.
 -- Assumes nothing: these are definitions.
-use Prim.Native.Nat.{ℕ, _+_, _*_, _^_, _≤_, _<_}
-use mathlib.Core.Bool.{Bool}
-use Rattle.flow.specs.declared.Counts.{Counts}
-use Rattle.flow.specs.declared.Place.{Place}
-use Rattle.flow.specs.declared.Place.the-variants.{Node, Past}
-use Rattle.flow.specs.declared.ChartAnswer.{ChartAnswer}
-use Rattle.flow.specs.declared.ChartAnswer.the-variants.{Charted, Refused as ChartRefused}
-use Rattle.flow.specs.declared.RunAnswer.{RunAnswer}
-use Rattle.flow.specs.declared.RunAnswer.the-variants.{Ran, Refused as RunRefused}
-use Rattle.flow.specs.declared.JudgeAnswer.{JudgeAnswer}
-use Rattle.flow.specs.declared.JudgeAnswer.the-variants.{Judged, Refused as JudgeRefused}
-use Rattle.flow.specs.declared.LabelAnswer.{LabelAnswer}
-use Rattle.flow.specs.declared.LabelAnswer.the-variants.{Yes, No, Refused as LabelRefused}
-use Rattle.flow.specs.Refusals.{one, number}
+use mathlib.Core.Path.{_≡_}
+use mathlib.Core.List.{List, [], _∷_, tail}
+use Prim.Native.Nat.{ℕ, _+_, _*_, _/_, _%_, _^_, _<_}
+use lib.ListN.{getD}
+use Rattle.flow.specs.Answers.{Told}
 
--- nodes from bit 4 on, codes from bit 16, names from bit 32
-abbrev pub countsWord : Counts → ℕ
-countsWord k = 2 ^ 4 * k .nodes + 2 ^ 16 * k .codes + 2 ^ 32 * k .names
+-- a value by its place; one that is not there counts 0
+abbrev pub value : Told → ℕ → ℕ
+value t i = getD (t .values) i 0
 
-abbrev pub chartWord : ChartAnswer → ℕ
-chartWord (ChartRefused r) = number r
-chartWord (Charted k) = countsWord k
+-- a node that may be there: the node + 1, or 0 for none
+abbrev pub orNone : List ℕ → ℕ
+orNone [] = 0
+orNone (v ∷ vs) = v + 1
 
--- findings from bit 48 on
-abbrev pub judgeWord : JudgeAnswer → ℕ
-judgeWord (JudgeRefused r) = number r
-judgeWord (Judged k f) = countsWord k + 2 ^ 48 * f
+-- run's node, which follows its yes
+abbrev pub runNode : Told → ℕ
+runNode t = orNone (tail (t .values))
 
--- 0 past all code, else the node and 1
-abbrev pub placeWord : Place → ℕ
-placeWord Past = 0
-placeWord (Node v) = v + 1
+-- ---- the words: in each the number from bit 0 on, which a refusal alone has
 
--- bit 4: yes; from bit 32 on the place
-abbrev pub runWord : RunAnswer → ℕ
-runWord (RunRefused r) = number r
-runWord (Ran p can) = 2 ^ 4 * one can + 2 ^ 32 * placeWord p
+-- chart and judge: nodes from bit 4 on, codes from bit 16, names from bit 32, findings from bit 48
+abbrev pub countsWord : Told → ℕ
+countsWord t = t .number + 2 ^ 4 * value t 0 + 2 ^ 16 * value t 1 + 2 ^ 32 * value t 2 + 2 ^ 48 * value t 3
 
--- bit 4: yes
-abbrev pub labelWord : LabelAnswer → ℕ
-labelWord (LabelRefused r) = number r
-labelWord Yes = 2 ^ 4
-labelWord No = 0
+-- run: yes at bit 4, from bit 32 on the node
+abbrev pub runWord : Told → ℕ
+runWord t = t .number + 2 ^ 4 * value t 0 + 2 ^ 32 * runNode t
 
--- counts that leave each other their bits
-pub record Packable (k : Counts) : Type 0 where
-  pub nodes : k .nodes < 2 ^ 12
-  pub codes : k .codes < 2 ^ 16
-  pub names : k .names < 2 ^ 16
+-- the label check: yes at bit 4
+abbrev pub labelWord : Told → ℕ
+labelWord t = t .number + 2 ^ 4 * value t 0
 
-abbrev pub ChartFits : ChartAnswer → Type 0
-ChartFits (ChartRefused r) = Unit {0}
-ChartFits (Charted k) = Packable k
+-- values that leave each other their bits
+pub record CountsFit (t : Told) : Type 0 where
+  pub nodes : value t 0 < 2 ^ 12
+  pub codes : value t 1 < 2 ^ 16
+  pub names : value t 2 < 2 ^ 16
+  pub findings : value t 3 < 2 ^ 16
 
-abbrev pub JudgeFits : JudgeAnswer → Type 0
-JudgeFits (JudgeRefused r) = Unit {0}
-JudgeFits (Judged k f) = Packable k × (f < 2 ^ 16)
+-- ---- what C code cuts out of a word: a shift by k bits is `/ 2 ^ k`, a mask of k bits `% 2 ^ k`. Together the cuts of a word hold all its bits.
 
-abbrev pub PlaceFits : Place → Type 0
-PlaceFits Past = Unit {0}
-PlaceFits (Node v) = v < 2 ^ 16
+pub record CountFields (r : ℕ) (t : Told) : Type 0 where
+  pub number : r % 2 ^ 4 ≡ t .number
+  pub nodes : r / 2 ^ 4 % 2 ^ 12 ≡ value t 0
+  pub codes : r / 2 ^ 16 % 2 ^ 16 ≡ value t 1
+  pub names : r / 2 ^ 32 % 2 ^ 16 ≡ value t 2
+  pub findings : r / 2 ^ 48 ≡ value t 3
 
-abbrev pub RunFits : RunAnswer → Type 0
-RunFits (RunRefused r) = Unit {0}
-RunFits (Ran p can) = PlaceFits p
+pub record RunFields (r : ℕ) (t : Told) : Type 0 where
+  pub number : r % 2 ^ 4 ≡ t .number
+  pub yes : r / 2 ^ 4 % 2 ≡ value t 0
+  pub unused : r / 2 ^ 5 % 2 ^ 27 ≡ 0
+  pub node : r / 2 ^ 32 ≡ runNode t
+
+pub record LabelFields (r : ℕ) (t : Told) : Type 0 where
+  pub number : r % 2 ^ 4 ≡ t .number
+  pub yes : r / 2 ^ 4 % 2 ≡ value t 0
+  pub unused : r / 2 ^ 5 ≡ 0

@@ -1,11 +1,15 @@
 // 01's bench pieces that are not starred: "1,024 items pass, 1,025 give 2; 64 nested DO pass, 65 give 4".
 // Prints the number that each call gives for each, 0 where it passes.
 ghost use Prim.Native.Nat.{_≤_};
-use flow::ChartAnswer;
-use flow::JudgeAnswer;
+use column_lengths::CODES;
+use column_lengths::FINDINGS;
+use column_lengths::LOCALS;
+use column_lengths::NODES;
 use flow::LabelAnswer;
-use flow::RunAnswer;
 use libc::STDOUT_FILENO;
+use numbers::chart_number;
+use numbers::judge_number;
+use numbers::run_number;
 
 // Items' words: kind + 256 × argument. The scope end of each DO is 1.
 const DO: u64 = 8193;
@@ -49,46 +53,25 @@ fn nested_do(sheet: &mut [u64; 2052], depth: usize)
     sheet[2 + n + depth] = HALF;
 }
 
-fn chart_number(answer: ChartAnswer) -> u64 {
-    match answer {
-        ChartAnswer::Refused(refusal) => admission::number(refusal),
-        ChartAnswer::Charted(_) => 0,
-    }
-}
-
-fn judge_number(answer: JudgeAnswer) -> u64 {
-    match answer {
-        JudgeAnswer::Refused(refusal) => admission::number(refusal),
-        JudgeAnswer::Judged(_, _) => 0,
-    }
-}
-
-fn run_number(answer: RunAnswer) -> u64 {
-    match answer {
-        RunAnswer::Refused(refusal) => admission::number(refusal),
-        RunAnswer::Ran(_, _) => 0,
-    }
-}
-
 // A no counts as a refusal that the table has not.
 fn label_number(answer: LabelAnswer) -> u64 {
     match answer {
-        LabelAnswer::Refused(refusal) => admission::number(refusal),
+        LabelAnswer::Refused(refusal) => numbers::number(refusal),
         LabelAnswer::Yes => 0,
         LabelAnswer::No => 9,
     }
 }
 
 fn chart(sheet: &[u64]) -> u64 {
-    let mut first = [0u64; 1600];
-    let mut second = [0u64; 1600];
-    let mut start = [0u64; 1600];
-    let mut reachable = [0u64; 1600];
-    let mut code_span = [0u64; 1024];
-    let mut code_node = [0u64; 1024];
-    let mut name_span = [0u64; 1024];
-    let mut name_node = [0u64; 1024];
-    let mut name_end = [0u64; 1024];
+    let mut first = [0u64; NODES];
+    let mut second = [0u64; NODES];
+    let mut start = [0u64; NODES];
+    let mut reachable = [0u64; NODES];
+    let mut code_span = [0u64; CODES];
+    let mut code_node = [0u64; CODES];
+    let mut name_span = [0u64; LOCALS];
+    let mut name_node = [0u64; LOCALS];
+    let mut name_end = [0u64; LOCALS];
     chart_number(calls::chart(
         sheet,
         &mut first,
@@ -106,18 +89,18 @@ fn chart(sheet: &[u64]) -> u64 {
 // With no uses.
 fn judge(sheet: &[u64]) -> u64 {
     let uses = [0u64; 1];
-    let mut first = [0u64; 1600];
-    let mut second = [0u64; 1600];
-    let mut start = [0u64; 1600];
-    let mut reachable = [0u64; 1600];
-    let mut code_span = [0u64; 1024];
-    let mut code_node = [0u64; 1024];
-    let mut name_span = [0u64; 1024];
-    let mut name_node = [0u64; 1024];
-    let mut name_end = [0u64; 1024];
-    let mut finding_word = [0u64; 3072];
-    let mut finding_span = [0u64; 3072];
-    let mut mark = [0u64; 1024];
+    let mut first = [0u64; NODES];
+    let mut second = [0u64; NODES];
+    let mut start = [0u64; NODES];
+    let mut reachable = [0u64; NODES];
+    let mut code_span = [0u64; CODES];
+    let mut code_node = [0u64; CODES];
+    let mut name_span = [0u64; LOCALS];
+    let mut name_node = [0u64; LOCALS];
+    let mut name_end = [0u64; LOCALS];
+    let mut finding_word = [0u64; FINDINGS];
+    let mut finding_span = [0u64; FINDINGS];
+    let mut mark = [0u64; LOCALS];
     judge_number(judge::judge(
         sheet,
         &uses,

@@ -1,11 +1,10 @@
 // Both lists of findings, a pass over all locals for each (local_flow.rs).
-ghost use mathlib.Core.List.{List};
-ghost use Prim.Native.Nat.{ℕ, _+_, _≤_};
+ghost use Prim.Native.Nat.{_+_, _≤_};
 ghost use lib.ListN.{length};
-ghost use Rattle.flow.specs.Findings.{findings};
-ghost use Rattle.locals.specs.Entries.{Room, Added};
+ghost use Rattle.search.specs.Lent.{held, left};
+ghost use Rattle.locals.specs.Entries.{Room};
 ghost use Rattle.unassigned.specs.Pass.{Marked};
-ghost use Rattle.both_lists.specs.Passes.{Passes, AnyPasses, Walks};
+ghost use Rattle.both_lists.specs.Passes.{AnyPasses, Finds, Walks};
 use overwritten::list_overwritten;
 use unassigned::list_unassigned;
 
@@ -39,11 +38,11 @@ pub fn list_findings(
     n: usize,
     names: usize,
 ) -> usize
-    requires { ⌜ AnyPasses n names (now first) (now second) (now start) (now «name_node») (now «name_end») (now «name_span») (now facts) (now «use_word») (now «use_span») (now «use_node») (now lost) (now starts) (now «in_use_order») (now «in_node_order») ⌝ }
+    requires { ⌜ AnyPasses n names first second start «name_node» «name_end» «name_span» facts «use_word» «use_span» «use_node» lost starts «in_use_order» «in_node_order» ⌝ }
     requires { ⌜ Walks n (now visited) (now stack) (now head) (now «next_a») (now «next_b») (now used) (now reads) (now writes) ⌝ }
     requires { ⌜ Room (names + (names + length (now «use_word»))) 0 (now «finding_word») (now «finding_span») × (names ≤ length (now mark)) ⌝ }
-    ensures { λ r. ⌜ ((S U : List ℕ) → Passes S U n names (now (first .entry)) (now (second .entry)) (now (start .entry)) (now («name_node» .entry)) (now («name_end» .entry)) (now («name_span» .entry)) (now (facts .entry)) (now («use_word» .entry)) (now («use_span» .entry)) (now («use_node» .entry)) (now (lost .entry)) (now (starts .entry)) (now («in_use_order» .entry)) (now («in_node_order» .entry)) → Added (findings S U) 0 (now («finding_word» .entry)) (now («finding_span» .entry)) r (now («finding_word» .exit)) (now («finding_span» .exit))) ⌝ }
-    ensures { λ r. ⌜ Marked n names (now (mark .entry)) (now (mark .exit)) ⌝ }
+    ensures { λ r. ⌜ Finds n names first second start «name_node» «name_end» «name_span» facts «use_word» «use_span» «use_node» lost starts «in_use_order» «in_node_order» «finding_word» «finding_span» r ⌝ }
+    ensures { λ r. ⌜ Marked n names (held mark) (left mark) ⌝ }
 {
     let count = list_unassigned(
         first,

@@ -1,2 +1,2 @@
-pub mod Bench
+pub mod Promises
 pub mod Pieces

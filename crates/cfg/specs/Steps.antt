@@ -11,6 +11,7 @@ use Rattle.flow.specs.Size.{stmtNodes, blockNodes, armNodes}
 use Rattle.flow.specs.Graph.{exits, buildStmt, buildBlock, buildArms, inside, inLoop, entered, closeInto, outside, start}
 use Rattle.blocks.specs.Open.{openAt, Ender}
 use Rattle.cfg_steps.specs.declared.GraphBuilder.{GraphBuilder}
+use Rattle.cfg.specs.declared.IfBuilder.{IfBuilder}
 use Rattle.cfg_steps.specs.Columns.{Cols, graphOf, settingsOf, Good, Grown, LabelsFit}
 open record exits using (End)
 
@@ -21,6 +22,10 @@ pub record Sane (ks : List ℕ) : Type 0 where
   pub scopes : (i : ℕ) → i < length ks → 1 ≤ kindOf (getD ks i 0) → kindOf (getD ks i 0) ≤ 7 → scopeEndOf (getD ks i 0) < 2 ^ 32
   pub tidy : (ss : List ℕ) → length ss ≡ length ks → (i : ℕ) → i < length ks → 1 ≤ kindOf (getD ks i 0) → kindOf (getD ks i 0) ≤ 4 → openAt ks ss (i + 1) .top .arms ≡ no-more
   pub closed : (ss : List ℕ) → length ss ≡ length ks → (i : ℕ) → i < length ks → kindOf (getD ks i 0) ≡ 3 → openAt ks ss (i + 1) .below ≡ [] → ⊥
+
+-- P holds of the kinds, whatever their spans are
+abbrev pub ForSpans : List ℕ → (List ℕ → List ℕ → Type 0) → Type 0
+ForSpans ks P = (ss : List ℕ) → length ss ≡ length ks → P ks ss
 
 -- the open blocks with the innermost one read
 abbrev pub bare : Open → Open
@@ -86,6 +91,10 @@ pub record Armed (ks ss : List ℕ) (join test : ℕ) (falls : Bool) (b : GraphB
   pub rest : outer (openAt ks ss (r .item)) ≡ outer (openAt ks ss (b .item))
   pub still : buildArms (openAt ks ss (r .item) .top .arms) test' join falls' (settingsOf b x) (graphOf ks ss r y) ≡ buildArms (openAt ks ss (b .item) .top .arms) test join falls (settingsOf b x) (graphOf ks ss b x)
 
+-- the same between two states of an IF
+abbrev pub ArmBuilt : List ℕ → List ℕ → ℕ → IfBuilder → Cols → IfBuilder → Cols → Type 0
+ArmBuilt ks ss join s x r y = Armed ks ss join (s .test) (s .falls) (s .builder) x (r .test) (r .falls) (r .builder) y
+
 -- the arms that follow the item that ends a block, and the last end
 pub record Chosen (ks ss : List ℕ) (test join : ℕ) (falls : Bool) (b : GraphBuilder) (x : Cols) (r : GraphBuilder) (y : Cols) : Type 0 where
   pub moved : Moved ks b x r y
@@ -104,6 +113,24 @@ StmtRoom ks i b = (ss : List ℕ) → length ss ≡ length ks → (st : Stmt) (o
 
 abbrev pub ArmRoom : List ℕ → GraphBuilder → Type 0
 ArmRoom ks b = (ss : List ℕ) → length ss ≡ length ks → b .nodes + armNodes (openAt ks ss (b .item) .top .arms) ≤ 1600
+
+-- ---- where a builder stands: in sane kinds, with good columns and room for what it is to build
+
+-- at a statement
+abbrev pub AtStmt : List ℕ → GraphBuilder → Cols → Type 0
+AtStmt ks b x = Sane ks × Good b x × (b .item < length ks) × (Ender (kindOf (getD ks (b .item) 0)) → ⊥) × StmtRoom ks (b .item) b
+
+-- right past item i, of kind k, which begins a statement
+abbrev pub PastHead : List ℕ → ℕ → ℕ → GraphBuilder → Cols → Type 0
+PastHead ks i k b x = Sane ks × Good b x × (b .item ≡ i + 1) × (b .codes < b .item) × (i < length ks) × (kindOf (getD ks i 0) ≡ k) × StmtRoom ks i b
+
+-- at the item that ends a block, or at the sheet's end
+abbrev pub AtEnd : List ℕ → GraphBuilder → Cols → Type 0
+AtEnd ks b x = Sane ks × Good b x × (b .item ≤ length ks) × ((b .item < length ks) → Ender (kindOf (getD ks (b .item) 0))) × ArmRoom ks b
+
+-- at an arm
+abbrev pub AtArm : List ℕ → GraphBuilder → Cols → Type 0
+AtArm ks b x = Sane ks × Good b x × (b .item < length ks) × Arm (kindOf (getD ks (b .item) 0)) × ArmRoom ks b
 
 -- ---- a whole sheet
 

@@ -1,13 +1,12 @@
 // The builders of a sheet's graph: a block holds statements, and a statement holds blocks.
 ghost use mathlib.Core.Path.{_≡_};
 ghost use mathlib.Core.Bool.{true, false};
-ghost use mathlib.Core.List.{List};
-ghost use Prim.Native.Nat.{ℕ, _+_, _≤_, _<_};
+ghost use Prim.Native.Nat.{_+_, _≤_, _<_};
 ghost use lib.ListN.{length, getD};
-ghost use Rattle.flow.specs.Sheet.{kindOf, scopeEndOf};
-ghost use Rattle.blocks.specs.Open.{Ender};
-ghost use Rattle.cfg_steps.specs.Columns.{cols, Good};
-ghost use Rattle.cfg.specs.Steps.{Sane, Stepped, Opened, Finished, Scoped, Looped, Arm, Armed, Chosen, BlockRoom, EnteredRoom, StmtRoom, ArmRoom, Started, Wide, WholeRoom, Whole};
+ghost use Rattle.flow.specs.Sheet.{kindOf};
+ghost use Rattle.search.specs.Lent.{held, left};
+ghost use Rattle.cfg_steps.specs.Columns.{cols, colsAt, Good};
+ghost use Rattle.cfg.specs.Steps.{Sane, ForSpans, Stepped, Opened, Finished, Scoped, Looped, Arm, ArmBuilt, Chosen, BlockRoom, EnteredRoom, AtStmt, PastHead, AtEnd, AtArm, Started, Wide, WholeRoom, Whole};
 use blocks::ends_at;
 use cfg_edges::literal_truth;
 use cfg_steps::GraphBuilder;
@@ -34,7 +33,7 @@ fn block(
     b: GraphBuilder,
 ) -> GraphBuilder
     requires { ⌜ Sane (now kinds) × Good b (cols (now edges) (now codes) (now names) (now labels)) × (b .item ≤ length (now kinds)) × EnteredRoom (now kinds) b ⌝ }
-    ensures { λ r. ⌜ ((ss : List ℕ) → length ss ≡ length (now (kinds .entry)) → Finished (now (kinds .entry)) ss b (cols (now (edges .entry)) (now (codes .entry)) (now (names .entry)) (now (labels .entry))) r (cols (now (edges .exit)) (now (codes .exit)) (now (names .exit)) (now (labels .exit)))) ⌝ }
+    ensures { λ r. ⌜ ForSpans (held kinds) (λ ks ss. Finished ks ss b (colsAt held edges codes names labels) r (colsAt left edges codes names labels)) ⌝ }
 {
     let mut t = b;
     let mut at = t.item;
@@ -60,7 +59,7 @@ fn scoped_block(
     scope_end: u64,
 ) -> GraphBuilder
     requires { ⌜ Sane (now kinds) × Good b (cols (now edges) (now codes) (now names) (now labels)) × (b .item ≤ length (now kinds)) × BlockRoom (now kinds) b × («scope_end» < 4294967296) ⌝ }
-    ensures { λ r. ⌜ ((ss : List ℕ) → length ss ≡ length (now (kinds .entry)) → Scoped (now (kinds .entry)) ss «scope_end» b (cols (now (edges .entry)) (now (codes .entry)) (now (names .entry)) (now (labels .entry))) r (cols (now (edges .exit)) (now (codes .exit)) (now (names .exit)) (now (labels .exit)))) ⌝ }
+    ensures { λ r. ⌜ ForSpans (held kinds) (λ ks ss. Scoped ks ss «scope_end» b (colsAt held edges codes names labels) r (colsAt left edges codes names labels)) ⌝ }
 {
     let mut t = b;
     t.scope_end = scope_end;
@@ -83,7 +82,7 @@ fn loop_body(
 ) -> GraphBuilder
     requires { ⌜ Sane (now kinds) × Good b (cols (now edges) (now codes) (now names) (now labels)) × (b .item ≤ length (now kinds)) × BlockRoom (now kinds) b × («scope_end» < 4294967296) ⌝ }
     requires { ⌜ («break_target» < b .nodes) × («continue_target» < b .nodes) ⌝ }
-    ensures { λ r. ⌜ ((ss : List ℕ) → length ss ≡ length (now (kinds .entry)) → Looped (now (kinds .entry)) ss «scope_end» «break_target» «continue_target» b (cols (now (edges .entry)) (now (codes .entry)) (now (names .entry)) (now (labels .entry))) r (cols (now (edges .exit)) (now (codes .exit)) (now (names .exit)) (now (labels .exit)))) ⌝ }
+    ensures { λ r. ⌜ ForSpans (held kinds) (λ ks ss. Looped ks ss «scope_end» «break_target» «continue_target» b (colsAt held edges codes names labels) r (colsAt left edges codes names labels)) ⌝ }
 {
     let mut t = b;
     t.break_target = break_target;
@@ -103,8 +102,8 @@ fn while_loop(
     b: GraphBuilder,
     i: usize,
 ) -> GraphBuilder
-    requires { ⌜ Sane (now kinds) × Good b (cols (now edges) (now codes) (now names) (now labels)) × (b .item ≡ i + 1) × (b .codes < b .item) × (i < length (now kinds)) × (kindOf (getD (now kinds) i 0) ≡ 2) × StmtRoom (now kinds) i b ⌝ }
-    ensures { λ r. ⌜ ((ss : List ℕ) → length ss ≡ length (now (kinds .entry)) → Opened (now (kinds .entry)) ss i b (cols (now (edges .entry)) (now (codes .entry)) (now (names .entry)) (now (labels .entry))) r (cols (now (edges .exit)) (now (codes .exit)) (now (names .exit)) (now (labels .exit)))) ⌝ }
+    requires { ⌜ PastHead (now kinds) i 2 b (cols (now edges) (now codes) (now names) (now labels)) ⌝ }
+    ensures { λ r. ⌜ ForSpans (held kinds) (λ ks ss. Opened ks ss i b (colsAt held edges codes names labels) r (colsAt left edges codes names labels)) ⌝ }
 {
     let argument = kinds[i] / 256;
     let truth = literal_truth(argument % 32);
@@ -136,8 +135,8 @@ fn repeat_loop(
     b: GraphBuilder,
     i: usize,
 ) -> GraphBuilder
-    requires { ⌜ Sane (now kinds) × Good b (cols (now edges) (now codes) (now names) (now labels)) × (b .item ≡ i + 1) × (b .codes < b .item) × (i < length (now kinds)) × (kindOf (getD (now kinds) i 0) ≡ 3) × StmtRoom (now kinds) i b ⌝ }
-    ensures { λ r. ⌜ ((ss : List ℕ) → length ss ≡ length (now (kinds .entry)) → Opened (now (kinds .entry)) ss i b (cols (now (edges .entry)) (now (codes .entry)) (now (names .entry)) (now (labels .entry))) r (cols (now (edges .exit)) (now (codes .exit)) (now (names .exit)) (now (labels .exit)))) ⌝ }
+    requires { ⌜ PastHead (now kinds) i 3 b (cols (now edges) (now codes) (now names) (now labels)) ⌝ }
+    ensures { λ r. ⌜ ForSpans (held kinds) (λ ks ss. Opened ks ss i b (colsAt held edges codes names labels) r (colsAt left edges codes names labels)) ⌝ }
 {
     let argument = kinds[i] / 256;
     let truth = literal_truth(argument % 32);
@@ -169,8 +168,8 @@ fn for_loop(
     b: GraphBuilder,
     i: usize,
 ) -> GraphBuilder
-    requires { ⌜ Sane (now kinds) × Good b (cols (now edges) (now codes) (now names) (now labels)) × (b .item ≡ i + 1) × (b .codes < b .item) × (i < length (now kinds)) × (kindOf (getD (now kinds) i 0) ≡ 4) × StmtRoom (now kinds) i b ⌝ }
-    ensures { λ r. ⌜ ((ss : List ℕ) → length ss ≡ length (now (kinds .entry)) → Opened (now (kinds .entry)) ss i b (cols (now (edges .entry)) (now (codes .entry)) (now (names .entry)) (now (labels .entry))) r (cols (now (edges .exit)) (now (codes .exit)) (now (names .exit)) (now (labels .exit)))) ⌝ }
+    requires { ⌜ PastHead (now kinds) i 4 b (cols (now edges) (now codes) (now names) (now labels)) ⌝ }
+    ensures { λ r. ⌜ ForSpans (held kinds) (λ ks ss. Opened ks ss i b (colsAt held edges codes names labels) r (colsAt left edges codes names labels)) ⌝ }
 {
     let argument = kinds[i] / 256;
     let head = b.nodes + 1;
@@ -201,8 +200,8 @@ fn if_stmt(
     b: GraphBuilder,
     i: usize,
 ) -> GraphBuilder
-    requires { ⌜ Sane (now kinds) × Good b (cols (now edges) (now codes) (now names) (now labels)) × (b .item ≡ i + 1) × (b .codes < b .item) × (i < length (now kinds)) × (kindOf (getD (now kinds) i 0) ≡ 5) × StmtRoom (now kinds) i b ⌝ }
-    ensures { λ r. ⌜ ((ss : List ℕ) → length ss ≡ length (now (kinds .entry)) → Opened (now (kinds .entry)) ss i b (cols (now (edges .entry)) (now (codes .entry)) (now (names .entry)) (now (labels .entry))) r (cols (now (edges .exit)) (now (codes .exit)) (now (names .exit)) (now (labels .exit)))) ⌝ }
+    requires { ⌜ PastHead (now kinds) i 5 b (cols (now edges) (now codes) (now names) (now labels)) ⌝ }
+    ensures { λ r. ⌜ ForSpans (held kinds) (λ ks ss. Opened ks ss i b (colsAt held edges codes names labels) r (colsAt left edges codes names labels)) ⌝ }
 {
     let scope_end = kinds[i] / 256 / 32;
     let test = b.nodes;
@@ -223,7 +222,7 @@ struct IfBuilder {
 
 // Whether ELSEIF or ELSE stands at an item.
 fn arm_follows(kinds: &[u64], at: usize) -> bool
-    ensures { λ r. ⌜ (r ≡ true → (at < length (now (kinds .entry))) × Arm (kindOf (getD (now (kinds .entry)) at 0))) × (r ≡ false → at < length (now (kinds .entry)) → Arm (kindOf (getD (now (kinds .entry)) at 0)) → ⊥) ⌝ }
+    ensures { λ r. ⌜ (r ≡ true → (at < length (held kinds)) × Arm (kindOf (getD (held kinds) at 0))) × (r ≡ false → at < length (held kinds) → Arm (kindOf (getD (held kinds) at 0)) → ⊥) ⌝ }
 {
     if kinds.len() <= at {
         return false;
@@ -247,9 +246,9 @@ fn arms(
     join: usize,
     falls: bool,
 ) -> GraphBuilder
-    requires { ⌜ Sane (now kinds) × Good b (cols (now edges) (now codes) (now names) (now labels)) × (b .item ≤ length (now kinds)) × ((b .item < length (now kinds)) → Ender (kindOf (getD (now kinds) (b .item) 0))) × ArmRoom (now kinds) b ⌝ }
+    requires { ⌜ AtEnd (now kinds) b (cols (now edges) (now codes) (now names) (now labels)) ⌝ }
     requires { ⌜ (test < b .nodes) × (join < b .nodes) ⌝ }
-    ensures { λ r. ⌜ ((ss : List ℕ) → length ss ≡ length (now (kinds .entry)) → Chosen (now (kinds .entry)) ss test join falls b (cols (now (edges .entry)) (now (codes .entry)) (now (names .entry)) (now (labels .entry))) r (cols (now (edges .exit)) (now (codes .exit)) (now (names .exit)) (now (labels .exit)))) ⌝ }
+    ensures { λ r. ⌜ ForSpans (held kinds) (λ ks ss. Chosen ks ss test join falls b (colsAt held edges codes names labels) r (colsAt left edges codes names labels)) ⌝ }
 {
     let mut s = IfBuilder {
         builder: b,
@@ -276,9 +275,9 @@ fn arm(
     s: IfBuilder,
     join: usize,
 ) -> IfBuilder
-    requires { ⌜ Sane (now kinds) × Good (s .builder) (cols (now edges) (now codes) (now names) (now labels)) × (s .builder .item < length (now kinds)) × Arm (kindOf (getD (now kinds) (s .builder .item) 0)) × ArmRoom (now kinds) (s .builder) ⌝ }
+    requires { ⌜ AtArm (now kinds) (s .builder) (cols (now edges) (now codes) (now names) (now labels)) ⌝ }
     requires { ⌜ (s .test < s .builder .nodes) × (join < s .builder .nodes) ⌝ }
-    ensures { λ r. ⌜ (s .builder .item < r .builder .item) × ((ss : List ℕ) → length ss ≡ length (now (kinds .entry)) → Armed (now (kinds .entry)) ss join (s .test) (s .falls) (s .builder) (cols (now (edges .entry)) (now (codes .entry)) (now (names .entry)) (now (labels .entry))) (r .test) (r .falls) (r .builder) (cols (now (edges .exit)) (now (codes .exit)) (now (names .exit)) (now (labels .exit)))) ⌝ }
+    ensures { λ r. ⌜ (s .builder .item < r .builder .item) × ForSpans (held kinds) (λ ks ss. ArmBuilt ks ss join s (colsAt held edges codes names labels) r (colsAt left edges codes names labels)) ⌝ }
 {
     let at = s.builder.item;
     let w = kinds[at];
@@ -315,8 +314,8 @@ fn stmt(
     labels: &mut [u64],
     b: GraphBuilder,
 ) -> GraphBuilder
-    requires { ⌜ Sane (now kinds) × Good b (cols (now edges) (now codes) (now names) (now labels)) × (b .item < length (now kinds)) × (Ender (kindOf (getD (now kinds) (b .item) 0)) → ⊥) × StmtRoom (now kinds) (b .item) b ⌝ }
-    ensures { λ r. ⌜ ((ss : List ℕ) → length ss ≡ length (now (kinds .entry)) → Stepped (now (kinds .entry)) ss b (cols (now (edges .entry)) (now (codes .entry)) (now (names .entry)) (now (labels .entry))) r (cols (now (edges .exit)) (now (codes .exit)) (now (names .exit)) (now (labels .exit)))) ⌝ }
+    requires { ⌜ AtStmt (now kinds) b (cols (now edges) (now codes) (now names) (now labels)) ⌝ }
+    ensures { λ r. ⌜ ForSpans (held kinds) (λ ks ss. Stepped ks ss b (colsAt held edges codes names labels) r (colsAt left edges codes names labels)) ⌝ }
 {
     let i = b.item;
     let w = kinds[i];
@@ -347,7 +346,7 @@ fn stmt(
 // The exits and the entry, with no successor yet.
 fn start_nodes(edges: &mut [u64])
     requires { ⌜ 6 ≤ length (now edges) ⌝ }
-    ensures { λ _. ⌜ Started (now (edges .entry)) (now (edges .exit)) ⌝ }
+    ensures { λ _. ⌜ Started (held edges) (left edges) ⌝ }
 {
     edges[0] = 18446744073709551615;
     edges[1] = 18446744073709551615;
@@ -367,7 +366,7 @@ pub fn of_block(
     scope_end: u64,
 ) -> GraphBuilder
     requires { ⌜ Sane (now kinds) × Wide (cols (now edges) (now codes) (now names) (now labels)) × («scope_end» < 4294967296) × WholeRoom (now kinds) ⌝ }
-    ensures { λ r. ⌜ ((ss : List ℕ) → length ss ≡ length (now (kinds .entry)) → Whole (now (kinds .entry)) ss «scope_end» (cols (now (edges .entry)) (now (codes .entry)) (now (names .entry)) (now (labels .entry))) r (cols (now (edges .exit)) (now (codes .exit)) (now (names .exit)) (now (labels .exit)))) ⌝ }
+    ensures { λ r. ⌜ ForSpans (held kinds) (λ ks ss. Whole ks ss «scope_end» (colsAt held edges codes names labels) r (colsAt left edges codes names labels)) ⌝ }
 {
     start_nodes(edges);
     let s = scoped_block(

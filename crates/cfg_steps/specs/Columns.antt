@@ -7,9 +7,11 @@ use mathlib.Core.List.{List, [], _∷_, map}
 use Prim.Native.Nat.{ℕ, _+_, _/_, _%_, _^_, _≤_, _<_}
 use lib.ListN.{length, take, drop, getD, set, replicate}
 use lib.Dec.{eqb}
+use Rattle.search.specs.Lent.{Column, held, left}
+use Rattle.flow.specs.declared.Truth.{Truth}
 use Rattle.flow.specs.Sheet.{kindOf, argumentOf, startOf, oneOf}
 use Rattle.flow.specs.Kinds.{kinds, raises}
-use Rattle.flow.specs.Graph.{exits, newNodes, withLabels, standAt, labelNode, jump, code, Graph, Settings, Label, absent}
+use Rattle.flow.specs.Graph.{exits, newNodes, withLabels, standAt, labelNode, orBreak, jump, code, connect, moveTo, recordCode, unlessTrue, unlessFalse, simpleStmt, Graph, Settings, Label, absent}
 use Rattle.blocks.specs.Open.{Scanned}
 use Rattle.cfg_edges.specs.Halves.{lo, hi, labelList}
 use Rattle.cfg_steps.specs.declared.GraphBuilder.{GraphBuilder}
@@ -24,6 +26,14 @@ pub record Cols : Type 0 where
 
 abbrev pub cols : List ℕ → List ℕ → List ℕ → List ℕ → Cols
 cols e c n l = record { edges = e; codes = c; names = n; labels = l }
+
+-- four lent columns, at the entry (`held`) or at the exit (`left`)
+abbrev pub colsAt : (Column → List ℕ) → Column → Column → Column → Column → Cols
+colsAt at e c n l = cols (at e) (at c) (at n) (at l)
+
+-- the columns of a call that is lent some of them, at the entry or at the exit: `λ at. cols (at edges) c n l` where only edges is lent
+abbrev pub Lent : Type 0
+Lent = (Column → List ℕ) → Cols
 
 -- "LABEL .. (code start remains 0)", and UNTIL's "code start remains 0": an item that closes or is a label gives its node none
 abbrev pub hasStart : ℕ → Bool
@@ -129,6 +139,18 @@ pub record Did (ks : List ℕ) (f : List ℕ → Graph → Graph) (n : ℕ) (b :
   pub settings : settingsOf r y ≡ settingsOf b x
   pub built : (ss : List ℕ) → graphOf ks ss r y ≡ f ss (graphOf ks ss b x)
 
+-- a call from b to r does that operation, if the columns are good
+abbrev pub Does : List ℕ → (List ℕ → Graph → Graph) → ℕ → GraphBuilder → GraphBuilder → Lent → Type 0
+Does ks f n b r x = Good b (x held) → Did ks f n b (x held) r (x left)
+
+-- the same with the span of item i, which gives its node a code start (true) or none (false)
+abbrev pub DoesCode : List ℕ → ℕ → Bool → (ℕ → Graph → Graph) → ℕ → GraphBuilder → GraphBuilder → Lent → Type 0
+DoesCode ks i starts f n b r x = Good b (x held) → hasStart (getD ks i 0) ≡ starts → Did ks (λ ss. f (getD ss i 0)) n b (x held) r (x left)
+
+-- "UNTIL records its span at condition"; "then condition to body unless true, to after unless false": the three nodes stand in a row
+abbrev pub repeatEnd : Truth → ℕ → ℕ → Graph → Graph
+repeatEnd t body s g = moveTo (body + 2) (unlessFalse t (connect (body + 1) (body + 2)) (unlessTrue t (connect (body + 1) body) (recordCode s (body + 1) g)))
+
 -- ---- the labels standing directly in a block
 
 -- a label's name fits its word
@@ -151,6 +173,10 @@ pub record Entered (ks as' : List ℕ) (b : GraphBuilder) (x : Cols) (r : GraphB
   pub inForce : labelList (r .labels) (y .labels) ≡ withLabels as' (b .nodes) (labelList (b .labels) (x .labels))
   pub built : (ss : List ℕ) → graphOf ks ss r y ≡ newNodes as' (graphOf ks ss b x)
 
+-- a call from b to r enters the names as', if the columns are good
+abbrev pub Enters : List ℕ → List ℕ → GraphBuilder → GraphBuilder → Lent → Type 0
+Enters ks as' b r x = Good b (x held) → Entered ks as' b (x held) r (x left)
+
 -- a scan on its way: the names that are found have nodes and are in force, and the rest of the block's labels are still to come d blocks out
 pub record Scanning (ks ss : List ℕ) (b : GraphBuilder) (x : Cols) (d j : ℕ) (t : GraphBuilder) (y : Cols) : Type 0 where
   pub found : List ℕ
@@ -163,6 +189,10 @@ pub record Scanning (ks ss : List ℕ) (b : GraphBuilder) (x : Cols) (d j : ℕ)
 unfoldable pub labelled : ℕ → List Label → ℕ → Graph → Graph
 labelled a ls s g = cond (eqb a 0) g (standAt (labelNode a ls) s g)
 
+-- "GOTO jumps to its label; when no visible label is found it jumps to exit Break."
+abbrev pub gone : ℕ → List Label → ℕ → Graph → Graph
+gone a ls s = jump s (orBreak (labelNode a ls))
+
 -- the kinds whose statement asks for no label, by the targets of BREAK and CONTINUE
 unfoldable pub coded : ℕ → ℕ → ℕ → ℕ → ℕ → Graph → Graph
 coded k a breakTo continueTo s g =
@@ -174,3 +204,8 @@ coded k a breakTo continueTo s g =
 -- how many nodes a statement of one item makes; a label's node is made as its block is entered
 abbrev pub simpleMade : ℕ → ℕ
 simpleMade k = cond (oneOf k (NAME ∷ LABEL ∷ EMPTY ∷ [])) 0 1
+
+-- a call from b to r does the statement of the one item i, whose word is w
+abbrev pub DoesSimple : List ℕ → ℕ → ℕ → GraphBuilder → GraphBuilder → Lent → Type 0
+DoesSimple ks i w b r x =
+    getD ks i 0 ≡ w → Did ks (λ ss. simpleStmt (kindOf w) (argumentOf w) (getD ss i 0) (settingsOf b (x held))) (simpleMade (kindOf w)) b (x held) r (x left)

@@ -7,10 +7,11 @@ ghost use mathlib.Core.List.{List, [], _∷_};
 ghost use Prim.Native.Nat.{ℕ, _+_, _≤_, _<_, _^_};
 ghost use lib.ListN.{length, getD};
 ghost use Rattle.flow.specs.Sheet.{kindOf, argumentOf};
-ghost use Rattle.flow.specs.Graph.{labelNode, newNode, advanceTo, code, closeInto, jump, recordCode, declare, simpleStmt, orBreak, connect, moveTo, enterWhen, unlessTrue, unlessFalse};
+ghost use Rattle.flow.specs.Graph.{newNode, advanceTo, code, closeInto, jump, recordCode, declare, connect, moveTo, enterWhen, unlessTrue};
 ghost use Rattle.blocks.specs.Open.{labelsAt, labelsHere};
 ghost use Rattle.cfg_edges.specs.Halves.{labelList};
-ghost use Rattle.cfg_steps.specs.Columns.{cols, hasStart, settingsOf, within, Good, Standing, Did, Entered, LabelsFit, labelled, coded, simpleMade};
+ghost use Rattle.search.specs.Lent.{held, left};
+ghost use Rattle.cfg_steps.specs.Columns.{cols, settingsOf, within, Good, Standing, Does, DoesCode, DoesSimple, Enters, LabelsFit, labelled, gone, coded, repeatEnd, simpleMade};
 use blocks::depth_after;
 use blocks::ends_at;
 use blocks::is_label;
@@ -42,7 +43,7 @@ impl GraphBuilder {
     // A node with no successor.
     pub fn new_node(mut self, edges: &mut [u64]) -> GraphBuilder
         requires { ⌜ (self .nodes < length (now edges)) × (self .nodes < 1600) ⌝ }
-        ensures { λ r. ⌜ ((ks c n l : List ℕ) → Good self (cols (now (edges .entry)) c n l) → Did ks (λ ss. newNode) 1 self (cols (now (edges .entry)) c n l) r (cols (now (edges .exit)) c n l)) ⌝ }
+        ensures { λ r. ⌜ ((ks c n l : List ℕ) → Does ks (λ ss. newNode) 1 self r (λ at. cols (at edges) c n l)) ⌝ }
     {
         let n = self.nodes;
         edges[n] = 18446744073709551615;
@@ -54,7 +55,7 @@ impl GraphBuilder {
     pub fn advance_to(mut self, edges: &mut [u64], node: usize) -> GraphBuilder
         requires { ⌜ Standing self (now edges) ⌝ }
         requires { ⌜ node < self .nodes ⌝ }
-        ensures { λ r. ⌜ ((ks c n l : List ℕ) → Good self (cols (now (edges .entry)) c n l) → Did ks (λ ss. advanceTo node) 0 self (cols (now (edges .entry)) c n l) r (cols (now (edges .exit)) c n l)) ⌝ }
+        ensures { λ r. ⌜ ((ks c n l : List ℕ) → Does ks (λ ss. advanceTo node) 0 self r (λ at. cols (at edges) c n l)) ⌝ }
     {
         let from = self.cursor;
         connect(edges, from, node);
@@ -66,7 +67,7 @@ impl GraphBuilder {
     pub fn close_into(mut self, edges: &mut [u64], target: usize) -> GraphBuilder
         requires { ⌜ Standing self (now edges) ⌝ }
         requires { ⌜ target < self .nodes ⌝ }
-        ensures { λ r. ⌜ ((ks c n l : List ℕ) → Good self (cols (now (edges .entry)) c n l) → Did ks (λ ss. closeInto target) 0 self (cols (now (edges .entry)) c n l) r (cols (now (edges .exit)) c n l)) ⌝ }
+        ensures { λ r. ⌜ ((ks c n l : List ℕ) → Does ks (λ ss. closeInto target) 0 self r (λ at. cols (at edges) c n l)) ⌝ }
     {
         let from = self.cursor;
         connect(edges, from, target);
@@ -89,7 +90,7 @@ impl GraphBuilder {
     pub fn record_code(mut self, codes: &mut [u64], i: usize, node: usize) -> GraphBuilder
         requires { ⌜ (self .codes < length (now codes)) × (self .codes < self .item) ⌝ }
         requires { ⌜ (i < self .item) × (node < self .nodes) × (self .nodes ≤ 1600) × (self .item ≤ 1024) ⌝ }
-        ensures { λ r. ⌜ ((ks e n l : List ℕ) → Good self (cols e (now (codes .entry)) n l) → hasStart (getD ks i 0) ≡ false → Did ks (λ ss. recordCode (getD ss i 0) node) 0 self (cols e (now (codes .entry)) n l) r (cols e (now (codes .exit)) n l)) ⌝ }
+        ensures { λ r. ⌜ ((ks e n l : List ℕ) → DoesCode ks i false (λ s. recordCode s node) 0 self r (λ at. cols e (at codes) n l)) ⌝ }
         ensures { λ r. ⌜ (r .nodes ≡ self .nodes) × (r .cursor ≡ self .cursor) ⌝ }
     {
         let k = self.codes;
@@ -103,8 +104,8 @@ impl GraphBuilder {
         requires { ⌜ Standing self (now edges) ⌝ }
         requires { ⌜ (self .nodes < length (now edges)) × (self .nodes < 1600) ⌝ }
         requires { ⌜ (self .codes < length (now codes)) × (self .codes < self .item) × (i < self .item) × (self .item ≤ 1024) ⌝ }
-        ensures { λ r. ⌜ ((ks n l : List ℕ) → Good self (cols (now (edges .entry)) (now (codes .entry)) n l) → hasStart (getD ks i 0) ≡ true → Did ks (λ ss. code (getD ss i 0)) 1 self (cols (now (edges .entry)) (now (codes .entry)) n l) r (cols (now (edges .exit)) (now (codes .exit)) n l)) ⌝ }
-        ensures { λ r. ⌜ Standing r (now (edges .exit)) × (r .nodes ≡ self .nodes + 1) ⌝ }
+        ensures { λ r. ⌜ ((ks n l : List ℕ) → DoesCode ks i true code 1 self r (λ at. cols (at edges) (at codes) n l)) ⌝ }
+        ensures { λ r. ⌜ Standing r (left edges) × (r .nodes ≡ self .nodes + 1) ⌝ }
     {
         let n = self.nodes;
         let k = self.codes;
@@ -123,7 +124,7 @@ impl GraphBuilder {
         requires { ⌜ Standing self (now edges) ⌝ }
         requires { ⌜ (self .nodes < length (now edges)) × (self .nodes < 1600) × (target < self .nodes) ⌝ }
         requires { ⌜ (self .codes < length (now codes)) × (self .codes < self .item) × (i < self .item) × (self .item ≤ 1024) ⌝ }
-        ensures { λ r. ⌜ ((ks n l : List ℕ) → Good self (cols (now (edges .entry)) (now (codes .entry)) n l) → hasStart (getD ks i 0) ≡ true → Did ks (λ ss. jump (getD ss i 0) target) 1 self (cols (now (edges .entry)) (now (codes .entry)) n l) r (cols (now (edges .exit)) (now (codes .exit)) n l)) ⌝ }
+        ensures { λ r. ⌜ ((ks n l : List ℕ) → DoesCode ks i true (λ s. jump s target) 1 self r (λ at. cols (at edges) (at codes) n l)) ⌝ }
     {
         let t = self.code(edges, codes, i);
         t.close_into(edges, target)
@@ -133,7 +134,7 @@ impl GraphBuilder {
     pub fn declare(mut self, names: &mut [u64], i: usize) -> GraphBuilder
         requires { ⌜ (self .names < length (now names)) × (self .names < self .item) ⌝ }
         requires { ⌜ (i < self .item) × (self .«scope_end» < 2 ^ 32) × (self .item ≤ 1024) ⌝ }
-        ensures { λ r. ⌜ ((ks e c l : List ℕ) → Good self (cols e c (now (names .entry)) l) → Did ks (λ ss. declare (getD ss i 0) (settingsOf self (cols e c (now (names .entry)) l))) 0 self (cols e c (now (names .entry)) l) r (cols e c (now (names .exit)) l)) ⌝ }
+        ensures { λ r. ⌜ ((ks e c l : List ℕ) → Does ks (λ ss. declare (getD ss i 0) (settingsOf self (cols e c (held names) l))) 0 self r (λ at. cols e c (at names) l)) ⌝ }
     {
         let m = self.names;
         let here = self.cursor % 65536;
@@ -148,7 +149,7 @@ impl GraphBuilder {
     fn new_label(mut self, edges: &mut [u64], labels: &mut [u64], name: u64) -> GraphBuilder
         requires { ⌜ ((c n : List ℕ) × Good self (cols (now edges) c n (now labels))) ⌝ }
         requires { ⌜ (self .nodes < 1600) × (name < 2 ^ 32) ⌝ }
-        ensures { λ r. ⌜ ((ks c n : List ℕ) → Good self (cols (now (edges .entry)) c n (now (labels .entry))) → Entered ks (name ∷ []) self (cols (now (edges .entry)) c n (now (labels .entry))) r (cols (now (edges .exit)) c n (now (labels .exit)))) ⌝ }
+        ensures { λ r. ⌜ ((ks c n : List ℕ) → Enters ks (name ∷ []) self r (λ at. cols (at edges) c n (at labels))) ⌝ }
     {
         let n = self.nodes;
         let k = self.labels;
@@ -163,7 +164,7 @@ impl GraphBuilder {
     fn label_here(self, edges: &mut [u64], labels: &mut [u64], w: u64, depth: usize) -> GraphBuilder
         requires { ⌜ ((c n : List ℕ) × Good self (cols (now edges) c n (now labels))) ⌝ }
         requires { ⌜ (self .nodes + length (labelsHere w depth) ≤ 1600) × ((kindOf w ≡ 12) → argumentOf w < 2 ^ 32) ⌝ }
-        ensures { λ r. ⌜ ((ks c n : List ℕ) → Good self (cols (now (edges .entry)) c n (now (labels .entry))) → Entered ks (labelsHere w depth) self (cols (now (edges .entry)) c n (now (labels .entry))) r (cols (now (edges .exit)) c n (now (labels .exit)))) ⌝ }
+        ensures { λ r. ⌜ ((ks c n : List ℕ) → Enters ks (labelsHere w depth) self r (λ at. cols (at edges) c n (at labels))) ⌝ }
     {
         if depth != 0 {
             return self;
@@ -181,7 +182,7 @@ impl GraphBuilder {
         requires { ⌜ (self .item ≤ length (now kinds)) × (length (now kinds) ≤ 1024) × LabelsFit (now kinds) ⌝ }
         requires { ⌜ ((c n : List ℕ) × Good self (cols (now edges) c n (now labels))) ⌝ }
         requires { ⌜ ((ss : List ℕ) → length ss ≡ length (now kinds) → self .nodes + length (labelsAt (now kinds) ss (self .item)) ≤ 1600) ⌝ }
-        ensures { λ r. ⌜ ((ss c n : List ℕ) → length ss ≡ length (now (kinds .entry)) → Good self (cols (now (edges .entry)) c n (now (labels .entry))) → Entered (now (kinds .entry)) (labelsAt (now (kinds .entry)) ss (self .item)) self (cols (now (edges .entry)) c n (now (labels .entry))) r (cols (now (edges .exit)) c n (now (labels .exit)))) ⌝ }
+        ensures { λ r. ⌜ ((ss c n : List ℕ) → length ss ≡ length (held kinds) → Enters (held kinds) (labelsAt (held kinds) ss (self .item)) self r (λ at. cols (at edges) c n (at labels))) ⌝ }
     {
         let mut b = self;
         let mut depth = 0;
@@ -212,7 +213,7 @@ impl GraphBuilder {
     ) -> GraphBuilder
         requires { ⌜ ((n : List ℕ) × Good self (cols (now edges) (now codes) n (now labels))) ⌝ }
         requires { ⌜ (self .codes < self .item) × (i < self .item) ⌝ }
-        ensures { λ r. ⌜ ((ks n : List ℕ) → Good self (cols (now (edges .entry)) (now (codes .entry)) n (now (labels .entry))) → hasStart (getD ks i 0) ≡ false → Did ks (λ ss. labelled name (labelList (self .labels) (now (labels .entry))) (getD ss i 0)) 0 self (cols (now (edges .entry)) (now (codes .entry)) n (now (labels .entry))) r (cols (now (edges .exit)) (now (codes .exit)) n (now (labels .entry)))) ⌝ }
+        ensures { λ r. ⌜ ((ks n : List ℕ) → DoesCode ks i false (labelled name (labelList (self .labels) (held labels))) 0 self r (λ at. cols (at edges) (at codes) n (held labels))) ⌝ }
     {
         if name == 0 {
             return self;
@@ -236,7 +237,7 @@ impl GraphBuilder {
     ) -> GraphBuilder
         requires { ⌜ ((n : List ℕ) × Good self (cols (now edges) (now codes) n (now labels))) ⌝ }
         requires { ⌜ (self .nodes < 1600) × (self .codes < self .item) × (i < self .item) ⌝ }
-        ensures { λ r. ⌜ ((ks n : List ℕ) → Good self (cols (now (edges .entry)) (now (codes .entry)) n (now (labels .entry))) → hasStart (getD ks i 0) ≡ true → Did ks (λ ss. jump (getD ss i 0) (orBreak (labelNode name (labelList (self .labels) (now (labels .entry)))))) 1 self (cols (now (edges .entry)) (now (codes .entry)) n (now (labels .entry))) r (cols (now (edges .exit)) (now (codes .exit)) n (now (labels .entry)))) ⌝ }
+        ensures { λ r. ⌜ ((ks n : List ℕ) → DoesCode ks i true (gone name (labelList (self .labels) (held labels))) 1 self r (λ at. cols (at edges) (at codes) n (held labels))) ⌝ }
     {
         let count = self.labels;
         let Found::At(node) = label_node(labels, count, name) else {
@@ -256,7 +257,7 @@ impl GraphBuilder {
     ) -> GraphBuilder
         requires { ⌜ ((n l : List ℕ) × Good self (cols (now edges) (now codes) n l)) ⌝ }
         requires { ⌜ (self .nodes < 1600) × (self .codes < self .item) × (i < self .item) ⌝ }
-        ensures { λ r. ⌜ ((ks n l : List ℕ) → Good self (cols (now (edges .entry)) (now (codes .entry)) n l) → hasStart (getD ks i 0) ≡ true → Did ks (λ ss. coded kind argument (self .«break_target») (self .«continue_target») (getD ss i 0)) 1 self (cols (now (edges .entry)) (now (codes .entry)) n l) r (cols (now (edges .exit)) (now (codes .exit)) n l)) ⌝ }
+        ensures { λ r. ⌜ ((ks n l : List ℕ) → DoesCode ks i true (coded kind argument (self .«break_target») (self .«continue_target»)) 1 self r (λ at. cols (at edges) (at codes) n l)) ⌝ }
     {
         if kind == 14 {
             let after = self.break_target;
@@ -291,7 +292,7 @@ impl GraphBuilder {
     ) -> GraphBuilder
         requires { ⌜ Good self (cols (now edges) (now codes) (now names) (now labels)) ⌝ }
         requires { ⌜ (self .nodes + simpleMade (kindOf w) ≤ 1600) × (self .codes < self .item) × (self .names < self .item) × (i < self .item) × (kindOf w ≡ 8 → ⊥) × (kindOf w ≡ 9 → ⊥) ⌝ }
-        ensures { λ r. ⌜ ((ks : List ℕ) → getD ks i 0 ≡ w → Did ks (λ ss. simpleStmt (kindOf w) (argumentOf w) (getD ss i 0) (settingsOf self (cols (now (edges .entry)) (now (codes .entry)) (now (names .entry)) (now (labels .entry))))) (simpleMade (kindOf w)) self (cols (now (edges .entry)) (now (codes .entry)) (now (names .entry)) (now (labels .entry))) r (cols (now (edges .exit)) (now (codes .exit)) (now (names .exit)) (now (labels .entry)))) ⌝ }
+        ensures { λ r. ⌜ ((ks : List ℕ) → DoesSimple ks i w self r (λ at. cols (at edges) (at codes) (at names) (held labels))) ⌝ }
     {
         let kind = w % 256;
         let argument = w / 256;
@@ -326,7 +327,7 @@ impl GraphBuilder {
     pub fn code_and_after(self, edges: &mut [u64], codes: &mut [u64], i: usize) -> GraphBuilder
         requires { ⌜ ((n l : List ℕ) × Good self (cols (now edges) (now codes) n l)) ⌝ }
         requires { ⌜ (self .nodes + 2 ≤ 1600) × (self .codes < self .item) × (i < self .item) ⌝ }
-        ensures { λ r. ⌜ ((ks n l : List ℕ) → Good self (cols (now (edges .entry)) (now (codes .entry)) n l) → hasStart (getD ks i 0) ≡ true → Did ks (λ ss g. newNode (code (getD ss i 0) g)) 2 self (cols (now (edges .entry)) (now (codes .entry)) n l) r (cols (now (edges .exit)) (now (codes .exit)) n l)) ⌝ }
+        ensures { λ r. ⌜ ((ks n l : List ℕ) → DoesCode ks i true (λ s g. newNode (code s g)) 2 self r (λ at. cols (at edges) (at codes) n l)) ⌝ }
     {
         let c = self.code(edges, codes, i);
         c.new_node(edges)
@@ -342,7 +343,7 @@ impl GraphBuilder {
     ) -> GraphBuilder
         requires { ⌜ ((n l : List ℕ) × Good self (cols (now edges) (now codes) n l)) ⌝ }
         requires { ⌜ (self .nodes + 2 ≤ 1600) × (self .codes < self .item) × (i < self .item) ⌝ }
-        ensures { λ r. ⌜ ((ks n l : List ℕ) → Good self (cols (now (edges .entry)) (now (codes .entry)) n l) → hasStart (getD ks i 0) ≡ true → Did ks (λ ss g. enterWhen truth (newNode (code (getD ss i 0) g))) 2 self (cols (now (edges .entry)) (now (codes .entry)) n l) r (cols (now (edges .exit)) (now (codes .exit)) n l)) ⌝ }
+        ensures { λ r. ⌜ ((ks n l : List ℕ) → DoesCode ks i true (λ s g. enterWhen truth (newNode (code s g))) 2 self r (λ at. cols (at edges) (at codes) n l)) ⌝ }
     {
         let mut h = self.code_and_after(edges, codes, i);
         if may_hold(truth) {
@@ -356,7 +357,7 @@ impl GraphBuilder {
     pub fn repeat_head(self, edges: &mut [u64]) -> GraphBuilder
         requires { ⌜ ((c n l : List ℕ) × Good self (cols (now edges) c n l)) ⌝ }
         requires { ⌜ self .nodes + 3 ≤ 1600 ⌝ }
-        ensures { λ r. ⌜ ((ks c n l : List ℕ) → Good self (cols (now (edges .entry)) c n l) → Did ks (λ ss g. newNode (newNode (advanceTo (self .nodes) (newNode g)))) 3 self (cols (now (edges .entry)) c n l) r (cols (now (edges .exit)) c n l)) ⌝ }
+        ensures { λ r. ⌜ ((ks c n l : List ℕ) → Does ks (λ ss g. newNode (newNode (advanceTo (self .nodes) (newNode g)))) 3 self r (λ at. cols (at edges) c n l)) ⌝ }
     {
         let body = self.nodes;
         let b = self.new_node(edges);
@@ -369,7 +370,7 @@ impl GraphBuilder {
     pub fn for_head(self, edges: &mut [u64], codes: &mut [u64], i: usize) -> GraphBuilder
         requires { ⌜ ((n l : List ℕ) × Good self (cols (now edges) (now codes) n l)) ⌝ }
         requires { ⌜ (self .nodes + 3 ≤ 1600) × (self .codes < self .item) × (i < self .item) ⌝ }
-        ensures { λ r. ⌜ ((ks n l : List ℕ) → Good self (cols (now (edges .entry)) (now (codes .entry)) n l) → hasStart (getD ks i 0) ≡ true → Did ks (λ ss g. newNode (advanceTo (self .nodes + 1) (newNode (code (getD ss i 0) g)))) 3 self (cols (now (edges .entry)) (now (codes .entry)) n l) r (cols (now (edges .exit)) (now (codes .exit)) n l)) ⌝ }
+        ensures { λ r. ⌜ ((ks n l : List ℕ) → DoesCode ks i true (λ s g. newNode (advanceTo (self .nodes + 1) (newNode (code s g)))) 3 self r (λ at. cols (at edges) (at codes) n l)) ⌝ }
     {
         let head = self.nodes + 1;
         let h = self.code_and_after(edges, codes, i);
@@ -381,7 +382,7 @@ impl GraphBuilder {
     pub fn loop_end(mut self, edges: &mut [u64], head: usize, truth: Truth) -> GraphBuilder
         requires { ⌜ ((c n l : List ℕ) × Good self (cols (now edges) c n l)) ⌝ }
         requires { ⌜ head + 1 < self .nodes ⌝ }
-        ensures { λ r. ⌜ ((ks c n l : List ℕ) → Good self (cols (now (edges .entry)) c n l) → Did ks (λ ss g. moveTo (head + 1) (unlessTrue truth (connect head (head + 1)) g)) 0 self (cols (now (edges .entry)) c n l) r (cols (now (edges .exit)) c n l)) ⌝ }
+        ensures { λ r. ⌜ ((ks c n l : List ℕ) → Does ks (λ ss g. moveTo (head + 1) (unlessTrue truth (connect head (head + 1)) g)) 0 self r (λ at. cols (at edges) c n l)) ⌝ }
     {
         let fails = may_fail(truth);
         connect_if(edges, head, head + 1, fails);
@@ -400,7 +401,7 @@ impl GraphBuilder {
     ) -> GraphBuilder
         requires { ⌜ ((n l : List ℕ) × Good self (cols (now edges) (now codes) n l)) ⌝ }
         requires { ⌜ (body + 2 < self .nodes) × (self .codes < self .item) × (j < self .item) ⌝ }
-        ensures { λ r. ⌜ ((ks n l : List ℕ) → Good self (cols (now (edges .entry)) (now (codes .entry)) n l) → hasStart (getD ks j 0) ≡ false → Did ks (λ ss g. moveTo (body + 2) (unlessFalse truth (connect (body + 1) (body + 2)) (unlessTrue truth (connect (body + 1) body) (recordCode (getD ss j 0) (body + 1) g)))) 0 self (cols (now (edges .entry)) (now (codes .entry)) n l) r (cols (now (edges .exit)) (now (codes .exit)) n l)) ⌝ }
+        ensures { λ r. ⌜ ((ks n l : List ℕ) → DoesCode ks j false (repeatEnd truth body) 0 self r (λ at. cols (at edges) (at codes) n l)) ⌝ }
     {
         let mut t = self.record_code(codes, j, body + 1);
         let fails = may_fail(truth);
@@ -421,7 +422,7 @@ impl GraphBuilder {
     ) -> GraphBuilder
         requires { ⌜ ((n l : List ℕ) × Good self (cols (now edges) (now codes) n l)) ⌝ }
         requires { ⌜ (self .nodes < 1600) × (self .codes < self .item) × (i < self .item) × (test < self .nodes) ⌝ }
-        ensures { λ r. ⌜ ((ks n l : List ℕ) → Good self (cols (now (edges .entry)) (now (codes .entry)) n l) → hasStart (getD ks i 0) ≡ true → Did ks (λ ss g. code (getD ss i 0) (moveTo test g)) 1 self (cols (now (edges .entry)) (now (codes .entry)) n l) r (cols (now (edges .exit)) (now (codes .exit)) n l)) ⌝ }
+        ensures { λ r. ⌜ ((ks n l : List ℕ) → DoesCode ks i true (λ s g. code s (moveTo test g)) 1 self r (λ at. cols (at edges) (at codes) n l)) ⌝ }
     {
         self.cursor = test;
         self.code(edges, codes, i)
@@ -431,7 +432,7 @@ impl GraphBuilder {
     pub fn arms_end(self, edges: &mut [u64], test: usize, join: usize, falls: bool) -> GraphBuilder
         requires { ⌜ ((c n l : List ℕ) × Good self (cols (now edges) c n l)) ⌝ }
         requires { ⌜ (test < self .nodes) × (join < self .nodes) ⌝ }
-        ensures { λ r. ⌜ ((ks c n l : List ℕ) → Good self (cols (now (edges .entry)) c n l) → Did ks (λ ss g. cond falls (connect test join g) g) 0 self (cols (now (edges .entry)) c n l) r (cols (now (edges .exit)) c n l)) ⌝ }
+        ensures { λ r. ⌜ ((ks c n l : List ℕ) → Does ks (λ ss g. cond falls (connect test join g) g) 0 self r (λ at. cols (at edges) c n l)) ⌝ }
     {
         connect_if(edges, test, join, falls);
         self

@@ -7,11 +7,11 @@ use native.Mathlib.Omega.{arith}
 use lib.ListN.{length, getD, take, drop, replicate, length-map, length-replicate, List·getD-map}
 use lib.Seq.{length-take-le, take-at, getD-take}
 use Rattle.flow.specs.declared.Counts.{Counts}
+use Rattle.flow.specs.Sheet.{kindWords, spanWords}
 use Rattle.flow.specs.Graph.{Graph, nodeCount, entry, graph}
 use Rattle.flow.specs.Reachable.{reachable, countsOf}
 use Rattle.flow.specs.Admitted.{AdmittedSheet}
 use Rattle.flow.proofs.Flags.{reachable-length}
-use Rattle.admission.proofs.Parts.{firstPart, secondPart, Counted, first-is, second-is}
 use Rattle.cfg_steps.specs.declared.GraphBuilder.{GraphBuilder}
 use Rattle.cfg_edges.specs.Halves.{lo, hi}
 use Rattle.cfg_steps.specs.Columns.{cols, nameNode, nameItem, painted, graphOf}
@@ -30,11 +30,9 @@ front f n ws rest h = take-at (map f (take n ws)) rest n (length-map (take n ws)
 pub laid : {n : ℕ} {entries entries' col : List ℕ} (old mid : List ℕ) → entries ≡ entries' → length entries ≡ n → drop n mid ≡ drop n old → col ≡ entries' ++ drop n mid → col ≡ over entries old
 laid {n} {entries} {entries'} {col} old mid e l d q = q ∙ ap (λ (t : List ℕ). entries' ++ t) d ∙ ap (λ (t : List ℕ). t ++ drop n old) (sym e) ∙ ap (λ (k : ℕ). entries ++ drop k old) (sym l)
 
--- the parts as the code takes them
-pub sheet-parts : (S : List ℕ) → AdmittedSheet S → PartsOf S (firstPart 2 S) (secondPart 2 S) (getD S 1 0)
-sheet-parts S a =
-    let c : Counted 2 S = record { few = a .few; long = a .words } in
-    record { kinds = first-is 2 S c; spans = second-is 2 S c; outer = refl; admitted = a }
+-- the parts of a sheet
+pub sheet-parts : (S : List ℕ) → AdmittedSheet S → {ks ss : List ℕ} → ks ≡ kindWords S → ss ≡ spanWords S → PartsOf S ks ss (getD S 1 0)
+sheet-parts S a k s = record { kinds = k; spans = s; outer = refl; admitted = a }
 
 pub as-many : {S ks ss : List ℕ} {e : ℕ} → PartsOf S ks ss e → length ss ≡ length ks
 as-many p = ap length (p .spans) ∙ p .admitted .spans ∙ sym (p .admitted .kinds) ∙ sym (ap length (p .kinds))
@@ -154,7 +152,7 @@ module _ {S ks ss : List ℕ} {e : ℕ} (p : PartsOf S ks ss e) {f cn nn r f' cn
       → t″ ≡ painted ks ss (take (b .codes) cn') (replicate (b .nodes) 0) ++ drop (b .nodes) t'
       → nn″ ≡ map nameNode (take (b .names) nn') ++ drop (b .names) nn' → ns″ ≡ map (λ c. getD ss (nameItem c) 0) (take (b .names) nn') ++ drop (b .names) ns
       → ne″ ≡ map hi (take (b .names) nn') ++ drop (b .names) ne
-      → Charted S (columns f s t r cs cn ns nn ne) (record { nodes = b .nodes; codes = b .codes; names = b .names }) (columns f″ s″ t″ r″ cs″ cn″ ns″ nn″ ne″)
+      → Charted S (record { nodes = b .nodes; codes = b .codes; names = b .names }) (record { before = columns f s t r cs cn ns nn ne; after = columns f″ s″ t″ r″ cs″ cn″ ns″ nn″ ne″ })
   unfolding chartOf
   charted s t t' cs ns ne ef es dt er ecn ecs et enn ens ene =
       let first = laid f f' firsts (ap length firsts ∙ edges-many lo) (w .edgesPast) ef in
@@ -169,8 +167,14 @@ module _ {S ks ss : List ℕ} {e : ℕ} (p : PartsOf S ks ss e) {f cn nn r f' cn
       record {
         counts = counts-are;
         written = λ i. columns (first i) (second i) (start i) (flags i) (codeSpan i) (codeNode i) (nameSpan i) (nameNode i) (nameEnd i);
-        seconds = ap length seconds ∙ edges-many hi;
-        starts = start-many;
+        parallel = record {
+          seconds = ap length seconds ∙ edges-many hi ∙ sym node-count;
+          starts = start-many ∙ sym node-count;
+          flags = reachable-length S;
+          codeNodes = p .admitted .codeNodes;
+          nameNodes = p .admitted .nameNodes;
+          nameEnds = p .admitted .nameEnds;
+        };
         few = w .good .nodes;
         codeNodes = node-below;
       }

@@ -1,14 +1,19 @@
 -- What a chart's columns hold, by the sheet and by what they held before.
 -- Assumes nothing: these are definitions.
 use mathlib.Core.Path.{_≡_}
-use mathlib.Core.List.{List, _++_}
+use mathlib.Core.Bool.{Bool}
+use mathlib.Core.List.{List, [], _∷_, _++_}
 use Prim.Native.Nat.{ℕ, _≤_, _<_}
 use lib.ListN.{length, getD, drop}
+use Rattle.search.specs.Lent.{Column, held, left}
+use Rattle.column_lengths.specs.Lengths.{chartTooShort}
 use Rattle.flow.specs.declared.Counts.{Counts}
+use Rattle.flow.specs.declared.Verdict.{Verdict}
+use Rattle.flow.specs.declared.Verdict.the-variants.{Admitted, Refused}
 use Rattle.flow.specs.Sheet.{kindWords, spanWords, outerEnd}
 use Rattle.flow.specs.Admitted.{AdmittedSheet}
 use Rattle.flow.specs.Graph.{graph}
-use Rattle.flow.specs.Reachable.{reachable, countsOf}
+use Rattle.flow.specs.Reachable.{reachable, countsOf, Parallel, Flagged}
 
 -- "cells past the written entries keep their content"
 abbrev pub over : List ℕ → List ℕ → List ℕ
@@ -21,46 +26,88 @@ pub record PartsOf (S ks ss : List ℕ) (e : ℕ) : Type 0 where
   pub outer : e ≡ outerEnd S
   pub admitted : AdmittedSheet S
 
--- a chart's columns
-pub record Columns : Type 0 where
-  pub first : List ℕ
-  pub second : List ℕ
-  pub start : List ℕ
-  pub reachable : List ℕ
-  pub codeSpan : List ℕ
-  pub codeNode : List ℕ
-  pub nameSpan : List ℕ
-  pub nameNode : List ℕ
-  pub nameEnd : List ℕ
+-- a chart's columns: "per node, both successors, code start and a reachable flag 0 or 1; per code its span and node; per name its span, node and scope end"
+abbrev pub NodeColumns : Type 0
+NodeColumns = record { first : List ℕ; second : List ℕ; start : List ℕ; reachable : List ℕ }
+
+abbrev pub CodeColumns : Type 0
+CodeColumns = record { span : List ℕ; node : List ℕ }
+
+abbrev pub NameColumns : Type 0
+NameColumns = record { span : List ℕ; node : List ℕ; scopeEnd : List ℕ }
+
+abbrev pub Columns : Type 0
+Columns = record { nodes : NodeColumns; codes : CodeColumns; names : NameColumns }
 
 abbrev pub columns : List ℕ → List ℕ → List ℕ → List ℕ → List ℕ → List ℕ → List ℕ → List ℕ → List ℕ → Columns
 columns f s t r cs cn ns nn ne =
-    record { first = f; second = s; start = t; reachable = r; codeSpan = cs; codeNode = cn; nameSpan = ns; nameNode = nn; nameEnd = ne }
+    record {
+      nodes = record { first = f; second = s; start = t; reachable = r };
+      codes = record { span = cs; node = cn };
+      names = record { span = ns; node = nn; scopeEnd = ne };
+    }
+
+-- the columns that a call is lent: what they held before and what they hold after
+abbrev pub Lent : Type 0
+Lent = record { before : Columns; after : Columns }
+
+abbrev pub lent : Column → Column → Column → Column → Column → Column → Column → Column → Column → Lent
+lent f s t r cs cn ns nn ne =
+    record {
+      before = columns (held f) (held s) (held t) (held r) (held cs) (held cn) (held ns) (held nn) (held ne);
+      after = columns (left f) (left s) (left t) (left r) (left cs) (left cn) (left ns) (left nn) (left ne);
+    }
+
+-- the lengths of the columns for nodes, codes and names
+abbrev pub nodeLengths : Columns → List ℕ
+nodeLengths x = length (x .nodes .first) ∷ length (x .nodes .second) ∷ length (x .nodes .start) ∷ length (x .nodes .reachable) ∷ []
+
+abbrev pub codeLengths : Columns → List ℕ
+codeLengths x = length (x .codes .span) ∷ length (x .codes .node) ∷ []
+
+abbrev pub nameLengths : Columns → List ℕ
+nameLengths x = length (x .names .span) ∷ length (x .names .node) ∷ length (x .names .scopeEnd) ∷ []
+
+-- 1: "columns lent below 1,600 nodes, 1,024 codes, 1,024 locals"
+abbrev pub chartShort : Columns → Bool
+chartShort x = chartTooShort (nodeLengths x) (codeLengths x) (nameLengths x)
 
 -- wide enough for 01's limits
 pub record Wide (x : Columns) : Type 0 where
-  pub first : 1600 ≤ length (x .first)
-  pub second : 1600 ≤ length (x .second)
-  pub start : 1600 ≤ length (x .start)
-  pub reachable : 1600 ≤ length (x .reachable)
-  pub codeSpan : 1024 ≤ length (x .codeSpan)
-  pub codeNode : 1024 ≤ length (x .codeNode)
-  pub nameSpan : 1024 ≤ length (x .nameSpan)
-  pub nameNode : 1024 ≤ length (x .nameNode)
-  pub nameEnd : 1024 ≤ length (x .nameEnd)
+  pub first : 1600 ≤ length (x .nodes .first)
+  pub second : 1600 ≤ length (x .nodes .second)
+  pub start : 1600 ≤ length (x .nodes .start)
+  pub reachable : 1600 ≤ length (x .nodes .reachable)
+  pub codeSpan : 1024 ≤ length (x .codes .span)
+  pub codeNode : 1024 ≤ length (x .codes .node)
+  pub nameSpan : 1024 ≤ length (x .names .span)
+  pub nameNode : 1024 ≤ length (x .names .node)
+  pub nameEnd : 1024 ≤ length (x .names .scopeEnd)
 
--- "Chart writes, per node, both successors, code start and a reachable flag 0 or 1; per code its span and node; per name its span, node and scope end", over what stood there
+-- what "Chart writes", over what stood there
 unfoldable pub chartOf : List ℕ → Columns → Columns
 chartOf S x =
-    columns (over (graph S .nodes .first) (x .first)) (over (graph S .nodes .second) (x .second)) (over (graph S .nodes .start) (x .start)) (over (reachable (graph S)) (x .reachable))
-    (over (graph S .codes .span) (x .codeSpan)) (over (graph S .codes .node) (x .codeNode))
-    (over (graph S .names .span) (x .nameSpan)) (over (graph S .names .node) (x .nameNode)) (over (graph S .names .scopeEnd) (x .nameEnd))
+    columns (over (graph S .nodes .first) (x .nodes .first)) (over (graph S .nodes .second) (x .nodes .second)) (over (graph S .nodes .start) (x .nodes .start)) (over (reachable (graph S)) (x .nodes .reachable))
+    (over (graph S .codes .span) (x .codes .span)) (over (graph S .codes .node) (x .codes .node))
+    (over (graph S .names .span) (x .names .span)) (over (graph S .names .node) (x .names .node)) (over (graph S .names .scopeEnd) (x .names .scopeEnd))
 
--- "and returns the three counts"; the columns of nodes are of one length, and codes are at nodes
-pub record Charted (S : List ℕ) (x : Columns) (r : Counts) (y : Columns) : Type 0 where
+-- "and returns the three counts"; parallel columns are equally long, and codes are at nodes
+pub record Charted (S : List ℕ) (r : Counts) (l : Lent) : Type 0 where
   pub counts : r ≡ countsOf (graph S)
-  pub written : y ≡ chartOf S x
-  pub seconds : length (graph S .nodes .second) ≡ r .nodes
-  pub starts : length (graph S .nodes .start) ≡ r .nodes
+  pub written : l .after ≡ chartOf S (l .before)
+  pub parallel : Parallel (graph S)
   pub few : r .nodes ≤ 1600
   pub codeNodes : (i : ℕ) → i < r .codes → getD (graph S .codes .node) i 0 < r .nodes
+
+-- the same of the sheet with these parts
+abbrev pub ChartedOf : List ℕ → List ℕ → ℕ → Counts → Lent → Type 0
+ChartedOf kinds spans e r l = (S : List ℕ) → PartsOf S kinds spans e → Charted S r l
+
+-- "A refusal writes nothing."
+abbrev pub chartLeaves : Verdict → List ℕ → Columns → Columns
+chartLeaves v S x = elim v [ Refused r ↦ x | Admitted ↦ chartOf S x ]
+
+-- what the columns of an accepted call show: those of one count are equally long, and each node's flag is 1 exactly where a path from the entry leads
+pub record Shown (S : List ℕ) (y : Columns) : Type 0 where
+  pub parallel : Parallel (graph S)
+  pub flagged : Flagged (graph S) (y .nodes .reachable)

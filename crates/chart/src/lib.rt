@@ -3,11 +3,12 @@ ghost use mathlib.Core.Path.{_≡_};
 ghost use mathlib.Core.List.{List, _++_, map};
 ghost use Prim.Native.Nat.{ℕ, _<_, _≤_};
 ghost use lib.ListN.{length, take, drop};
-ghost use Rattle.flow.specs.Graph.{Graph, entry};
-ghost use Rattle.flow.specs.Reachable.{reachable as reachableFlags};
+ghost use Rattle.flow.specs.Graph.{entry};
 ghost use Rattle.flow.specs.Admitted.{AdmittedSheet};
 ghost use Rattle.cfg_edges.specs.Halves.{lo, hi};
-ghost use Rattle.chart.specs.Lent.{PartsOf, columns, Wide, Charted};
+ghost use Rattle.reach.specs.Columns.{FlagsOver};
+ghost use Rattle.search.specs.Lent.{held};
+ghost use Rattle.chart.specs.Lent.{PartsOf, columns, lent, Wide, Charted, ChartedOf};
 use cfg::of_block;
 use code_columns::split_codes;
 use columns::split_edges;
@@ -27,7 +28,7 @@ fn split_nodes(
     ensures { λ _. ⌜ now (first .exit) ≡ map lo (take n (now (first .entry))) ++ drop n (now (first .entry)) ⌝ }
     ensures { λ _. ⌜ now (second .exit) ≡ map hi (take n (now (first .entry))) ++ drop n (now (second .entry)) ⌝ }
     ensures { λ _. ⌜ (drop n (now (start .exit)) ≡ drop n (now (start .entry))) × (length (now (start .exit)) ≡ length (now (start .entry))) ⌝ }
-    ensures { λ _. ⌜ ((g : Graph) → g .nodes .first ≡ map lo (take n (now (first .entry))) → g .nodes .second ≡ map hi (take n (now (first .entry))) → now (reachable .exit) ≡ reachableFlags g ++ drop n (now (reachable .entry))) ⌝ }
+    ensures { λ _. ⌜ FlagsOver (map lo (take n (now (first .entry)))) (map hi (take n (now (first .entry)))) n (now (reachable .entry)) (now (reachable .exit)) ⌝ }
 {
     split_edges(first, second, n);
     reach(first, second, reachable, start, n);
@@ -51,7 +52,7 @@ fn write_chart(
 ) -> Counts
     requires { ⌜ ((S : List ℕ) × PartsOf S (now kinds) (now spans) «scope_end») ⌝ }
     requires { ⌜ Wide (columns (now first) (now second) (now start) (now reachable) (now «code_span») (now «code_node») (now «name_span») (now «name_node») (now «name_end»)) ⌝ }
-    ensures { λ r. ⌜ ((S : List ℕ) → PartsOf S (now (kinds .entry)) (now (spans .entry)) «scope_end» → Charted S (columns (now (first .entry)) (now (second .entry)) (now (start .entry)) (now (reachable .entry)) (now («code_span» .entry)) (now («code_node» .entry)) (now («name_span» .entry)) (now («name_node» .entry)) (now («name_end» .entry))) r (columns (now (first .exit)) (now (second .exit)) (now (start .exit)) (now (reachable .exit)) (now («code_span» .exit)) (now («code_node» .exit)) (now («name_span» .exit)) (now («name_node» .exit)) (now («name_end» .exit)))) ⌝ }
+    ensures { λ r. ⌜ ChartedOf (held kinds) (held spans) «scope_end» r (lent first second start reachable «code_span» «code_node» «name_span» «name_node» «name_end») ⌝ }
 {
     let b = of_block(kinds, first, code_node, name_node, reachable, scope_end);
     let nodes = b.nodes;
@@ -67,7 +68,7 @@ fn write_chart(
     }
 }
 
-// The chart of a sheet that is admitted. Its two arrays are handed on as parts that start inside it.
+// The chart of a sheet that is admitted.
 pub fn of_sheet(
     sheet: &[u64],
     first: &mut [u64],
@@ -82,13 +83,14 @@ pub fn of_sheet(
 ) -> Counts
     requires { ⌜ AdmittedSheet (now sheet) ⌝ }
     requires { ⌜ Wide (columns (now first) (now second) (now start) (now reachable) (now «code_span») (now «code_node») (now «name_span») (now «name_node») (now «name_end»)) ⌝ }
-    ensures { λ r. ⌜ Charted (now (sheet .entry)) (columns (now (first .entry)) (now (second .entry)) (now (start .entry)) (now (reachable .entry)) (now («code_span» .entry)) (now («code_node» .entry)) (now («name_span» .entry)) (now («name_node» .entry)) (now («name_end» .entry))) r (columns (now (first .exit)) (now (second .exit)) (now (start .exit)) (now (reachable .exit)) (now («code_span» .exit)) (now («code_node» .exit)) (now («name_span» .exit)) (now («name_node» .exit)) (now («name_end» .exit))) ⌝ }
+    ensures { λ r. ⌜ Charted (now (sheet .entry)) r (lent first second start reachable «code_span» «code_node» «name_span» «name_node» «name_end») ⌝ }
 {
     let scope_end = sheet[1];
-    let m = 2 + sheet[0] as usize;
+    let kinds = sheet_parts::kinds(sheet);
+    let spans = sheet_parts::spans(sheet);
     write_chart(
-        &sheet[2..m],
-        &sheet[m..],
+        kinds,
+        spans,
         scope_end,
         first,
         second,

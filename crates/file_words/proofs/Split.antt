@@ -2,6 +2,8 @@
 --     lost-refused    lost or spare bytes
 --     whole           what is printed is what its words print
 --     parts           the words print what the sheet and the use sheet do, cut where `sheet_end` says
+--     longer-refused  8 × 4,100 bytes and more, a word more than any two sheets have
+--     first-bytes     so many of a file's first bytes print what the whole file does, however long it is
 -- Assumes nothing.
 use mathlib.Core.Path.{_≡_, refl, sym, ap, _∙_}
 use mathlib.Core.Bool.{Bool, true, false, cond, not, _||_}
@@ -10,13 +12,14 @@ use Prim.Native.Nat.{ℕ, zero, suc, _+_, _*_, _/_, _%_, _≤_, _<_, min}
 use native.Mathlib.Nat.{min-eq-left, min-eq-right}
 use native.Mathlib.Decide.{decLe}
 use native.Mathlib.Omega.{arith}
-use borrow.Author.Tests.{ltb-true, ltb-false, not-false}
+use borrow.Author.Tests.{ltb-true, ltb-false, lt-ltb, not-false}
 use lib.Dec.{eqb, ltb}
 use lib.ListN.{length, take, drop, length-drop, drop-of-length-le}
-use lib.Seq.{take-all, getD-take}
+use lib.Seq.{take-all, getD-take, length-take-le}
 use Rattle.flow.specs.declared.Refusal.the-variants.{Miscount}
 use Rattle.flow.specs.Sheet.{count}
-use Rattle.flow.specs.Refusals.{lowest, chartBenchTooSmall, judgeBenchTooSmall, miscount, judgeVerdict}
+use Rattle.flow.specs.Refusals.{number, miscount, firstApplying, pairTests, pairVerdict}
+use Rattle.flow.specs.Findings.{judge}
 use Rattle.flow.specs.Listing.{refused, fileWords, printedWords, printed}
 use Rattle.flow.proofs.Tests.{neither, counted}
 use Rattle.file_words.specs.Input.{lostOrSpare, sheetsPrint}
@@ -59,8 +62,8 @@ never-both ws h e =
     let c : count (take (2 * count ws + 2) ws) ≡ count ws = getD-take (2 * count ws + 2) ws 0 0 (omega arith) in
     omega (arith, length-drop (2 * count ws + 2) ws)
 
-too-long : (ws : List ℕ) → 4099 < length ws → printedWords ws ≡ refused Miscount
-unfolding printedWords judgeVerdict lowest judgeBenchTooSmall chartBenchTooSmall
+too-long : (ws : List ℕ) → 4099 < length ws → printedWords ws ≡ refused (number Miscount)
+unfolding printedWords judge pairVerdict pairTests firstApplying
 too-long ws h = rw (miscounted (miscount 2 (take (2 * count ws + 2) ws) || miscount 1 (drop (2 * count ws + 2) ws)) (never-both ws h))
 
 -- ---- a file
@@ -76,10 +79,27 @@ whole bs e =
     let z = not-false (eqb (length bs % 8) 0) (n .0) in
     record { few = ltb-false _ _ (n .1); prints = rw z }
 
-lost-by : (bs : List ℕ) (b : Bool) → (not b || ltb 4099 (length bs / 8)) ≡ true → cond b (printedWords (fileWords (length bs / 8) bs)) (refused Miscount) ≡ refused Miscount
+lost-by : (bs : List ℕ) (b : Bool) → (not b || ltb 4099 (length bs / 8)) ≡ true → cond b (printedWords (fileWords (length bs / 8) bs)) (refused (number Miscount)) ≡ refused (number Miscount)
 lost-by bs false e = refl
 lost-by bs true e = too-long (fileWords (length bs / 8) bs) (rw (words-long (length bs / 8) bs) (ltb-true _ _ e))
 
-pub lost-refused : (bs : List ℕ) → lostOrSpare bs ≡ true → printed bs ≡ refused Miscount
+pub lost-refused : (bs : List ℕ) → lostOrSpare bs ≡ true → printed bs ≡ refused (number Miscount)
 unfolding lostOrSpare printed
 lost-refused bs e = lost-by bs (eqb (length bs % 8) 0) e
+
+-- ---- a file of a word more than any two sheets have, or longer still
+
+longer-lost : (bs : List ℕ) → 8 * 4100 ≤ length bs → (b : Bool) → (b || ltb 4099 (length bs / 8)) ≡ true
+longer-lost bs h true = refl
+longer-lost bs h false = lt-ltb 4099 (length bs / 8) (omega arith)
+
+pub longer-refused : (bs : List ℕ) → 8 * 4100 ≤ length bs → printed bs ≡ refused 2
+unfolding lostOrSpare
+longer-refused bs h = lost-refused bs (longer-lost bs h (not (eqb (length bs % 8) 0)))
+
+-- so a program that reads n bytes and no more prints what the whole file does
+pub first-bytes : (n : ℕ) (bs : List ℕ) → 8 * 4100 ≤ n → printed (take n bs) ≡ printed bs
+first-bytes n bs h = elim (decLe n (length bs)) [
+  | yes l ↦ longer-refused (take n bs) (omega (arith, length-take-le n bs l)) ∙ sym (longer-refused bs (omega arith))
+  | no l ↦ ap printed (take-all n bs (omega arith))
+]

@@ -2,9 +2,10 @@
 -- Assumes nothing.
 use mathlib.Core.Path.{_≡_, refl, sym, ap, ap₂, _∙_, subst, subst₃}
 use mathlib.Core.List.{List, _++_}
-use Prim.Native.Nat.{ℕ, _+_, _≤_, _<_}
+use Prim.Native.Nat.{ℕ, _+_, _<_}
 use native.Mathlib.Omega.{arith}
 use lib.ListN.{length, getD, drop}
+use mathlib.Core.Bool.{false}
 use Rattle.flow.specs.declared.Counts.{Counts}
 use Rattle.flow.specs.declared.Verdict.the-variants.{Admitted}
 use Rattle.flow.specs.declared.JudgeAnswer.the-variants.{Judged}
@@ -15,31 +16,33 @@ use Rattle.flow.specs.Findings.{locals, findings, wordsOf, spansOf}
 use Rattle.flow.specs.Admitted.{AdmittedSheet, AdmittedUses}
 use Rattle.flow.proofs.Flags.{node-count}
 use Rattle.flow.proofs.NameNodes.{name-node}
-use Rattle.admission.proofs.Parts.{firstPart, secondPart, Counted, first-is, second-is}
 use Rattle.locals.specs.Entries.{Put, Added}
 use Rattle.unassigned.specs.Pass.{Marked}
 use Rattle.local_flow.specs.Sheets.{Sheets}
-use Rattle.chart.specs.Lent.{over, Columns, Charted}
-use Rattle.chart.proofs.Read.{Begins, nodes-are, names-are, first-read, second-read, start-read, spans-read, code-nodes-read, ends-rise, code-nodes-in, name-spans-read, name-nodes-read, name-ends-read}
-use Rattle.findings.specs.Accepted.{Found, Accepted}
+use Rattle.chart.specs.Lent.{over, Columns, Lent, Charted}
+use Rattle.chart.proofs.Read.{Begins, nodes-are, names-are, first-read, second-read, start-read, spans-read, code-nodes-read, ends-rise, code-nodes-in, name-spans-read, name-nodes-read, name-ends-read, shown}
+use Rattle.findings.specs.Accepted.{FindingsLent, Tables, Found, Accepted}
 
-module _ {S U : List ℕ} {x y : Columns} {r : Counts} (v : sheetVerdict S ≡ Admitted) (a : AdmittedSheet S) (u : AdmittedUses S U) (h : Charted S x r y) where
+module _ {S U : List ℕ} {r : Counts} {l : Lent} (v : sheetVerdict false S ≡ Admitted) (a : AdmittedSheet S) (u : AdmittedUses S U) (h : Charted S r l) where
+  abbrev y : Columns
+  y = l .after
+
   all-names : r .names ≡ length (locals S)
   all-names = names-are a h ∙ a .allNames
 
-  name-nodes : Begins (length (locals S)) (graph S .names .node) (y .nameNode)
-  name-nodes = subst (λ (k : ℕ). Begins k (graph S .names .node) (y .nameNode)) all-names (name-nodes-read a h)
+  name-nodes : Begins (length (locals S)) (graph S .names .node) (y .names .node)
+  name-nodes = subst (λ (k : ℕ). Begins k (graph S .names .node) (y .names .node)) all-names (name-nodes-read a h)
 
-  name-ends : Begins (length (locals S)) (graph S .names .scopeEnd) (y .nameEnd)
-  name-ends = subst (λ (k : ℕ). Begins k (graph S .names .scopeEnd) (y .nameEnd)) all-names (name-ends-read a h)
+  name-ends : Begins (length (locals S)) (graph S .names .scopeEnd) (y .names .scopeEnd)
+  name-ends = subst (λ (k : ℕ). Begins k (graph S .names .scopeEnd) (y .names .scopeEnd)) all-names (name-ends-read a h)
 
-  name-spans : Begins (length (locals S)) (graph S .names .span) (y .nameSpan)
-  name-spans = subst (λ (k : ℕ). Begins k (graph S .names .span) (y .nameSpan)) all-names (name-spans-read a h)
+  name-spans : Begins (length (locals S)) (graph S .names .span) (y .names .span)
+  name-spans = subst (λ (k : ℕ). Begins k (graph S .names .span) (y .names .span)) all-names (name-spans-read a h)
 
-  name-in : (ℓ : ℕ) → ℓ < length (locals S) → getD (y .nameNode) ℓ 0 < r .nodes
+  name-in : (ℓ : ℕ) → ℓ < length (locals S) → getD (y .names .node) ℓ 0 < r .nodes
   name-in ℓ q = rw (name-nodes .cell ℓ q, nodes-are a h) (name-node S v ℓ (omega (arith, a .nameNodes, a .allNames)))
 
-  pub sheets : Sheets S U (r .nodes) (r .codes) (kindWords S) (y .first) (y .second) (y .start) (y .codeSpan) (y .codeNode) (y .nameSpan) (y .nameNode) (y .nameEnd) (useWords U) (useSpans U)
+  pub sheets : Tables S U r (y .nodes .first) (y .nodes .second) (y .nodes .start) (y .codes .span) (y .codes .node) (y .names .span) (y .names .node) (y .names .scopeEnd)
   sheets = record {
     kinds-are = refl;
     beside = a .spans ∙ sym (a .kinds);
@@ -75,36 +78,25 @@ module _ {S U : List ℕ} {x y : Columns} {r : Counts} (v : sheetVerdict S ≡ A
 
 -- ---- the parts as the code takes them
 
-module _ {S U : List ℕ} (a : AdmittedSheet S) (u : AdmittedUses S U) where
-  sheet-counted : Counted 2 S
-  sheet-counted = record { few = a .few; long = a .words }
-
-  use-counted : Counted 1 U
-  use-counted = record { few = u .few; long = u .words }
-
-  pub in-parts : {n c : ℕ} {f s t cs cn ns nn ne : List ℕ} → Sheets S U n c (kindWords S) f s t cs cn ns nn ne (useWords U) (useSpans U)
-      → Sheets S U n c (firstPart 2 S) f s t cs cn ns nn ne (firstPart 1 U) (secondPart 1 U)
-  in-parts {n} {c} {f} {s} {t} {cs} {cn} {ns} {nn} {ne} q =
-      subst₃ (λ (k w p : List ℕ). Sheets S U n c k f s t cs cn ns nn ne w p) (sym (first-is 2 S sheet-counted)) (sym (first-is 1 U use-counted)) (sym (second-is 1 U use-counted)) q
+pub in-parts : {S U : List ℕ} (c : Counts) {f s t cs cn ns nn ne ks ws ps : List ℕ} → ks ≡ kindWords S → ws ≡ useWords U → ps ≡ useSpans U
+    → Tables S U c f s t cs cn ns nn ne → Sheets S U (c .nodes) (c .codes) ks f s t cs cn ns nn ne ws ps
+in-parts {S} {U} c {f} {s} {t} {cs} {cn} {ns} {nn} {ne} a b d q =
+    subst₃ (λ (k w p : List ℕ). Sheets S U (c .nodes) (c .codes) k f s t cs cn ns nn ne w p) (sym a) (sym b) (sym d) q
 
 -- ---- what is left
 
 from-first : {new : List ℕ} (xs old : List ℕ) → Put xs 0 old new → new ≡ over xs old
 from-first xs old e = let z : 0 + length xs ≡ length xs = omega arith in e ∙ ap (λ (k : ℕ). xs ++ drop k old) z
 
-pub found : {S U words spans marks words' spans' marks' : List ℕ} {n r : ℕ} → Added (findings S U) 0 words spans r words' spans' → Marked n (length (locals S)) marks marks' → Found S U n words spans marks r words' spans' marks'
-found {S} {U} {words = words} {spans = spans} d m =
-    record { count = omega (arith, d .counted); findingWords = from-first (wordsOf (findings S U)) words (d .entered .words-are); findingSpans = from-first (spansOf (findings S U)) spans (d .entered .spans-are); markFigures = m }
+pub found : {S U : List ℕ} {n r : ℕ} {w s m w' s' m' : List ℕ} → Added (findings S U) 0 w s r w' s' → Marked n (length (locals S)) m m'
+    → Found S U n r (record { before = record { word = w; span = s; mark = m }; after = record { word = w'; span = s'; mark = m' } })
+found {S} {U} {w = w} {s = s} d k =
+    record { count = omega (arith, d .counted); words = from-first (wordsOf (findings S U)) w (d .entered .words-are); spans = from-first (spansOf (findings S U)) s (d .entered .spans-are); marks = k }
 
-pub accepted : {S U words spans marks words' spans' marks' : List ℕ} {x y : Columns} {c : Counts} {r : ℕ} → AdmittedSheet S → Charted S x c y → Found S U (c .nodes) words spans marks r words' spans' marks'
-    → Accepted S U x words spans marks (Judged c r) y words' spans' marks'
-accepted {S} {U} {marks = marks} {marks' = marks'} a h f = record {
-  answer = ap₂ Judged (h .counts) (f .count);
+pub accepted : {S U : List ℕ} {l : Lent} {f : FindingsLent} {c : Counts} {r : ℕ} → AdmittedSheet S → Charted S c l → Found S U (c .nodes) r f → Accepted S U (Judged c r) l f
+accepted {S} {U} {f = f} a h g = record {
+  answer = ap₂ Judged (h .counts) (g .count);
   columns = h .written;
-  found = record {
-    count = refl;
-    findingWords = f .findingWords;
-    findingSpans = f .findingSpans;
-    markFigures = subst (λ (k : ℕ). Marked k (length (locals S)) marks marks') (nodes-are a h) (f .markFigures);
-  };
+  shown = shown a h;
+  found = record { count = refl; words = g .words; spans = g .spans; marks = subst (λ (k : ℕ). Marked k (length (locals S)) (f .before .mark) (f .after .mark)) (nodes-are a h) (g .marks) };
 }

@@ -2,25 +2,49 @@
 -- Assumes nothing: these are definitions.
 use mathlib.Core.Path.{_≡_}
 use mathlib.Core.List.{List}
-use Prim.Native.Nat.{ℕ}
+use Prim.Native.Nat.{ℕ, _≤_}
 use lib.ListN.{length}
+use Rattle.flow.specs.declared.Counts.{Counts}
 use Rattle.flow.specs.declared.JudgeAnswer.{JudgeAnswer}
 use Rattle.flow.specs.declared.JudgeAnswer.the-variants.{Judged}
+use Rattle.flow.specs.Sheet.{kindWords, useWords, useSpans}
 use Rattle.flow.specs.Graph.{nodeCount, graph}
 use Rattle.flow.specs.Reachable.{countsOf}
 use Rattle.flow.specs.Findings.{locals, findings, wordsOf, spansOf}
 use Rattle.unassigned.specs.Pass.{Marked}
-use Rattle.chart.specs.Lent.{over, Columns, chartOf}
+use Rattle.local_flow.specs.Sheets.{Sheets}
+use Rattle.search.specs.Lent.{Column, held, left}
+use Rattle.chart.specs.Lent.{over, Lent, chartOf, Shown}
+
+-- judge's columns beside chart's: the words and spans of findings, and the mark figures
+abbrev pub FindingColumns : Type 0
+FindingColumns = record { word : List ℕ; span : List ℕ; mark : List ℕ }
+
+abbrev pub FindingsLent : Type 0
+FindingsLent = record { before : FindingColumns; after : FindingColumns }
+
+abbrev pub listed : Column → Column → Column → FindingsLent
+listed w s m = record { before = record { word = held w; span = held s; mark = held m }; after = record { word = left w; span = left s; mark = left m } }
+
+-- long enough for all findings, and for a figure a local
+abbrev pub Long : FindingColumns → Type 0
+Long f = (3072 ≤ length (f .word)) × (3072 ≤ length (f .span)) × (1024 ≤ length (f .mark))
+
+-- a chart's columns, as the search for findings in two sheets takes them
+abbrev pub Tables : List ℕ → List ℕ → Counts → List ℕ → List ℕ → List ℕ → List ℕ → List ℕ → List ℕ → List ℕ → List ℕ → Type 0
+Tables S U c first second start codeSpan codeNode nameSpan nameNode nameEnd =
+    Sheets S U (c .nodes) (c .codes) (kindWords S) first second start codeSpan codeNode nameSpan nameNode nameEnd (useWords U) (useSpans U)
 
 -- r findings over what stood in their columns, and the mark figures of a graph of n nodes
-pub record Found (S U : List ℕ) (n : ℕ) (words spans marks : List ℕ) (r : ℕ) (words' spans' marks' : List ℕ) : Type 0 where
+pub record Found (S U : List ℕ) (n r : ℕ) (f : FindingsLent) : Type 0 where
   pub count : r ≡ length (findings S U)
-  pub findingWords : words' ≡ over (wordsOf (findings S U)) words
-  pub findingSpans : spans' ≡ over (spansOf (findings S U)) spans
-  pub markFigures : Marked n (length (locals S)) marks marks'
+  pub words : f .after .word ≡ over (wordsOf (findings S U)) (f .before .word)
+  pub spans : f .after .span ≡ over (spansOf (findings S U)) (f .before .span)
+  pub marks : Marked n (length (locals S)) (f .before .mark) (f .after .mark)
 
 -- the same with the chart
-pub record Accepted (S U : List ℕ) (x : Columns) (words spans marks : List ℕ) (r : JudgeAnswer) (y : Columns) (words' spans' marks' : List ℕ) : Type 0 where
+pub record Accepted (S U : List ℕ) (r : JudgeAnswer) (l : Lent) (f : FindingsLent) : Type 0 where
   pub answer : r ≡ Judged (countsOf (graph S)) (length (findings S U))
-  pub columns : y ≡ chartOf S x
-  pub found : Found S U (nodeCount (graph S)) words spans marks (length (findings S U)) words' spans' marks'
+  pub columns : l .after ≡ chartOf S (l .before)
+  pub shown : Shown S (l .after)
+  pub found : Found S U (nodeCount (graph S)) (length (findings S U)) f

@@ -1,14 +1,12 @@
 // The chart and the findings of an admitted pair of sheets.
 ghost use mathlib.Core.Path.{_≡_};
-ghost use Prim.Native.Nat.{_≤_};
-ghost use lib.ListN.{length};
+ghost use mathlib.Core.Bool.{false};
 ghost use Rattle.flow.specs.declared.Verdict.the-variants.{Admitted};
-ghost use Rattle.flow.specs.Sheet.{kindWords, useWords, useSpans};
 ghost use Rattle.flow.specs.Refusals.{sheetVerdict};
 ghost use Rattle.flow.specs.Admitted.{AdmittedSheet, AdmittedUses};
-ghost use Rattle.local_flow.specs.Sheets.{Sheets};
-ghost use Rattle.chart.specs.Lent.{columns, Wide};
-ghost use Rattle.findings.specs.Accepted.{Found, Accepted};
+ghost use Rattle.search.specs.Lent.{held};
+ghost use Rattle.chart.specs.Lent.{columns, lent, Wide};
+ghost use Rattle.findings.specs.Accepted.{listed, Long, Tables, Found, Accepted};
 use flow::Counts;
 use flow::JudgeAnswer;
 
@@ -30,14 +28,15 @@ fn find_all(
     counts: Counts,
 ) -> usize
     requires { ⌜ AdmittedSheet (now sheet) × AdmittedUses (now sheet) (now uses) ⌝ }
-    requires { ⌜ Sheets (now sheet) (now uses) (counts .nodes) (counts .codes) (kindWords (now sheet)) (now first) (now second) (now start) (now «code_span») (now «code_node») (now «name_span») (now «name_node») (now «name_end») (useWords (now uses)) (useSpans (now uses)) ⌝ }
-    requires { ⌜ (3072 ≤ length (now «finding_word»)) × (3072 ≤ length (now «finding_span»)) × (1024 ≤ length (now mark)) ⌝ }
-    ensures { λ r. ⌜ Found (now (sheet .entry)) (now (uses .entry)) (counts .nodes) (now («finding_word» .entry)) (now («finding_span» .entry)) (now (mark .entry)) r (now («finding_word» .exit)) (now («finding_span» .exit)) (now (mark .exit)) ⌝ }
+    requires { ⌜ Tables (now sheet) (now uses) counts (now first) (now second) (now start) (now «code_span») (now «code_node») (now «name_span») (now «name_node») (now «name_end») ⌝ }
+    requires { ⌜ Long (record { word = now «finding_word»; span = now «finding_span»; mark = now mark }) ⌝ }
+    ensures { λ r. ⌜ Found (now (sheet .entry)) (now (uses .entry)) (counts .nodes) r (listed «finding_word» «finding_span» mark) ⌝ }
 {
-    let m = 2 + sheet[0] as usize;
-    let n = 1 + uses[0] as usize;
+    let kinds = sheet_parts::kinds(sheet);
+    let use_words = sheet_parts::use_words(uses);
+    let use_spans = sheet_parts::use_spans(uses);
     local_flow::compute(
-        &sheet[2..m],
+        kinds,
         first,
         second,
         start,
@@ -46,8 +45,8 @@ fn find_all(
         name_span,
         name_node,
         name_end,
-        &uses[1..n],
-        &uses[n..],
+        use_words,
+        use_spans,
         finding_word,
         finding_span,
         mark,
@@ -73,10 +72,10 @@ pub fn of_sheets(
     finding_span: &mut [u64],
     mark: &mut [u64],
 ) -> JudgeAnswer
-    requires { ⌜ AdmittedSheet (now sheet) × AdmittedUses (now sheet) (now uses) × (sheetVerdict (now sheet) ≡ Admitted) ⌝ }
+    requires { ⌜ AdmittedSheet (now sheet) × AdmittedUses (now sheet) (now uses) × (sheetVerdict false (now sheet) ≡ Admitted) ⌝ }
     requires { ⌜ Wide (columns (now first) (now second) (now start) (now reachable) (now «code_span») (now «code_node») (now «name_span») (now «name_node») (now «name_end»)) ⌝ }
-    requires { ⌜ (3072 ≤ length (now «finding_word»)) × (3072 ≤ length (now «finding_span»)) × (1024 ≤ length (now mark)) ⌝ }
-    ensures { λ r. ⌜ Accepted (now (sheet .entry)) (now (uses .entry)) (columns (now (first .entry)) (now (second .entry)) (now (start .entry)) (now (reachable .entry)) (now («code_span» .entry)) (now («code_node» .entry)) (now («name_span» .entry)) (now («name_node» .entry)) (now («name_end» .entry))) (now («finding_word» .entry)) (now («finding_span» .entry)) (now (mark .entry)) r (columns (now (first .exit)) (now (second .exit)) (now (start .exit)) (now (reachable .exit)) (now («code_span» .exit)) (now («code_node» .exit)) (now («name_span» .exit)) (now («name_node» .exit)) (now («name_end» .exit))) (now («finding_word» .exit)) (now («finding_span» .exit)) (now (mark .exit)) ⌝ }
+    requires { ⌜ Long (record { word = now «finding_word»; span = now «finding_span»; mark = now mark }) ⌝ }
+    ensures { λ r. ⌜ Accepted (held sheet) (held uses) r (lent first second start reachable «code_span» «code_node» «name_span» «name_node» «name_end») (listed «finding_word» «finding_span» mark) ⌝ }
 {
     let counts = chart::of_sheet(
         sheet,

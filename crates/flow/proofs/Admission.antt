@@ -1,31 +1,30 @@
 -- What the table of 01, "Turned back", shows of a sheet that it admits: the facts of `specs/Admitted.antt`.
 -- Assumes nothing.
 use Prim.Native.Nat.{ℕ, zero, suc, _/_, _%_, _≤_, _<_}
-use mathlib.Core.Path.{_≡_, refl, _∙_}
-use mathlib.Core.Bool.{true, _&&_, _||_}
+use mathlib.Core.Path.{_≡_, refl, _∙_, subst}
+use mathlib.Core.Bool.{Bool, true, false, _&&_}
 use mathlib.Core.List.{List, [], _∷_, tail}
 use native.Mathlib.Omega.{arith}
-use borrow.Author.Tests.{ltb-true, ltb-false, leb-true, not-false}
+use borrow.Author.Tests.{ltb-true, leb-true, not-false}
 use lib.Dec.{leb, ltb}
 use lib.ListN.{length, getD, length-take, length-drop}
-use Rattle.flow.specs.declared.Bench.{Bench}
 use Rattle.flow.specs.declared.Verdict.the-variants.{Admitted}
 use Rattle.flow.specs.Sheet.{count, kindWords, spanWords, items, oneOf, useWords, useSpans, localOf, useKindOf}
 use Rattle.flow.specs.Kinds.{isCode}
-use Rattle.flow.specs.Refusals.{chartBenchTooSmall, judgeBenchTooSmall, miscount, nameCount, useFits, usesFit, badUse, sheetTests, sheetVerdict, chartVerdict, judgeVerdict}
+use Rattle.flow.specs.Refusals.{miscount, badItem, tooDeep, badNesting, offTheLine, badName, nameCount, useFits, usesFit, badUse, firstApplying, itemTests, sheetTests, pairTests, sheetVerdict, pairVerdict}
 use Rattle.flow.specs.Graph.{graph}
-use Rattle.flow.specs.Admitted.{spansWhere, isName, AdmittedSheet, AdmittedChart, AdmittedUses, AdmittedJudge}
+use Rattle.flow.specs.Admitted.{spansWhere, isName, AdmittedSheet, AdmittedUses, AdmittedPair}
 use Rattle.flow.proofs.Members.{and-both, oneOf-in}
-use Rattle.flow.proofs.Tests.{neither, every, passed, pass, counted, Passed, sheet-passed, fits-at}
+use Rattle.flow.proofs.Tests.{neither, every, applies, passed, counted, Passed, sheet-passed, fits-at}
 use Rattle.flow.proofs.Nesting.{tidy, closed}
 use Rattle.flow.proofs.Room.{length-together, roomy}
 use Rattle.flow.proofs.Written.{written}
 use Rattle.flow.proofs.Sources.{graph-columns}
 use Rattle.flow.proofs.Spans.{tree-codes, tree-names, name-count, names-spans, few-spans, ends-rise}
 
-module _ (S : List ℕ) (e : sheetVerdict S ≡ Admitted) where
+module _ (S : List ℕ) (e : sheetVerdict false S ≡ Admitted) where
   passes : Passed S
-  passes = sheet-passed S e
+  passes = sheet-passed false S e
 
   kinds : length (kindWords S) ≡ count S
   kinds = simp (length-take, length-drop) (omega (arith, passes .words))
@@ -80,15 +79,11 @@ module _ (S : List ℕ) (e : sheetVerdict S ≡ Admitted) where
         allNames = rw names (names-spans (items S) ∙ name-count S);
       }
 
--- ---- the calls that lend columns, and the one that takes uses
+-- ---- the calls that lend columns, and those that take a pair
 
-pub of-chart : (b : Bench) (S : List ℕ) → chartVerdict b S ≡ Admitted → AdmittedChart b S
-unfolding chartVerdict chartBenchTooSmall sheetVerdict
-of-chart b S e =
-    let p = passed _ e in
-    let c = neither (ltb (b .nodes) 1600 || ltb (b .codes) 1024) _ (p .0) in
-    let d = neither (ltb (b .nodes) 1600) _ (c .0) in
-    record { sheet = pass _ (p .1); nodes = ltb-false _ _ (d .0); codes = ltb-false _ _ (d .1); locals = ltb-false _ _ (c .1) }
+pub of-sheet : (short : Bool) (S : List ℕ) → sheetVerdict short S ≡ Admitted → (short ≡ false) × (sheetVerdict false S ≡ Admitted)
+unfolding sheetVerdict sheetTests
+of-sheet short S e = let z : short ≡ false = passed (sheetTests short S) e 1 in (z, subst (λ (b : Bool). sheetVerdict b S ≡ Admitted) z e)
 
 abbrev highParts : List ℕ
 highParts = 0 ∷ 1 ∷ 2 ∷ 4 ∷ 5 ∷ 6 ∷ []
@@ -102,24 +97,31 @@ uses-at n (w ∷ ws) ss e zero h =
     (ltb-true _ _ (g .0), leb-true _ _ (every (λ x. leb (x % 4) 2) highParts (w / 65536) refl (oneOf-in _ highParts (g .1))))
 uses-at n (w ∷ ws) ss e (suc u) h = uses-at n ws (tail ss) (and-both (useFits n w (getD ss 0 0)) _ e .1) u (omega arith)
 
-module _ (b : Bench) (S U : List ℕ) (e : judgeVerdict b S U ≡ Admitted) where
-  judge-chart : chartVerdict b S ≡ Admitted
-  unfolding judgeVerdict chartVerdict judgeBenchTooSmall sheetTests
-  judge-chart =
-      let p = passed _ e in
-      let q = p .1 .1 in
-      pass _ (neither (chartBenchTooSmall b) _ (p .0) .0, (neither (miscount 2 S) _ (p .1 .0) .0, (q .0, (q .1 .0, (q .1 .1 .0, (q .1 .1 .1 .0, (q .1 .1 .1 .1 .0, tt)))))))
+module _ (short : Bool) (S U : List ℕ) (e : pairVerdict short S U ≡ Admitted) where
+  -- no test of the pair applies, by its number
+  none : (k : ℕ) → applies k (pairTests short S U) ≡ false
+  unfolding pairVerdict
+  none = passed (pairTests short S U) e
 
-  judge-findings : 3072 ≤ b .findings
-  unfolding judgeVerdict judgeBenchTooSmall
-  judge-findings = ltb-false _ _ (neither (chartBenchTooSmall b) _ (passed _ e .0) .1)
+  counts : (miscount 2 S ≡ false) × (miscount 1 U ≡ false)
+  unfolding pairTests
+  counts = neither (miscount 2 S) (miscount 1 U) (none 2)
 
-  judge-uses : AdmittedUses S U
-  unfolding judgeVerdict sheetTests badUse
-  judge-uses =
-      let p = passed _ e in
-      let c = counted 1 U (neither (miscount 2 S) _ (p .1 .0) .1) in
-      let f = uses-at (nameCount (items S)) (useWords U) (useSpans U) (not-false _ (p .1 .1 .1 .1 .1 .1 .1 .0)) in
+  pair-sheet : sheetVerdict false S ≡ Admitted
+  unfolding sheetVerdict sheetTests pairTests itemTests firstApplying
+  pair-sheet =
+      let item : badItem S ≡ false = none 3 in
+      let deep : tooDeep S ≡ false = none 4 in
+      let nests : badNesting S ≡ false = none 5 in
+      let line : offTheLine S ≡ false = none 6 in
+      let name : badName S ≡ false = none 7 in
+      rw (counts .0, item, deep, nests, line, name)
+
+  pair-uses : AdmittedUses S U
+  unfolding pairTests itemTests badUse
+  pair-uses =
+      let c = counted 1 U (counts .1) in
+      let f = uses-at (nameCount (items S)) (useWords U) (useSpans U) (not-false _ (none 8)) in
       let w : length (useWords U) ≡ count U = simp (length-take, length-drop) (omega arith) in
       record {
         words = c .0;
@@ -131,5 +133,6 @@ module _ (b : Bench) (S U : List ℕ) (e : judgeVerdict b S U ≡ Admitted) wher
         kinds = λ u h. f u (omega arith) .1;
       }
 
-  pub of-judge : AdmittedJudge b S U
-  of-judge = record { chart = of-chart b S judge-chart; findings = judge-findings; uses = judge-uses }
+  pub of-pair : AdmittedPair short S U
+  unfolding pairTests
+  of-pair = record { enough = none 1; sheet = pair-sheet; uses = pair-uses }

@@ -9,8 +9,8 @@ use lib.ListN.{length, getD, set, length-append, length-set}
 use lib.Dec.{eqb, ltb}
 use Rattle.flow.specs.declared.Truth.{Truth}
 use Rattle.flow.specs.declared.Truth.the-variants.{False, True, Unknown}
-use Rattle.flow.specs.declared.Place.{Place}
-use Rattle.flow.specs.declared.Place.the-variants.{Node, Past}
+use Rattle.flow.specs.declared.Found.{Found}
+use Rattle.flow.specs.declared.Found.the-variants.{At, Nothing}
 use Rattle.flow.specs.Sheet.{items, outerEnd, kindOf, argumentOf, scopeEndOf, conditionOf, endOf, startOf}
 use Rattle.flow.specs.Kinds.{kinds, literalTruth, raises}
 use Rattle.flow.specs.Tree.{Stmt, Block, Arms, simple, do-block, while-loop, repeat-loop, for-loop, if-stmt, done, then, no-more, elseif, otherwise, tree, labelsOf}
@@ -191,9 +191,9 @@ mutual
   fine-arms (otherwise w k as') test join falls = λ n st g b f.
       fine-arms as' test join false n st _ b (fine-close join _ (fine-body (scopeEndOf w) k (fine-block k) n st _ b (fine-move test f)))
 
-abbrev Within : ℕ → Place → Type 0
-Within n (Node v) = v < n
-Within n Past = Unit {0}
+abbrev Within : ℕ → Found → Type 0
+Within n (At v) = v < n
+Within n Nothing = Unit {0}
 
 tail-below : (vs : List ℕ) (n : ℕ) → ((i : ℕ) → getD vs i 0 < n) → (i : ℕ) → getD (tail vs) i 0 < n
 tail-below [] n h i = h i
@@ -213,6 +213,6 @@ unfolding graph outside
 fine-graph S = let b : Block = tree (items S) in fine-close End _ (fine-body (outerEnd S) b (fine-block b) 0 outside start tt fine-first)
 
 -- the node of an offset is a node
-pub code-node : (S : List ℕ) (o v : ℕ) → nodeAt (graph S) o ≡ Node v → v < nodeCount (graph S)
+pub code-node : (S : List ℕ) (o v : ℕ) → nodeAt (graph S) o ≡ At v → v < nodeCount (graph S)
 unfolding nodeAt
 code-node S o v e = subst (Within (nodeCount (graph S))) e (among _ _ o _ (fine-graph S .codes))

@@ -8,7 +8,7 @@ use native.Mathlib.Omega.{arith}
 use lib.ListN.{length, getD, length-map, List·getD-map}
 use Rattle.flow.specs.Sheet.{useWords, useKindOf}
 use Rattle.flow.specs.Findings.{Finding, findingWord, locals, findings, unassignedOf, overwrittenOf, ofEach, wordsOf, spansOf}
-use Rattle.flow.specs.Demand.{useWord, Listed, Named, Demand3, Before, order}
+use Rattle.flow.specs.Demand.{useWord, Listed, Entry, Demand3, Before, order}
 use Rattle.flow.proofs.Laws.{mem-append, mem-at, mem-place, or-map}
 use Rattle.flow.proofs.Order.{each-findings, mem-each, Rising, rising-append, rising-each, rising-at, Coded, same-word, Prior, prior-by}
 use Rattle.flow.proofs.Entries.{Claim, spanFor, finding, Told, unassigned-law, overwritten-law, unassigned-rising, overwritten-rising}
@@ -95,18 +95,18 @@ module _ (S U : List ℕ) (few : length (locals S) ≤ 1024) (kinds : (u : ℕ) 
           let e = same-word (coded a b refl) (coded (q .1) (r .1) (t .1)) in
           subst₃ (Claim S U) (e .0) (e .1) (e .2) (t .2)
 
-  named : (list ℓ c : ℕ) → list ≤ 1 → ℓ < n → Claim S U list ℓ c → Named S U (findingWord list ℓ c) (spanFor S U ℓ c)
-  named zero ℓ zero a b k = absurd k
-  named zero ℓ (suc u) a b k = inl (ℓ, u, b, omega arith, refl)
-  named (suc zero) ℓ zero a b k = inr (inr (ℓ, b, omega arith, refl))
-  named (suc zero) ℓ (suc w) a b k = inr (inl (ℓ, w, b, omega arith, refl))
-  named (suc (suc list)) ℓ c a b k = absurd (omega arith)
+  entry : (list ℓ c : ℕ) → list ≤ 1 → ℓ < n → Claim S U list ℓ c → Entry S U (findingWord list ℓ c) (spanFor S U ℓ c)
+  entry zero ℓ zero a b k = absurd k
+  entry zero ℓ (suc u) a b k = inl (ℓ, u, b, omega arith, refl, k)
+  entry (suc zero) ℓ zero a b k = inr (inr (ℓ, b, omega arith, refl, k))
+  entry (suc zero) ℓ (suc w) a b k = inr (inl (ℓ, w, b, omega arith, refl, k))
+  entry (suc (suc list)) ℓ c a b k = absurd (omega arith)
 
-  stated : (f : Finding) → Stated f → Named S U (f .word) (f .span)
+  stated : (f : Finding) → Stated f → Entry S U (f .word) (f .span)
   stated f q =
       let r = q .2 in
       let t = r .2 in
-      subst (λ (x : Finding). Named S U (x .word) (x .span)) (sym (t .1)) (named (q .0) (r .0) (t .0) (q .1) (r .1) (t .2))
+      subst (λ (x : Finding). Entry S U (x .word) (x .span)) (sym (t .1)) (entry (q .0) (r .0) (t .0) (q .1) (r .1) (t .2))
 
   pub demand3 : Demand3 S U (wordsOf fs) (spansOf fs)
   unfolding Prior
@@ -116,7 +116,7 @@ module _ (S U : List ℕ) (few : length (locals S) ≤ 1024) (kinds : (u : ℕ) 
         overwritten = λ ℓ w h. at (findingWord 1 ℓ (suc w)) (findingWord 1 ℓ (w + 1)) (omega arith) (told 1 ℓ (suc w) (omega arith) h);
         initial = λ ℓ h. told 1 ℓ 0 (omega arith) h;
         asMany = length-map fs (λ (x : Finding). x .span) ∙ sym (length-map fs (λ (x : Finding). x .word));
-        nothingElse = λ i h. subst₂ (Named S U) (sym (word-at fs i)) (sym (span-at fs i)) (stated _ (findings-law _ .0 (mem-at noFinding fs i (omega (arith, words-length fs)))));
+        nothingElse = λ i h. subst₂ (Entry S U) (sym (word-at fs i)) (sym (span-at fs i)) (stated _ (findings-law _ .0 (mem-at noFinding fs i (omega (arith, words-length fs)))));
         rising = λ i j h k. subst₂ (λ (x y : ℕ). Before (order S U x) (order S U y)) (sym (word-at fs i)) (sym (word-at fs j)) (rising-at noFinding findings-rising i j h (omega (arith, words-length fs)));
       }
     where

@@ -6,14 +6,16 @@ use mathlib.Core.Logic.{_↔_, ⊎-elim, ⊎-map}
 use mathlib.Core.Bool.{Bool, true, false, _&&_, false≢true}
 use mathlib.Core.List.{List, [], _∷_, List·Memᴰ, List·Memᴰ·head, List·Memᴰ·tail, List·Memᴰ·not-nil, List·Memᴰ·cases-cons}
 use native.Mathlib.Omega.{arith}
-use borrow.Author.Tests.{ltb-true}
+use borrow.Author.Tests.{ltb-true, eqb-true}
 use lib.Dec.{ltb}
 use lib.ListN.{length, getD}
 use Rattle.search.specs.Search.{In, Reach, here, on, closure, keep}
 use Rattle.search.proofs.Closure.{Nodes, closure-length, closure-bits, closure-sound, closure-complete}
+use Rattle.flow.specs.declared.Found.{Found}
+use Rattle.flow.specs.declared.Found.the-variants.{At, Nothing}
 use Rattle.flow.specs.Sheet.{oneOf}
 use Rattle.flow.specs.Graph.{Graph, nodeCount, entry, graph}
-use Rattle.flow.specs.Reachable.{successors, Reachable, reachable}
+use Rattle.flow.specs.Reachable.{successors, Reachable, Flagged, reachable, CanRun, canRun}
 use Rattle.flow.specs.Findings.{Declaration, Use, node, isWrite, onlyIf, isAliveAt, liveSuccessors, afterWrites, liveAfterWrites, Meeting, noUse, aRead, aPureWrite, isNoUse, firstAt, below, meetsHere, comesFrom, meets}
 use Rattle.flow.specs.Paths.{Edge, Alive, Live, last, more, After, Meets, met, past}
 use Rattle.search.proofs.Worklist.{keep-in}
@@ -54,6 +56,15 @@ module _ (ws : List ℕ) where
 
   pub reachable-decides : (v : ℕ) → (getD (reachable (graph ws)) v 0 ≡ 1) ↔ Reachable (graph ws) v
   reachable-decides v = (reachable-flags .sound v, reachable-flags .complete v)
+
+  pub reachable-flagged : Flagged (graph ws) (reachable (graph ws))
+  reachable-flagged = record { bit = λ v h. reachable-flags .bits v; exactly = λ v h. reachable-decides v }
+
+  -- "yes exactly when there is none or the node is reachable"
+  pub can-run-decides : (f : Found) → (canRun (graph ws) f ≡ true) ↔ CanRun (graph ws) f
+  unfolding canRun
+  can-run-decides (At v) = (λ e. reachable-decides v .0 (eqb-true (getD (reachable (graph ws)) v 0) 1 e), λ r. rw (reachable-decides v .1 r))
+  can-run-decides Nothing = (λ e. tt, λ u. refl)
 
   pub reachable-length : length (reachable (graph ws)) ≡ nodeCount (graph ws)
   reachable-length = reachable-flags .size

@@ -10,6 +10,8 @@ pub mod Order
 pub mod Entries
 pub mod Demand3
 pub mod Tests
+pub mod Precedence
+pub mod Answers
 pub mod Nesting
 pub mod Room
 pub mod Written

@@ -239,10 +239,10 @@ good-start : Good start
 unfolding start newNode written
 good-start = record { each = λ i. omega arith }
 
-module _ (S : List ℕ) (e : sheetVerdict S ≡ Admitted) where
+module _ (S : List ℕ) (e : sheetVerdict false S ≡ Admitted) where
   follow-tree : Follow false (tree (items S))
   unfolding tree
-  follow-tree = let p = sheet-passed S e in follow (parsed [] (items S) tt (p .pairs)) 0 (p .beside) .top .0
+  follow-tree = let p = sheet-passed false S e in follow (parsed [] (items S) tt (p .pairs)) 0 (p .beside) .top .0
 
   good-graph : Good (graph S)
   unfolding graph

@@ -6,7 +6,7 @@ use mathlib.Core.Bool.{Bool, true, false, cond, _&&_, _||_, true≢false}
 use mathlib.Core.List.{List, [], _∷_}
 use native.Mathlib.Omega.{arith}
 use borrow.Author.Tests.{ltb-true, ltb-false, leb-true, eqb-true, not-false}
-use lib.Dec.{leb, ltb}
+use lib.Dec.{eqb, leb, ltb}
 use lib.ListN.{length, getD}
 use Rattle.search.specs.Search.{In, keep}
 use Rattle.flow.specs.declared.Refusal.{Refusal}
@@ -14,7 +14,7 @@ use Rattle.flow.specs.declared.Verdict.{Verdict}
 use Rattle.flow.specs.declared.Verdict.the-variants.{Admitted, Refused}
 use Rattle.flow.specs.Sheet.{Item, all, kind, count, outerEnd, items, startOf, endOf, argumentOf}
 use Rattle.flow.specs.Kinds.{argumentFits, itemFits}
-use Rattle.flow.specs.Refusals.{Test, lowest, miscount, badItem, pairsUp, badNesting, inLine, offTheLine, sheetTests, sheetVerdict, outnumbered, tooDeep, sideBySide, held, namesFit, badName}
+use Rattle.flow.specs.Refusals.{number, Test, firstApplying, miscount, badItem, pairsUp, badNesting, inLine, offTheLine, itemTests, sheetTests, sheetVerdict, outnumbered, tooDeep, sideBySide, held, namesFit, badName}
 use Rattle.flow.specs.Admitted.{anItem}
 use Rattle.search.proofs.Worklist.{keep-in}
 use Rattle.flow.proofs.Members.{and-both}
@@ -38,23 +38,20 @@ every t xs x e i = keep-in t xs x (rw e i) .1
 
 -- ---- the verdict
 
-abbrev pub NoneApplies : List Test → Type 0
-NoneApplies [] = Unit {0}
-NoneApplies (t ∷ ts) = (t .1 ≡ false) × NoneApplies ts
+-- whether the test that has a number applies
+abbrev pub applies : ℕ → List Test → Bool
+applies k [] = false
+applies k (t ∷ ts) = cond (eqb (number (t .0)) k) (t .1) (applies k ts)
 
-passed-one : (b : Bool) (r : Refusal) (v : Verdict) → cond b (Refused r) v ≡ Admitted → (b ≡ false) × (v ≡ Admitted)
+pub passed-one : (b : Bool) (r : Refusal) (v : Verdict) → cond b (Refused r) v ≡ Admitted → (b ≡ false) × (v ≡ Admitted)
 passed-one true r v e = let z : _≡_ {A = ℕ} 0 1 = cc in absurd (omega arith)
 passed-one false r v e = (refl, e)
 
-pub passed : (ts : List Test) → lowest ts ≡ Admitted → NoneApplies ts
-unfolding lowest
-passed [] e = tt
-passed (t ∷ ts) e = let p = passed-one (t .1) (t .0) (lowest ts) e in (p .0, passed ts (p .1))
-
-pub pass : (ts : List Test) → NoneApplies ts → lowest ts ≡ Admitted
-unfolding lowest
-pass [] n = refl
-pass (t ∷ ts) n = rw (n .0) (pass ts (n .1))
+-- where a call is admitted no test applies, by its number: a test more moves none of the others
+pub passed : (ts : List Test) → firstApplying ts ≡ Admitted → (k : ℕ) → applies k ts ≡ false
+unfolding firstApplying
+passed [] e k = refl
+passed (t ∷ ts) e k = let p = passed-one (t .1) (t .0) (firstApplying ts) e in rw (p .0, passed ts (p .1) k) (same (eqb (number (t .0)) k) false)
 
 -- ---- a sheet
 
@@ -77,14 +74,14 @@ pub record Passed (ws : List ℕ) : Type 0 where
   pub heldBy : held (Rattle.flow.specs.Sheet.outerEnd ws ∷ []) (items ws) ≡ true
   pub named : namesFit 0 0 (items ws) ≡ true
 
-pub sheet-passed : (ws : List ℕ) → sheetVerdict ws ≡ Admitted → Passed ws
-unfolding sheetVerdict sheetTests badItem tooDeep badNesting offTheLine badName
-sheet-passed ws e =
-    let p = passed _ e in
-    let c = counted 2 ws (p .0) in
-    let i = and-both (ltb (outerEnd ws) (2 ^ 32)) _ (not-false _ (p .1 .0)) in
-    let nests = and-both (pairsUp [] (items ws)) _ (not-false _ (p .1 .1 .1 .0)) in
-    let lies = and-both (inLine 0 (items ws)) _ (not-false _ (p .1 .1 .1 .1 .0)) in
+pub sheet-passed : (short : Bool) (ws : List ℕ) → sheetVerdict short ws ≡ Admitted → Passed ws
+unfolding sheetVerdict sheetTests itemTests badItem tooDeep badNesting offTheLine badName
+sheet-passed short ws e =
+    let p = passed (sheetTests short ws) e in
+    let c = counted 2 ws (p 2) in
+    let i = and-both (ltb (outerEnd ws) (2 ^ 32)) _ (not-false _ (p 3)) in
+    let nests = and-both (pairsUp [] (items ws)) _ (not-false _ (p 5)) in
+    let lies = and-both (inLine 0 (items ws)) _ (not-false _ (p 6)) in
     record {
       words = c .0;
       few = c .1;
@@ -92,10 +89,10 @@ sheet-passed ws e =
       fits = i .1;
       pairs = nests .0;
       line = lies .0;
-      shallow = p .1 .1 .0;
+      shallow = p 4;
       beside = nests .1;
       heldBy = lies .1;
-      named = not-false _ (p .1 .1 .1 .1 .1 .0);
+      named = not-false _ (p 7);
     }
 
 -- ---- an item

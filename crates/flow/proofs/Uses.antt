@@ -12,12 +12,12 @@ use borrow.Author.Tests.{eqb-true, eqb-false}
 use lib.Dec.{eqb}
 use lib.ListN.{length, getD, drop, drop-of-length-le}
 use lib.Seq.{drop-cons}
-use Rattle.flow.specs.declared.Place.{Place}
-use Rattle.flow.specs.declared.Place.the-variants.{Node, Past}
+use Rattle.flow.specs.declared.Found.{Found}
+use Rattle.flow.specs.declared.Found.the-variants.{At, Nothing}
 use Rattle.flow.specs.Sheet.{all, startOf, useWords, useSpans, localOf, useKindOf}
 use Rattle.flow.specs.Graph.{graph}
 use Rattle.flow.specs.Reachable.{nodeAt}
-use Rattle.flow.specs.Findings.{Use, localAt, isInClosure, nodeOf, found, onlyIf, usesFrom, usesOf, allFound, Meeting, noUse, aRead, aPureWrite, meeting, firstAt, isNoUse, isARead, isAPureWrite, isRead, isWrite, orElse}
+use Rattle.flow.specs.Findings.{Use, localAt, isInClosure, nodeOf, isFound, onlyIf, usesFrom, usesOf, allFound, Meeting, noUse, aRead, aPureWrite, meeting, firstAt, isNoUse, isARead, isAPureWrite, isRead, isWrite, orElse}
 use Rattle.flow.specs.Demand.{useWord, useSpan, Own, OwnAt, AtNode, AllFound, PureWrite, IsRead, IsWrite}
 use Rattle.flow.proofs.Laws.{Next, next-split, next-unique, next-here, next-skip, next-past, and-law, or-map, eqb-law, mem-append, mem-one, mem-only}
 
@@ -72,9 +72,9 @@ module _ (S U : List ℕ) (ℓ : ℕ) where
 
   -- ---- "whose uses all find a node"
 
-  found-law : (p : Place) → (found p ≡ true) ↔ ((v : ℕ) × (p ≡ Node v))
-  found-law (Node v) = (λ e. (v, refl), λ q. refl)
-  found-law Past = (λ e. absurd (false≢true e), λ q. ap found (q .1))
+  found-law : (f : Found) → (isFound f ≡ true) ↔ ((v : ℕ) × (f ≡ At v))
+  found-law (At v) = (λ e. (v, refl), λ q. refl)
+  found-law Nothing = (λ e. absurd (false≢true e), λ q. ap isFound (q .1))
 
   found-from : {k : ℕ} {us : List Use} → From S U ℓ k us → (allFound us ≡ true) ↔ ((u : ℕ) → k ≤ u → Own U ℓ u → (v : ℕ) × AtNode S U u v)
   unfolding allFound all
@@ -93,7 +93,7 @@ pub data FirstIs (S U : List ℕ) (ℓ v k : ℕ) (r : Meeting) : Type 0 where
 
 module _ (S U : List ℕ) (ℓ : ℕ) (all : AllFound S U ℓ) where
   pub own-at : (u v : ℕ) → Own U ℓ u → nodeNum S U u ≡ v → OwnAt S U ℓ v u
-  own-at u v o e = let f = all u o in record { own = o; atNode = f .1 ∙ ap Node (sym (ap nodeOf (f .1)) ∙ e) }
+  own-at u v o e = let f = all u o in record { own = o; atNode = f .1 ∙ ap At (sym (ap nodeOf (f .1)) ∙ e) }
 
   pub first-is : (v : ℕ) {k : ℕ} {us : List Use} → From S U ℓ k us → FirstIs S U ℓ v k (firstAt v us)
   unfolding firstAt

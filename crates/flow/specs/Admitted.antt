@@ -6,7 +6,6 @@ use mathlib.Core.List.{List, [], _∷_, _++_}
 use Prim.Native.Nat.{ℕ, _+_, _*_, _^_, _≤_, _<_}
 use lib.ListN.{length, getD, drop}
 use lib.Dec.{eqb}
-use Rattle.flow.specs.declared.Bench.{Bench}
 use Rattle.flow.specs.declared.Verdict.the-variants.{Admitted}
 use Rattle.flow.specs.Sheet.{Item, kind, count, outerEnd, items, kindWords, spanWords, together, kindOf, endOf, useWords, useSpans, localOf, useKindOf}
 use Rattle.flow.specs.Kinds.{kinds, itemFits, isCode}
@@ -67,13 +66,7 @@ pub record AdmittedSheet (S : List ℕ) : Type 0 where
   pub fewNames : length (graph S .names .span) ≤ 1024
   pub allNames : length (graph S .names .span) ≡ length (locals S)
 
--- the same of a bench and of a use sheet, for the calls that take them
-pub record AdmittedChart (b : Bench) (S : List ℕ) : Type 0 where
-  pub sheet : sheetVerdict S ≡ Admitted
-  pub nodes : 1600 ≤ b .nodes
-  pub codes : 1024 ≤ b .codes
-  pub locals : 1024 ≤ b .locals
-
+-- the same of a use sheet
 pub record AdmittedUses (S U : List ℕ) : Type 0 where
   pub words : length U ≡ 2 * count U + 1
   pub few : count U ≤ 1024
@@ -83,7 +76,8 @@ pub record AdmittedUses (S U : List ℕ) : Type 0 where
   pub known : (u : ℕ) → u < count U → localOf (getD (useWords U) u 0) < nameCount (items S)
   pub kinds : (u : ℕ) → u < count U → useKindOf (getD (useWords U) u 0) ≤ 2
 
-pub record AdmittedJudge (b : Bench) (S U : List ℕ) : Type 0 where
-  pub chart : AdmittedChart b S
-  pub findings : 3072 ≤ b .findings
+-- what the verdict of a pair shows
+pub record AdmittedPair (short : Bool) (S U : List ℕ) : Type 0 where
+  pub enough : short ≡ false
+  pub sheet : sheetVerdict false S ≡ Admitted
   pub uses : AdmittedUses S U

@@ -6,7 +6,7 @@ use mathlib.Core.Bool.{true}
 use mathlib.Core.List.{List, [], _∷_}
 use Prim.Native.Nat.{ℕ, _+_, _-_, _/_, _%_, _^_, _<_, min}
 use lib.ListN.{length, getD}
-use Rattle.flow.specs.declared.Place.the-variants.{Node}
+use Rattle.flow.specs.declared.Found.the-variants.{At}
 use Rattle.flow.specs.Sheet.{useWords, useSpans, localOf, useKindOf, startOf}
 use Rattle.flow.specs.Graph.{graph}
 use Rattle.flow.specs.Reachable.{nodeAt}
@@ -39,7 +39,7 @@ InClosure S U ℓ u = isInClosure (localAt S ℓ) (useWord U u) ≡ true
 
 -- "A use's node is that of its span's start."
 abbrev pub AtNode : List ℕ → List ℕ → ℕ → ℕ → Type 0
-AtNode S U u v = nodeAt (graph S) (startOf (useSpan U u)) ≡ Node v
+AtNode S U u v = nodeAt (graph S) (startOf (useSpan U u)) ≡ At v
 
 -- "whose uses all find a node"
 abbrev pub AllFound : List ℕ → List ℕ → ℕ → Type 0
@@ -131,12 +131,12 @@ Before [] ys = ⊥
 Before (x ∷ xs) [] = ⊥
 Before (x ∷ xs) (y ∷ ys) = (x < y) ⊎ ((x ≡ y) × Before xs ys)
 
--- "Nothing else is listed for any local": an entry has the form of one of the three; that it is rightly there, the three say from left to right
-abbrev pub Named : List ℕ → List ℕ → ℕ → ℕ → Type 0
-Named S U word span =
-    ((ℓ : ℕ) × (u : ℕ) × (ℓ < length (locals S)) × (word ≡ findingWord 0 ℓ (u + 1)) × (span ≡ useSpan U u))
-    ⊎ (((ℓ : ℕ) × (w : ℕ) × (ℓ < length (locals S)) × (word ≡ findingWord 1 ℓ (w + 1)) × (span ≡ useSpan U w))
-    ⊎ ((ℓ : ℕ) × (ℓ < length (locals S)) × (word ≡ findingWord 1 ℓ 0) × (span ≡ getD (graph S .names .span) ℓ 0)))
+-- "Nothing else is listed for any local": an entry is one of the three, and is rightly there
+abbrev pub Entry : List ℕ → List ℕ → ℕ → ℕ → Type 0
+Entry S U word span =
+    ((ℓ : ℕ) × (u : ℕ) × (ℓ < length (locals S)) × (word ≡ findingWord 0 ℓ (u + 1)) × (span ≡ useSpan U u) × Unassigned S U ℓ u)
+    ⊎ (((ℓ : ℕ) × (w : ℕ) × (ℓ < length (locals S)) × (word ≡ findingWord 1 ℓ (w + 1)) × (span ≡ useSpan U w) × Overwritten S U ℓ w)
+    ⊎ ((ℓ : ℕ) × (ℓ < length (locals S)) × (word ≡ findingWord 1 ℓ 0) × (span ≡ getD (graph S .names .span) ℓ 0) × OverwrittenInitial S U ℓ))
 
 -- Demand 3: what stands among the written findings, nothing else, and each once in 01's order
 pub record Demand3 (S U words spans : List ℕ) : Type 0 where
@@ -144,5 +144,5 @@ pub record Demand3 (S U words spans : List ℕ) : Type 0 where
   pub overwritten : (ℓ w : ℕ) → ℓ < length (locals S) → Listed words spans (findingWord 1 ℓ (w + 1)) (useSpan U w) ↔ Overwritten S U ℓ w
   pub initial : (ℓ : ℕ) → ℓ < length (locals S) → Listed words spans (findingWord 1 ℓ 0) (getD (graph S .names .span) ℓ 0) ↔ OverwrittenInitial S U ℓ
   pub asMany : length spans ≡ length words
-  pub nothingElse : (i : ℕ) → i < length words → Named S U (getD words i 0) (getD spans i 0)
+  pub nothingElse : (i : ℕ) → i < length words → Entry S U (getD words i 0) (getD spans i 0)
   pub rising : (i j : ℕ) → i < j → j < length words → Before (order S U (getD words i 0)) (order S U (getD words j 0))

@@ -6,16 +6,12 @@ use Prim.Native.Nat.{ℕ, zero, suc, _+_, _*_, _/_, _%_, _^_}
 use lib.ListN.{length, getD}
 use lib.Dec.{eqb, leb, ltb}
 use Rattle.search.specs.Search.{closure, keep}
-use Rattle.flow.specs.declared.Place.{Place}
-use Rattle.flow.specs.declared.Place.the-variants.{Node, Past}
-use Rattle.flow.specs.declared.Bench.{Bench}
-use Rattle.flow.specs.declared.Verdict.{Verdict}
-use Rattle.flow.specs.declared.Verdict.the-variants.{Admitted, Refused}
-use Rattle.flow.specs.declared.JudgeAnswer.{JudgeAnswer}
-use Rattle.flow.specs.declared.JudgeAnswer.the-variants.{Judged, Refused as JudgeRefused}
+use Rattle.flow.specs.declared.Found.{Found}
+use Rattle.flow.specs.declared.Found.the-variants.{At, Nothing}
 use Rattle.flow.specs.Sheet.{Item, kind, oneOf, all, items, argumentOf, startOf, useWords, useSpans, localOf, useKindOf, crossingOf}
 use Rattle.flow.specs.Kinds.{kinds}
-use Rattle.flow.specs.Refusals.{judgeVerdict}
+use Rattle.flow.specs.Refusals.{pairVerdict}
+use Rattle.flow.specs.Answers.{Told, tells, countValues}
 use Rattle.flow.specs.Graph.{Graph, nodeCount, graph}
 use Rattle.flow.specs.Reachable.{successors, nodeAt, countsOf}
 open record kinds using (LOCAL, NAME)
@@ -64,14 +60,14 @@ tracked l = not (underscore l) && (noValue l || writesJudged l)
 
 -- a use of a local, with its number and the node of its span's start
 abbrev pub Use : Type 0
-Use = record { number : ℕ; span : ℕ; kind : ℕ; inClosure : Bool; place : Place }
+Use = record { number : ℕ; span : ℕ; kind : ℕ; inClosure : Bool; place : Found }
 
 -- 0 where there is none, which `allFound` rules out
-abbrev pub nodeOf : Place → ℕ
-nodeOf p = elim p [ Node v ↦ v | Past ↦ 0 ]
+abbrev pub nodeOf : Found → ℕ
+nodeOf f = elim f [ At v ↦ v | Nothing ↦ 0 ]
 
-abbrev pub found : Place → Bool
-found p = elim p [ Node v ↦ true | Past ↦ false ]
+abbrev pub isFound : Found → Bool
+isFound f = elim f [ At v ↦ true | Nothing ↦ false ]
 
 abbrev pub node : Use → ℕ
 node u = nodeOf (u .place)
@@ -97,7 +93,7 @@ usesFrom g l ℓ k (w ∷ ws) ss =
 
 -- "A local with a use that finds no node yields nothing."
 unfoldable pub allFound : List Use → Bool
-allFound us = all (λ u. found (u .place)) us
+allFound us = all (λ u. isFound (u .place)) us
 
 -- a local's declaration: "A local's declaration is its LOCAL", at its node; and its scope end
 abbrev pub Declaration : Type 0
@@ -251,8 +247,6 @@ wordsOf = map (λ f. f .word)
 abbrev pub spansOf : List Finding → List ℕ
 spansOf = map (λ f. f .span)
 
-abbrev pub judgeAnswer : Verdict → Graph → List Finding → JudgeAnswer
-judgeAnswer v g fs = elim v [ Refused r ↦ JudgeRefused r | Admitted ↦ Judged (countsOf g) (length fs) ]
-
-unfoldable pub judge : Bench → List ℕ → List ℕ → JudgeAnswer
-judge b ws us = judgeAnswer (judgeVerdict b ws us) (graph ws) (findings ws us)
+-- judge's number and values, where `short` says whether a lent column is too short: the three counts, "then the findings and their count"
+unfoldable pub judge : Bool → List ℕ → List ℕ → Told
+judge short ws us = tells (pairVerdict short ws us) (countValues (countsOf (graph ws)) ++ (length (findings ws us) ∷ []))

@@ -3,17 +3,14 @@
 -- No label twice in one block: section 3.3.4 of 5.2 does not say it, and the compilers of 5.2 and later refuse it. The section on goto of 5.4, by request C-16's account of it, forbids even a name that a label of an enclosing block has.
 -- That no goto enters the scope of a local, and 5.4's ban on a name that an enclosing block's label has, come with request C-16. 5.1 and Luau have no goto.
 -- Assumes nothing: these are definitions.
-use mathlib.Core.Bool.{Bool, true, cond, _&&_, _||_, not}
+use mathlib.Core.Bool.{Bool, true, false, _&&_, _||_, not}
 use mathlib.Core.List.{List, [], _∷_, _++_}
 use Prim.Native.Nat.{ℕ}
 use lib.Dec.{eqb}
-use Rattle.flow.specs.declared.Verdict.{Verdict}
-use Rattle.flow.specs.declared.Verdict.the-variants.{Admitted, Refused}
-use Rattle.flow.specs.declared.LabelAnswer.{LabelAnswer}
-use Rattle.flow.specs.declared.LabelAnswer.the-variants.{Yes, No, Refused as LabelRefused}
 use Rattle.flow.specs.Sheet.{items, oneOf, kindOf, argumentOf}
 use Rattle.flow.specs.Kinds.{kinds}
-use Rattle.flow.specs.Refusals.{sheetVerdict}
+use Rattle.flow.specs.Refusals.{one, sheetVerdict}
+use Rattle.flow.specs.Answers.{Told, tells}
 use Rattle.flow.specs.Tree.{Stmt, Block, Arms, simple, do-block, while-loop, repeat-loop, for-loop, if-stmt, done, then, no-more, elseif, otherwise, tree, labelsOf}
 open record kinds using (GOTO)
 
@@ -46,8 +43,6 @@ labelsFine ws =
     let b : Block = tree (items ws) in
     distinct (labelsOf b) && blockFine b (labelsOf b)
 
-abbrev pub labelAnswer : Verdict → Bool → LabelAnswer
-labelAnswer v fine = elim v [ Refused r ↦ LabelRefused r | Admitted ↦ cond fine Yes No ]
-
-unfoldable pub labelCheck : List ℕ → LabelAnswer
-labelCheck ws = labelAnswer (sheetVerdict ws) (labelsFine ws)
+-- the label check's number and value
+unfoldable pub labelCheck : List ℕ → Told
+labelCheck ws = tells (sheetVerdict false ws) (one (labelsFine ws) ∷ [])

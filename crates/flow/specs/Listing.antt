@@ -1,22 +1,19 @@
 -- 01, "The printed sheet": what flowlist prints, as bytes.
 -- Assumes nothing: these are definitions.
-use mathlib.Core.Bool.{cond}
+use mathlib.Core.Bool.{false, cond}
 use mathlib.Core.List.{List, [], _∷_, _++_}
 use Prim.Native.Nat.{ℕ, zero, suc, _+_, _*_, _-_, _/_, _%_, _^_}
 use Prim.Native.String.{String, len, charAt}
 use Prim.Native.Char.{code}
 use lib.ListN.{length, take, drop, getD}
 use lib.Dec.{eqb, ltb}
-use Rattle.flow.specs.declared.Refusal.{Refusal}
 use Rattle.flow.specs.declared.Refusal.the-variants.{Miscount}
-use Rattle.flow.specs.declared.Bench.{Bench}
-use Rattle.flow.specs.declared.Verdict.{Verdict}
-use Rattle.flow.specs.declared.Verdict.the-variants.{Admitted, Refused}
 use Rattle.flow.specs.Sheet.{count, startOf, endOf}
-use Rattle.flow.specs.Refusals.{number, judgeVerdict}
-use Rattle.flow.specs.Graph.{Graph, nodeCount, graph}
+use Rattle.flow.specs.Refusals.{number}
+use Rattle.flow.specs.Answers.{Told}
+use Rattle.flow.specs.Graph.{graph}
 use Rattle.flow.specs.Reachable.{reachable}
-use Rattle.flow.specs.Findings.{Finding, findings}
+use Rattle.flow.specs.Findings.{Finding, findings, judge}
 
 -- the bytes of a text, of which the first k
 abbrev pub firstBytes : ℕ → String → List ℕ
@@ -54,18 +51,17 @@ unfoldable pub findingLines : List Finding → List ℕ
 findingLines [] = []
 findingLines (f ∷ fs) = findingLine f ++ findingLines fs
 
--- "`graph NODES CODES LOCALS`, `exits` with five 0/1 flags", then the findings
-unfoldable pub report : Graph → List Finding → List ℕ
-report g fs =
-    line "graph" (nodeCount g ∷ length (g .codes .span) ∷ length (g .names .span) ∷ [])
-    ++ line "exits" (take 5 (reachable g)) ++ findingLines fs
+-- "`graph NODES CODES LOCALS`, `exits` with five 0/1 flags", then the findings: by judge's values, the reachable flags and the findings
+unfoldable pub report : List ℕ → List ℕ → List Finding → List ℕ
+report values flags fs = line "graph" (take 3 values) ++ line "exits" (take 5 flags) ++ findingLines fs
 
 -- "It prints `refused K` alone"
-abbrev pub refused : Refusal → List ℕ
-refused r = line "refused" (number r ∷ [])
+abbrev pub refused : ℕ → List ℕ
+refused k = line "refused" (k ∷ [])
 
-abbrev pub printedFor : Verdict → List ℕ → List ℕ
-printedFor v lines = elim v [ Refused r ↦ refused r | Admitted ↦ lines ]
+-- what judge tells, printed
+abbrev pub printedFor : Told → List ℕ → List Finding → List ℕ
+printedFor t flags fs = cond (eqb (t .number) 0) (report (t .values) flags fs) (refused (t .number))
 
 -- "In a file words are little-endian."
 unfoldable pub littleEndian : ℕ → List ℕ → ℕ
@@ -77,17 +73,13 @@ unfoldable pub fileWords : ℕ → List ℕ → List ℕ
 fileWords zero bs = []
 fileWords (suc k) bs = littleEndian 8 bs ∷ fileWords k (drop 8 bs)
 
--- room enough, so that 1 is never printed
-abbrev pub ownBench : Bench
-ownBench = record { nodes = 1600; codes = 1024; locals = 1024; findings = 3072 }
-
--- a sheet of 2n + 2 words, and a use sheet of all others
+-- a sheet of 2n + 2 words, and a use sheet of all others; the program's own columns are long enough, so that 1 is never printed
 unfoldable pub printedWords : List ℕ → List ℕ
 printedWords ws =
     let S : List ℕ = take (2 * count ws + 2) ws in
     let U : List ℕ = drop (2 * count ws + 2) ws in
-    printedFor (judgeVerdict ownBench S U) (report (graph S) (findings S U))
+    printedFor (judge false S U) (reachable (graph S)) (findings S U)
 
 -- "K is 2 for lost or spare bytes"
 unfoldable pub printed : List ℕ → List ℕ
-printed bs = cond (eqb (length bs % 8) 0) (printedWords (fileWords (length bs / 8) bs)) (refused Miscount)
+printed bs = cond (eqb (length bs % 8) 0) (printedWords (fileWords (length bs / 8) bs)) (refused (number Miscount))

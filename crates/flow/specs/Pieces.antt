@@ -7,19 +7,19 @@ use Prim.Native.Nat.{ℕ, _+_, _*_, _^_}
 use Prim.Native.String.{String}
 use lib.ListN.{length, getD}
 use lib.Dec.{eqb}
-use Rattle.flow.specs.declared.Place.{Place}
-use Rattle.flow.specs.declared.Place.the-variants.{Node, Past}
+use Rattle.flow.specs.declared.Found.{Found}
+use Rattle.flow.specs.declared.Found.the-variants.{At, Nothing}
 use Rattle.flow.specs.declared.Verdict.{Verdict}
 use Rattle.flow.specs.declared.Verdict.the-variants.{Admitted, Refused}
 use Rattle.search.specs.Search.{closure}
 use Rattle.flow.specs.Sheet.{all, Item}
 use Rattle.flow.specs.Kinds.{kinds, argumentFits, itemFits, isCode, literalTruth}
-use Rattle.flow.specs.Refusals.{judgeVerdict, chartBenchTooSmall, judgeBenchTooSmall, miscount, badItem, outnumbered, tooDeep, mayStand, openAfter, pairsUp, besideEachOther, sideBySide, badNesting, inLine, scopesAfter, held, offTheLine, nameFits, namesFit, badName, nameCount, useFits, usesFit, badUse, lowest, sheetTests}
+use Rattle.flow.specs.Refusals.{pairVerdict, miscount, badItem, outnumbered, tooDeep, mayStand, openAfter, pairsUp, besideEachOther, sideBySide, badNesting, inLine, scopesAfter, held, offTheLine, nameFits, namesFit, badName, nameCount, useFits, usesFit, badUse, firstApplying, itemTests, pairTests}
 use Rattle.flow.specs.Graph.{nodeCount, graph, newNode, connect, moveTo, advanceTo, recordCode, setStart, code, closeInto, jump, declare, labelNode, simpleStmt, newNodes, withLabels, entered, inside, inLoop, start, outside, buildStmt, buildBlock, buildArms}
 use Rattle.flow.specs.Reachable.{successors, reachable, nodeAt, canRun, nodeAmong}
-use Rattle.flow.specs.Findings.{Finding, findings, localsFrom, locals, noValue, writesJudged, tracked, isInClosure, usesFrom, allFound, isAliveAt, afterWrites, liveAfterWrites, isEmptyRead, firstEmptyRead, firstAt, meetsHere, comesFrom, meets, ahead, anyFlag, isOverwrittenUnread, isOverwritten, overwrittenAt, overwrittenBelow, firstUnassignedUse, initialOverwritten, writesOverwritten, usesOf, unassignedOf, overwrittenOf, ofEach}
+use Rattle.flow.specs.Findings.{Finding, findings, localsFrom, locals, noValue, writesJudged, tracked, isInClosure, usesFrom, allFound, isAliveAt, afterWrites, liveAfterWrites, isEmptyRead, firstEmptyRead, firstAt, meetsHere, comesFrom, meets, ahead, anyFlag, isOverwrittenUnread, isOverwritten, overwrittenAt, overwrittenBelow, firstUnassignedUse, initialOverwritten, writesOverwritten, usesOf, unassignedOf, overwrittenOf, ofEach, judge}
 use Rattle.flow.specs.Tree.{inFront, opened, read, parse, tree, labelsOf}
-use Rattle.flow.specs.Listing.{bytes, printedWords, ownBench, digits, numbers, findingLine, findingLines, report}
+use Rattle.flow.specs.Listing.{bytes, printedWords, digits, numbers, findingLine, findingLines, report}
 open record kinds using (WHILE, REPEAT, IF, END, UNTIL, LOCAL, NAME, LABEL, GOTO, DO, CALL, PLAIN)
 
 -- an item of a kind, an argument, a start and an end; a scoped item's argument is its condition + 32 × its scope end
@@ -44,7 +44,7 @@ pub data Fact : Type 0 where
   nodes : ℕ → Fact
   edges : ℕ → List ℕ → Fact
   reached : ℕ → ℕ → Fact
-  offset : ℕ → Place → Bool → Fact
+  offset : ℕ → Found → Bool → Fact
   lists : List Finding → Fact
   prints : String → Fact
 
@@ -54,11 +54,11 @@ sameList [] (y ∷ ys) = false
 sameList (x ∷ xs) [] = false
 sameList (x ∷ xs) (y ∷ ys) = eqb x y && sameList xs ys
 
-abbrev pub samePlace : Place → Place → Bool
-samePlace (Node v) (Node w) = eqb v w
-samePlace (Node v) Past = false
-samePlace Past (Node w) = false
-samePlace Past Past = true
+abbrev pub sameFound : Found → Found → Bool
+sameFound (At v) (At w) = eqb v w
+sameFound (At v) Nothing = false
+sameFound Nothing (At w) = false
+sameFound Nothing Nothing = true
 
 abbrev pub sameBool : Bool → Bool → Bool
 sameBool true b = b
@@ -71,7 +71,7 @@ abbrev pub holds : List ℕ → List ℕ → Fact → Bool
 holds S U (nodes n) = eqb (nodeCount (graph S)) n
 holds S U (edges v vs) = sameList (successors (graph S) v) vs
 holds S U (reached v f) = eqb (getD (reachable (graph S)) v 0) f
-holds S U (offset o p r) = samePlace (nodeAt (graph S) o) p && sameBool (canRun (graph S) (nodeAt (graph S) o)) r
+holds S U (offset o p r) = sameFound (nodeAt (graph S) o) p && sameBool (canRun (graph S) (nodeAt (graph S) o)) r
 holds S U (lists fs) = sameList (flat (findings S U)) (flat fs)
 holds S U (prints t) = sameList (printedWords (S ++ U)) (bytes t)
 
@@ -90,10 +90,23 @@ every S U (f ∷ fs) = holds S U f && every S U fs
 
 abbrev pub allHold : List Piece → Bool
 allHold [] = true
-allHold (p ∷ ps) = isAdmitted (judgeVerdict ownBench (p .sheetOf) (p .usesOf)) && every (p .sheetOf) (p .usesOf) (p .facts) && allHold ps
+allHold (p ∷ ps) = isAdmitted (pairVerdict false (p .sheetOf) (p .usesOf)) && every (p .sheetOf) (p .usesOf) (p .facts) && allHold ps
 
 abbrev pub printedSheet : List ℕ
 printedSheet = sheet 22 (item LOCAL 1 0 9 ∷ item NAME 2 6 7 ∷ item PLAIN 0 10 13 ∷ item CALL 0 14 22 ∷ [])
+
+abbrev pub printedUses : List ℕ
+printedUses = uses (use0 1 10 11 ∷ use0 0 20 21 ∷ [])
+
+-- "n 4, end 22; first array 266, 523, 18, 17; spans 0-9, 6-7, 10-13, 14-22; uses 65,536 at 10-11 and 0 at 20-21"
+abbrev pub from : ℕ → ℕ → ℕ
+from s e = s + 2 ^ 32 * e
+
+pub printed-sheet-words : printedSheet ≡ 4 ∷ 22 ∷ 266 ∷ 523 ∷ 18 ∷ 17 ∷ from 0 9 ∷ from 6 7 ∷ from 10 13 ∷ from 14 22 ∷ []
+printed-sheet-words = refl
+
+pub printed-use-words : printedUses ≡ 2 ∷ 65536 ∷ 0 ∷ from 10 11 ∷ from 20 21 ∷ []
+printed-use-words = refl
 
 -- the starred pieces, in 01's order
 unfoldable pub starred : List Piece
@@ -101,8 +114,8 @@ starred =
     record { sheetOf = sheet 0 []; usesOf = uses []; facts = nodes 6 ∷ edges 5 (0 ∷ []) ∷ [] }
     ∷ record {
       sheetOf = printedSheet;
-      usesOf = uses (use0 1 10 11 ∷ use0 0 20 21 ∷ []);
-      facts = prints "graph 9 3 1\nexits 1 0 0 0 0\noverwritten 0 6 7\n" ∷ offset 8 (Node 6) true ∷ offset 9 (Node 7) true ∷ offset 22 Past true ∷ [];
+      usesOf = printedUses;
+      facts = prints "graph 9 3 1\nexits 1 0 0 0 0\noverwritten 0 6 7\n" ∷ lists (record { word = 1; span = 6 + 2 ^ 32 * 7 } ∷ []) ∷ offset 8 (At 6) true ∷ offset 9 (At 7) true ∷ offset 22 Nothing true ∷ [];
     }
     ∷ record {
       sheetOf = sheet 30 (item WHILE (scoped 1 20) 0 11 ∷ item PLAIN 0 12 15 ∷ item END 0 0 0 ∷ []);
@@ -155,5 +168,5 @@ slips =
     ∷ []
 
 pub pieces-hold : allHold (starred ++ slips) ≡ true
-unfolding starred slips closure argumentFits itemFits isCode literalTruth chartBenchTooSmall judgeBenchTooSmall miscount all badItem outnumbered tooDeep mayStand openAfter pairsUp besideEachOther sideBySide badNesting inLine scopesAfter held offTheLine nameFits namesFit badName nameCount useFits usesFit badUse lowest sheetTests judgeVerdict inFront opened read parse tree labelsOf newNode connect moveTo advanceTo recordCode setStart code closeInto jump declare labelNode simpleStmt newNodes withLabels entered inside inLoop start outside graph buildStmt buildBlock buildArms reachable nodeAmong nodeAt canRun localsFrom locals noValue writesJudged tracked isInClosure usesFrom allFound isAliveAt afterWrites liveAfterWrites isEmptyRead firstEmptyRead firstAt meetsHere comesFrom meets ahead anyFlag isOverwrittenUnread isOverwritten overwrittenAt overwrittenBelow firstUnassignedUse initialOverwritten writesOverwritten usesOf unassignedOf overwrittenOf ofEach findings digits numbers findingLine findingLines report printedWords
+unfolding starred slips closure argumentFits itemFits isCode literalTruth miscount all badItem outnumbered tooDeep mayStand openAfter pairsUp besideEachOther sideBySide badNesting inLine scopesAfter held offTheLine nameFits namesFit badName nameCount useFits usesFit badUse firstApplying itemTests pairTests pairVerdict inFront opened read parse tree labelsOf newNode connect moveTo advanceTo recordCode setStart code closeInto jump declare labelNode simpleStmt newNodes withLabels entered inside inLoop start outside graph buildStmt buildBlock buildArms reachable nodeAmong nodeAt canRun localsFrom locals noValue writesJudged tracked isInClosure usesFrom allFound isAliveAt afterWrites liveAfterWrites isEmptyRead firstEmptyRead firstAt meetsHere comesFrom meets ahead anyFlag isOverwrittenUnread isOverwritten overwrittenAt overwrittenBelow firstUnassignedUse initialOverwritten writesOverwritten usesOf unassignedOf overwrittenOf ofEach findings judge digits numbers findingLine findingLines report printedWords
 pieces-hold = refl

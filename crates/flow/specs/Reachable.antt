@@ -1,23 +1,19 @@
 -- 01, "From items to edges", its last paragraph: reachability, the node of an offset, and what run and chart answer.
 -- Assumes nothing: these are definitions.
-use mathlib.Core.Bool.{Bool, true, cond}
+use mathlib.Core.Path.{_≡_}
+use mathlib.Core.Logic.{_↔_}
+use mathlib.Core.Bool.{Bool, true, false, cond}
 use mathlib.Core.List.{List, [], _∷_, tail}
-use Prim.Native.Nat.{ℕ}
+use Prim.Native.Nat.{ℕ, _≤_, _<_}
 use lib.ListN.{length, getD}
 use lib.Dec.{eqb, ltb}
 use Rattle.search.specs.Search.{Reach, closure, keep}
-use Rattle.flow.specs.declared.Place.{Place}
-use Rattle.flow.specs.declared.Place.the-variants.{Node, Past}
-use Rattle.flow.specs.declared.Bench.{Bench}
-use Rattle.flow.specs.declared.Verdict.{Verdict}
-use Rattle.flow.specs.declared.Verdict.the-variants.{Admitted, Refused}
+use Rattle.flow.specs.declared.Found.{Found}
+use Rattle.flow.specs.declared.Found.the-variants.{At, Nothing}
 use Rattle.flow.specs.declared.Counts.{Counts}
-use Rattle.flow.specs.declared.ChartAnswer.{ChartAnswer}
-use Rattle.flow.specs.declared.ChartAnswer.the-variants.{Charted, Refused as ChartRefused}
-use Rattle.flow.specs.declared.RunAnswer.{RunAnswer}
-use Rattle.flow.specs.declared.RunAnswer.the-variants.{Ran, Refused as RunRefused}
 use Rattle.flow.specs.Sheet.{endOf}
-use Rattle.flow.specs.Refusals.{sheetVerdict, chartVerdict}
+use Rattle.flow.specs.Refusals.{one, sheetVerdict}
+use Rattle.flow.specs.Answers.{Told, tells, foundValues, countValues}
 use Rattle.flow.specs.Graph.{Graph, nodeCount, entry, graph}
 
 -- the edges of a node: its successors that are nodes, which `absent` is not
@@ -28,34 +24,47 @@ successors g u = keep (λ v. ltb v (nodeCount g)) (getD (g .nodes .first) u 0 �
 abbrev pub Reachable : Graph → ℕ → Type 0
 Reachable g = Reach (entry ∷ []) (successors g)
 
--- "a reachable flag 0 or 1" for each node; `proofs/Flags.antt` shows that it is 1 exactly where `Reachable` holds
+-- "a reachable flag 0 or 1", of each node: 1 exactly where a path from the entry leads
+pub record Flagged (g : Graph) (flags : List ℕ) : Type 0 where
+  pub bit : (v : ℕ) → v < nodeCount g → getD flags v 0 ≤ 1
+  pub exactly : (v : ℕ) → v < nodeCount g → (getD flags v 0 ≡ 1) ↔ Reachable g v
+
+-- the flags, computed; `proofs/Flags.antt` shows that they are `Flagged`
 unfoldable pub reachable : Graph → List ℕ
 reachable g = closure (entry ∷ []) (successors g) (nodeCount g)
 
 -- "The node of an offset is that of the first code whose end is greater than the offset."
-unfoldable pub nodeAmong : List ℕ → List ℕ → ℕ → Place
-nodeAmong [] vs o = Past
-nodeAmong (s ∷ ss) vs o = cond (ltb o (endOf s)) (Node (getD vs 0 0)) (nodeAmong ss (tail vs) o)
+unfoldable pub nodeAmong : List ℕ → List ℕ → ℕ → Found
+nodeAmong [] vs o = Nothing
+nodeAmong (s ∷ ss) vs o = cond (ltb o (endOf s)) (At (getD vs 0 0)) (nodeAmong ss (tail vs) o)
 
-unfoldable pub nodeAt : Graph → ℕ → Place
+unfoldable pub nodeAt : Graph → ℕ → Found
 nodeAt g o = nodeAmong (g .codes .span) (g .codes .node) o
 
--- "yes exactly when there is none or the node is reachable"
-unfoldable pub canRun : Graph → Place → Bool
-canRun g p = elim p [ Node v ↦ eqb (getD (reachable g) v 0) 1 | Past ↦ true ]
+-- "yes exactly when there is none or the node is reachable": over paths, and computed
+abbrev pub CanRun : Graph → Found → Type 0
+CanRun g f = elim f [ At v ↦ Reachable g v | Nothing ↦ Unit {0} ]
 
-abbrev pub runAnswer : Verdict → Graph → ℕ → RunAnswer
-runAnswer v g o = elim v [ Refused r ↦ RunRefused r | Admitted ↦ Ran (nodeAt g o) (canRun g (nodeAt g o)) ]
+unfoldable pub canRun : Graph → Found → Bool
+canRun g f = elim f [ At v ↦ eqb (getD (reachable g) v 0) 1 | Nothing ↦ true ]
 
-unfoldable pub run : List ℕ → ℕ → RunAnswer
-run ws o = runAnswer (sheetVerdict ws) (graph ws) o
+-- "Run takes a 32-bit offset and gives that node or none, and yes": its number and values
+unfoldable pub run : List ℕ → ℕ → Told
+run ws o = tells (sheetVerdict false ws) (one (canRun (graph ws) (nodeAt (graph ws) o)) ∷ foundValues (nodeAt (graph ws) o))
 
 -- "and returns the three counts"
 abbrev pub countsOf : Graph → Counts
 countsOf g = record { nodes = nodeCount g; codes = length (g .codes .span); names = length (g .names .span) }
 
-abbrev pub chartAnswer : Verdict → Graph → ChartAnswer
-chartAnswer v g = elim v [ Refused r ↦ ChartRefused r | Admitted ↦ Charted (countsOf g) ]
+-- chart's number and values, where `short` says whether a lent column is too short
+unfoldable pub chart : Bool → List ℕ → Told
+chart short ws = tells (sheetVerdict short ws) (countValues (countsOf (graph ws)))
 
-unfoldable pub chart : Bench → List ℕ → ChartAnswer
-chart b ws = chartAnswer (chartVerdict b ws) (graph ws)
+-- the parallel columns of a chart: those of one count are equally long
+pub record Parallel (g : Graph) : Type 0 where
+  pub seconds : length (g .nodes .second) ≡ nodeCount g
+  pub starts : length (g .nodes .start) ≡ nodeCount g
+  pub flags : length (reachable g) ≡ nodeCount g
+  pub codeNodes : length (g .codes .node) ≡ length (g .codes .span)
+  pub nameNodes : length (g .names .node) ≡ length (g .names .span)
+  pub nameEnds : length (g .names .scopeEnd) ≡ length (g .names .span)

@@ -1,11 +1,10 @@
--- 01, "Turned back": each refusal as one test of the input, and the lowest that applies, for each call.
+-- 01, "Turned back": each refusal as one test of the input, and the first that applies in the order of precedence: one verdict for the calls that take a sheet, one for those that take a pair.
 -- Assumes nothing: these are definitions.
 use mathlib.Core.Bool.{Bool, true, cond, _&&_, _||_, not}
-use mathlib.Core.List.{List, [], _∷_, tail}
+use mathlib.Core.List.{List, [], _∷_, _++_, tail}
 use Prim.Native.Nat.{ℕ, _+_, _*_, _/_, _^_}
 use lib.ListN.{length, getD}
 use lib.Dec.{eqb, leb, ltb}
-use Rattle.flow.specs.declared.Bench.{Bench}
 use Rattle.flow.specs.declared.Refusal.{Refusal}
 use Rattle.flow.specs.declared.Refusal.the-variants.{BenchTooSmall, Miscount, BadItem, TooDeep, BadNesting, OffTheLine, BadName, BadUse}
 use Rattle.flow.specs.declared.Verdict.{Verdict}
@@ -17,13 +16,6 @@ open record kinds using (REPEAT, IF, ELSEIF, ELSE, END, UNTIL, LOCAL, NAME, CONT
 -- the table's numbers
 abbrev pub number : Refusal → ℕ
 number r = elim r [ BenchTooSmall ↦ 1 | Miscount ↦ 2 | BadItem ↦ 3 | TooDeep ↦ 4 | BadNesting ↦ 5 | OffTheLine ↦ 6 | BadName ↦ 7 | BadUse ↦ 8 ]
-
--- 1: "columns lent below 1,600 nodes, 1,024 codes, 1,024 locals, or (judge) 3,072 findings"
-unfoldable pub chartBenchTooSmall : Bench → Bool
-chartBenchTooSmall b = ltb (b .nodes) 1600 || ltb (b .codes) 1024 || ltb (b .locals) 1024
-
-unfoldable pub judgeBenchTooSmall : Bench → Bool
-judgeBenchTooSmall b = chartBenchTooSmall b || ltb (b .findings) 3072
 
 -- 2: "fewer than 2 words (use sheet: 1), n or m above 1,024, or length not 2n + 2 (2m + 1)", where k words stand before the two arrays
 unfoldable pub miscount : ℕ → List ℕ → Bool
@@ -122,26 +114,29 @@ usesFit names (w ∷ ws) ss = useFits names w (getD ss 0 0) && usesFit names ws 
 unfoldable pub badUse : List ℕ → List ℕ → Bool
 badUse ws us = not (usesFit (nameCount (items ws)) (useWords us) (useSpans us))
 
--- "The lowest number that applies is returned, and no other case refuses": the tests in the order of precedence
+-- "The lowest number that applies is returned, and no other case refuses": the tests in the order of precedence, which is that of their numbers (`proofs/Precedence.antt`)
 abbrev pub Test : Type 0
 Test = Refusal × Bool
 
-unfoldable pub lowest : List Test → Verdict
-lowest [] = Admitted
-lowest (t ∷ ts) = cond (t .1) (Refused (t .0)) (lowest ts)
+unfoldable pub firstApplying : List Test → Verdict
+firstApplying [] = Admitted
+firstApplying (t ∷ ts) = cond (t .1) (Refused (t .0)) (firstApplying ts)
 
 -- 3 to 7, which ask of the sheet alone
-unfoldable pub sheetTests : List ℕ → List Test → List Test
-sheetTests ws rest =
-    (BadItem, badItem ws) ∷ (TooDeep, tooDeep ws) ∷ (BadNesting, badNesting ws) ∷ (OffTheLine, offTheLine ws) ∷ (BadName, badName ws) ∷ rest
+unfoldable pub itemTests : List ℕ → List Test
+itemTests ws = (BadItem, badItem ws) ∷ (TooDeep, tooDeep ws) ∷ (BadNesting, badNesting ws) ∷ (OffTheLine, offTheLine ws) ∷ (BadName, badName ws) ∷ []
 
--- "Run and the label check lend nothing and never give 1; only judge gives 8."
-unfoldable pub sheetVerdict : List ℕ → Verdict
-sheetVerdict ws = lowest ((Miscount, miscount 2 ws) ∷ sheetTests ws [])
+-- of a call that takes a sheet. `short` says whether a column that it is lent is too short: each call's own measure (`specs/Lent.antt` of `chart` and `judge`). "Run and the label check lend nothing and never give 1": for these it is false.
+unfoldable pub sheetTests : Bool → List ℕ → List Test
+sheetTests short ws = (BenchTooSmall, short) ∷ (Miscount, miscount 2 ws) ∷ itemTests ws
 
-unfoldable pub chartVerdict : Bench → List ℕ → Verdict
-chartVerdict b ws = lowest ((BenchTooSmall, chartBenchTooSmall b) ∷ (Miscount, miscount 2 ws) ∷ sheetTests ws [])
+-- of a call that takes a sheet and a use sheet: "only judge gives 8"
+unfoldable pub pairTests : Bool → List ℕ → List ℕ → List Test
+pairTests short ws us = (BenchTooSmall, short) ∷ (Miscount, miscount 2 ws || miscount 1 us) ∷ itemTests ws ++ ((BadUse, badUse ws us) ∷ [])
 
-unfoldable pub judgeVerdict : Bench → List ℕ → List ℕ → Verdict
-judgeVerdict b ws us =
-    lowest ((BenchTooSmall, judgeBenchTooSmall b) ∷ (Miscount, miscount 2 ws || miscount 1 us) ∷ sheetTests ws ((BadUse, badUse ws us) ∷ []))
+-- "Sheets are admitted when none applies to the call that takes them."
+unfoldable pub sheetVerdict : Bool → List ℕ → Verdict
+sheetVerdict short ws = firstApplying (sheetTests short ws)
+
+unfoldable pub pairVerdict : Bool → List ℕ → List ℕ → Verdict
+pairVerdict short ws us = firstApplying (pairTests short ws us)

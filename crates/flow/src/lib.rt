@@ -7,24 +7,10 @@ pub enum Truth {
     Unknown,
 }
 
-// What looking a label up finds: its node.
+// What looking something up finds: the node of a label or of an offset's code, the first use of a kind; or nothing.
 pub enum Found {
     At(usize),
     Nothing,
-}
-
-// What looking an offset up finds: the node of its code, or that it lies past all code.
-pub enum Place {
-    Node(usize),
-    Past,
-}
-
-// How many entries the lent columns hold: the shortest column of each sort. The mark column is one for locals.
-pub struct Bench {
-    pub nodes: usize,
-    pub codes: usize,
-    pub locals: usize,
-    pub findings: usize,
 }
 
 // Why a call is refused.
@@ -58,10 +44,10 @@ pub enum ChartAnswer {
     Charted(Counts),
 }
 
-// What run answers: where the offset lies, and whether its code can run.
+// What run answers: the node of the offset's code, if there is one, and whether that code can run.
 pub enum RunAnswer {
     Refused(Refusal),
-    Ran(Place, bool),
+    Ran(Found, bool),
 }
 
 // What judge answers: a chart's counts, and the number of findings.

@@ -1,87 +1,80 @@
 -- What judge promises, refused and accepted; and columns that are not too short are wide enough.
 -- Assumes nothing.
-use mathlib.Core.Path.{_≡_, refl, sym, ap, _∙_, subst₂}
-use mathlib.Core.List.{List, map}
-use Prim.Native.Nat.{ℕ, _≤_}
+use mathlib.Core.Path.{_≡_, refl, sym, ap, subst₂}
+use mathlib.Core.List.{List, [], _∷_, map}
+use Prim.Native.Nat.{ℕ}
 use lib.ListN.{length, take, drop, length-map}
 use lib.Seq.{take-at}
 use native.Mathlib.Omega.{arith}
-use Rattle.flow.specs.declared.Bench.{Bench}
+use Rattle.column_lengths.specs.Lengths.{judgeTooShort}
+use Rattle.column_lengths.proofs.Long.{all-long}
 use Rattle.flow.specs.declared.Refusal.{Refusal}
 use Rattle.flow.specs.declared.Verdict.{Verdict}
 use Rattle.flow.specs.declared.Verdict.the-variants.{Admitted, Refused}
 use Rattle.flow.specs.declared.JudgeAnswer.{JudgeAnswer}
 use Rattle.flow.specs.declared.JudgeAnswer.the-variants.{Refused as JudgeRefused}
-use Rattle.flow.specs.Refusals.{judgeVerdict}
-use Rattle.flow.specs.Findings.{Finding, findings, wordsOf, spansOf, judge}
+use Rattle.flow.specs.Refusals.{pairVerdict}
+use Rattle.flow.specs.Answers.{judgeTold}
+use Rattle.flow.specs.Findings.{Finding, findings, judge}
 use Rattle.flow.specs.Demand.{Demand3}
-use Rattle.flow.specs.Admitted.{AdmittedJudge}
-use Rattle.flow.proofs.Admission.{of-judge}
+use Rattle.flow.specs.Admitted.{AdmittedPair}
+use Rattle.flow.proofs.Admission.{of-pair}
 use Rattle.flow.proofs.Judged.{judged}
-use Rattle.chart.specs.Lent.{over, Columns, Wide}
-use Rattle.calls.proofs.Bench.{all-long, both-long}
-use Rattle.judge.specs.Lent.{judgeBench, foundIn, MarksLeft, JudgePromise}
-use Rattle.findings.specs.Accepted.{Accepted}
+use Rattle.chart.specs.Lent.{over, Columns, chartShort, Wide}
+use Rattle.chart.proofs.Widths.{wide}
+use Rattle.findings.specs.Accepted.{FindingColumns, Long, Accepted}
+use Rattle.judge.specs.Lent.{judgeShort, foundIn, JudgePromise}
 
 never : {v : Verdict} {r : Refusal} → v ≡ Refused r → v ≡ Admitted → ⊥
 never p q = let z : _≡_ {A = ℕ} 0 1 = cc in omega arith
 
-module _ (S U : List ℕ) (x : Columns) (words spans marks : List ℕ) where
-  abbrev bench : Bench
-  bench = judgeBench x words spans marks
-
-  pub judge-refused : {r : Refusal} → judgeVerdict bench S U ≡ Refused r → JudgePromise S U x words spans marks (JudgeRefused r) x words spans marks
+module _ (S U : List ℕ) (x : Columns) (f : FindingColumns) where
+  pub judge-refused : {r : Refusal} → pairVerdict (judgeShort x f) S U ≡ Refused r → JudgePromise S U (JudgeRefused r) (record { chart = record { before = x; after = x }; found = record { before = f; after = f } })
   unfolding judge
   judge-refused e = record {
-    answer = rw e;
+    told = rw e;
     columns = rw e;
+    shown = λ q. absurd (never e q);
     findingWords = rw e;
     findingSpans = rw e;
     markFigures = record { refused = λ q. refl; figure = λ q. absurd (never e q); past = refl; long = refl };
     demand3 = λ q. absurd (never e q);
   }
 
-  module _ (e : judgeVerdict bench S U ≡ Admitted) where
-    pub ok : AdmittedJudge bench S U
-    ok = of-judge bench S U e
+  module _ (e : pairVerdict (judgeShort x f) S U ≡ Admitted) where
+    pub ok : AdmittedPair (judgeShort x f) S U
+    ok = of-pair (judgeShort x f) S U e
 
-    pub wide : Wide x
-    unfolding judgeBench
-    wide =
-        let n = all-long (x .first) (x .second) (x .start) (x .reachable) (ok .chart .nodes) in
-        let c = both-long (x .codeSpan) (x .codeNode) (ok .chart .codes) in
-        let l = all-long (x .nameSpan) (x .nameNode) (x .nameEnd) marks (ok .chart .locals) in
-        record { first = n .0; second = n .1; start = n .2; reachable = n .3; codeSpan = c .0; codeNode = c .1; nameSpan = l .0; nameNode = l .1; nameEnd = l .2 }
+    pub wide-enough : Wide x × Long f
+    unfolding judgeTooShort
+    wide-enough =
+        let w = all-long 3072 (length (f .word) ∷ length (f .span) ∷ []) _ (ok .enough) in
+        let m = all-long 1024 (length (f .mark) ∷ []) (chartShort x) (w .1) in
+        (wide x (m .1), (w .0 .0, w .0 .1 .0, m .0 .0))
 
-    pub long : (3072 ≤ length words) × (3072 ≤ length spans) × (1024 ≤ length marks)
-    unfolding judgeBench
-    long =
-        let f = both-long words spans (ok .findings) in
-        let l = all-long (x .nameSpan) (x .nameNode) (x .nameEnd) marks (ok .chart .locals) in
-        (f .0, f .1, l .3)
-
-    module _ {r : JudgeAnswer} {y : Columns} {words' spans' marks' : List ℕ} (a : Accepted S U x words spans marks r y words' spans' marks') where
+    module _ {r : JudgeAnswer} {y : Columns} {g : FindingColumns} (a : Accepted S U r (record { before = x; after = y }) (record { before = f; after = g })) where
       counted : foundIn r ≡ length (findings S U)
       counted = ap foundIn (a .answer)
 
-      -- as many cells as judge answers are the findings
+      -- as many cells as judge tells are the findings
       written : (part : Finding → ℕ) (old : List ℕ) {new : List ℕ} → length (map part (findings S U)) ≡ length (findings S U) → new ≡ over (map part (findings S U)) old → take (foundIn r) new ≡ map part (findings S U)
       written part old n q = rw (counted, q) (take-at (map part (findings S U)) (drop (length (map part (findings S U))) old) (length (findings S U)) n)
 
-      pub judge-accepted : JudgePromise S U x words spans marks r y words' spans' marks'
+      pub judge-accepted : JudgePromise S U r (record { chart = record { before = x; after = y }; found = record { before = f; after = g } })
       unfolding judge
       judge-accepted = record {
-        answer = rw e (a .answer);
+        told = rw e (ap judgeTold (a .answer));
         columns = rw e (a .columns);
-        findingWords = rw e (a .found .findingWords);
-        findingSpans = rw e (a .found .findingSpans);
+        shown = λ q. a .shown;
+        findingWords = rw e (a .found .words);
+        findingSpans = rw e (a .found .spans);
         markFigures = record {
           refused = λ q. absurd (q e);
-          figure = λ q. a .found .markFigures .figure;
-          past = a .found .markFigures .rest;
-          long = a .found .markFigures .long;
+          figure = λ q. a .found .marks .figure;
+          past = a .found .marks .rest;
+          long = a .found .marks .long;
         };
         demand3 = λ q.
-            subst₂ (Demand3 S U) (sym (written (λ f. f .word) words (length-map (findings S U) (λ f. f .word)) (a .found .findingWords)))
-            (sym (written (λ f. f .span) spans (length-map (findings S U) (λ f. f .span)) (a .found .findingSpans))) (judged bench S U e);
+            subst₂ (Demand3 S U) (sym (written (λ z. z .word) (f .word) (length-map (findings S U) (λ z. z .word)) (a .found .words)))
+            (sym (written (λ z. z .span) (f .span) (length-map (findings S U) (λ z. z .span)) (a .found .spans))) (judged (judgeShort x f) S U e);
       }

@@ -1,25 +1,36 @@
 -- What judge answers and leaves in the columns that it is lent, accepted or refused, whatever the columns held before.
 -- Assumes nothing: these are definitions.
 use mathlib.Core.Path.{_≡_}
-use mathlib.Core.List.{List}
+use mathlib.Core.Bool.{Bool}
+use mathlib.Core.List.{List, [], _∷_}
 use Prim.Native.Nat.{ℕ, _≤_, _<_}
 use lib.ListN.{length, getD, take, drop}
-use Rattle.flow.specs.declared.Bench.{Bench}
+use Rattle.column_lengths.specs.Lengths.{judgeTooShort}
 use Rattle.flow.specs.declared.Verdict.{Verdict}
 use Rattle.flow.specs.declared.Verdict.the-variants.{Admitted, Refused}
 use Rattle.flow.specs.declared.JudgeAnswer.{JudgeAnswer}
-use Rattle.flow.specs.declared.JudgeAnswer.the-variants.{Judged, Refused as JudgeRefused}
-use Rattle.flow.specs.Refusals.{judgeVerdict}
+use Rattle.flow.specs.Refusals.{pairVerdict}
+use Rattle.flow.specs.Answers.{judgeTold}
 use Rattle.flow.specs.Graph.{nodeCount, graph}
 use Rattle.flow.specs.Findings.{locals, findings, wordsOf, spansOf, judge}
 use Rattle.flow.specs.Demand.{Demand3}
-use Rattle.chart.specs.Lent.{over, Columns}
-use Rattle.calls.specs.Lent.{shortest, shorter, benchOf, chartLeaves}
+use Rattle.search.specs.Lent.{Column}
+use Rattle.chart.specs.Lent.{over, Columns, Lent, chartShort, chartLeaves, Shown}
+use Rattle.findings.specs.Accepted.{FindingColumns, FindingsLent, listed}
 
--- judge's columns beside chart's: the words and spans of findings, and the mark figures
-unfoldable pub judgeBench : Columns → List ℕ → List ℕ → List ℕ → Bench
-judgeBench x words spans marks =
-    benchOf (shortest (x .first) (x .second) (x .start) (x .reachable)) (shorter (x .codeSpan) (x .codeNode)) (shortest (x .nameSpan) (x .nameNode) (x .nameEnd) marks) (shorter words spans)
+-- all of judge's columns: chart's, and those of findings and mark figures
+abbrev pub JudgeLent : Type 0
+JudgeLent = record { chart : Lent; found : FindingsLent }
+
+abbrev pub judgeLent : Lent → Column → Column → Column → JudgeLent
+judgeLent l word span mark = record { chart = l; found = listed word span mark }
+
+-- 1: chart's columns, "or (judge) 3,072 findings"
+abbrev pub judgeShort : Columns → FindingColumns → Bool
+judgeShort x f = judgeTooShort (length (f .word) ∷ length (f .span) ∷ []) (length (f .mark) ∷ []) (chartShort x)
+
+abbrev pub short : JudgeLent → Bool
+short l = judgeShort (l .chart .before) (l .found .before)
 
 -- "A refusal writes nothing."
 abbrev pub leaves : Verdict → List ℕ → List ℕ → List ℕ
@@ -32,15 +43,16 @@ pub record MarksLeft (v : Verdict) (S old new : List ℕ) : Type 0 where
   pub past : drop (length (locals S)) new ≡ drop (length (locals S)) old
   pub long : length new ≡ length old
 
--- how many findings an answer of judge tells of
+-- how many findings an answer of judge tells: its fourth value
 abbrev pub foundIn : JudgeAnswer → ℕ
-foundIn r = elim r [ JudgeRefused k ↦ 0 | Judged c n ↦ n ]
+foundIn r = getD (judgeTold r .values) 3 0
 
--- judge, lent the columns x, words, spans and marks. Demand 3 is of what it wrote: as many cells of the two finding columns as it answers.
-pub record JudgePromise (S U : List ℕ) (x : Columns) (words spans marks : List ℕ) (r : JudgeAnswer) (y : Columns) (words' spans' marks' : List ℕ) : Type 0 where
-  pub answer : r ≡ judge (judgeBench x words spans marks) S U
-  pub columns : y ≡ chartLeaves (judgeVerdict (judgeBench x words spans marks) S U) S x
-  pub findingWords : words' ≡ leaves (judgeVerdict (judgeBench x words spans marks) S U) (wordsOf (findings S U)) words
-  pub findingSpans : spans' ≡ leaves (judgeVerdict (judgeBench x words spans marks) S U) (spansOf (findings S U)) spans
-  pub markFigures : MarksLeft (judgeVerdict (judgeBench x words spans marks) S U) S marks marks'
-  pub demand3 : judgeVerdict (judgeBench x words spans marks) S U ≡ Admitted → Demand3 S U (take (foundIn r) words') (take (foundIn r) spans')
+-- judge: its number and values, every lent cell, and what the columns of an accepted call show. Demand 3 is of what it wrote: as many cells of the two finding columns as it tells.
+pub record JudgePromise (S U : List ℕ) (r : JudgeAnswer) (l : JudgeLent) : Type 0 where
+  pub told : judgeTold r ≡ judge (short l) S U
+  pub columns : l .chart .after ≡ chartLeaves (pairVerdict (short l) S U) S (l .chart .before)
+  pub shown : pairVerdict (short l) S U ≡ Admitted → Shown S (l .chart .after)
+  pub findingWords : l .found .after .word ≡ leaves (pairVerdict (short l) S U) (wordsOf (findings S U)) (l .found .before .word)
+  pub findingSpans : l .found .after .span ≡ leaves (pairVerdict (short l) S U) (spansOf (findings S U)) (l .found .before .span)
+  pub markFigures : MarksLeft (pairVerdict (short l) S U) S (l .found .before .mark) (l .found .after .mark)
+  pub demand3 : pairVerdict (short l) S U ≡ Admitted → Demand3 S U (take (foundIn r) (l .found .after .word)) (take (foundIn r) (l .found .after .span))

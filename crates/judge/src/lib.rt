@@ -1,6 +1,7 @@
 // Judge: the graph of a sheet and the findings of its locals.
-ghost use Rattle.chart.specs.Lent.{columns};
-ghost use Rattle.judge.specs.Lent.{JudgePromise};
+ghost use Rattle.search.specs.Lent.{held};
+ghost use Rattle.chart.specs.Lent.{lent};
+ghost use Rattle.judge.specs.Lent.{JudgePromise, judgeLent};
 use flow::JudgeAnswer;
 use flow::Verdict;
 
@@ -21,9 +22,9 @@ pub fn judge(
     finding_span: &mut [u64],
     mark: &mut [u64],
 ) -> JudgeAnswer
-    ensures { λ r. ⌜ JudgePromise (now (sheet .entry)) (now (uses .entry)) (columns (now (first .entry)) (now (second .entry)) (now (start .entry)) (now (reachable .entry)) (now («code_span» .entry)) (now («code_node» .entry)) (now («name_span» .entry)) (now («name_node» .entry)) (now («name_end» .entry))) (now («finding_word» .entry)) (now («finding_span» .entry)) (now (mark .entry)) r (columns (now (first .exit)) (now (second .exit)) (now (start .exit)) (now (reachable .exit)) (now («code_span» .exit)) (now («code_node» .exit)) (now («name_span» .exit)) (now («name_node» .exit)) (now («name_end» .exit))) (now («finding_word» .exit)) (now («finding_span» .exit)) (now (mark .exit)) ⌝ }
+    ensures { λ r. ⌜ JudgePromise (held sheet) (held uses) r (judgeLent (lent first second start reachable «code_span» «code_node» «name_span» «name_node» «name_end») «finding_word» «finding_span» mark) ⌝ }
 {
-    let bench = calls::bench_of(
+    let chart_short = column_lengths::chart_short(
         first.len(),
         second.len(),
         start.len(),
@@ -33,11 +34,14 @@ pub fn judge(
         name_span.len(),
         name_node.len(),
         name_end.len(),
-        mark.len(),
+    );
+    let short = column_lengths::judge_short(
         finding_word.len(),
         finding_span.len(),
+        mark.len(),
+        chart_short,
     );
-    let verdict = admission::judge_verdict(bench, sheet, uses);
+    let verdict = admission::pair_verdict(short, sheet, uses);
     if let Verdict::Refused(refusal) = verdict {
         return JudgeAnswer::Refused(refusal);
     }

@@ -1,7 +1,7 @@
 -- An admitted sheet's kinds are as `labels_fine` asks, and its answer is `labelsFine` of the sheet.
 -- Assumes nothing.
 use mathlib.Core.Path.{_≡_, refl, sym, _∙_}
-use mathlib.Core.Bool.{Bool}
+use mathlib.Core.Bool.{Bool, false}
 use mathlib.Core.List.{List, [], _∷_}
 use Prim.Native.Nat.{ℕ, _-_}
 use native.Mathlib.Omega.{arith}
@@ -39,7 +39,7 @@ none-open : (fs : List Frame) → length fs ≡ 0 → fs ≡ []
 none-open [] q = refl
 none-open (f ∷ fs) q = absurd (omega arith)
 
-module _ (S : List ℕ) (e : sheetVerdict S ≡ Admitted) where
+module _ (S : List ℕ) (e : sheetVerdict false S ≡ Admitted) where
   sheet : AdmittedSheet S
   sheet = admitted S e
 
@@ -48,7 +48,7 @@ module _ (S : List ℕ) (e : sheetVerdict S ≡ Admitted) where
 
   closed : (ts : List ℕ) → length ts ≡ length (kindWords S) → parse (together (kindWords S) ts) .below ≡ []
   closed ts f =
-      none-open _ (open-blocks (parsed [] (together (kindWords S) ts) tt (pairs-kinds (kindWords S) ts (spanWords S) [] f as-many ∙ sheet-passed S e .pairs)))
+      none-open _ (open-blocks (parsed [] (together (kindWords S) ts) tt (pairs-kinds (kindWords S) ts (spanWords S) [] f as-many ∙ sheet-passed false S e .pairs)))
 
   module _ (ks : List ℕ) (k : ks ≡ kindWords S) where
     pub checkable : Checkable ks

@@ -1,6 +1,6 @@
 // Refusal 6, off the line: code that starts before the code before it ends, or ends past the scope end of a block around it.
 ghost use mathlib.Core.Path.{_≡_};
-ghost use mathlib.Core.Bool.{Bool, true, false, cond, _&&_, not};
+ghost use mathlib.Core.Bool.{true, false, cond, _&&_, not};
 ghost use mathlib.Core.List.{[], _∷_};
 ghost use Prim.Native.Nat.{ℕ, _+_, _%_, _≤_, _<_};
 ghost use lib.ListN.{length};

@@ -1,35 +1,30 @@
--- The sheets print what judge answers, by the columns that it writes.
+-- The sheets print what judge tells, by the columns that it writes.
 -- Assumes nothing.
-use mathlib.Core.Path.{_≡_, refl, sym}
-use mathlib.Core.List.{List, _++_}
+use mathlib.Core.Path.{_≡_, refl}
+use mathlib.Core.Bool.{Bool}
+use mathlib.Core.List.{List, _∷_, [], _++_}
 use Prim.Native.Nat.{ℕ, _≤_, zero-le}
 use native.Mathlib.Omega.{arith}
 use lib.ListN.{length, take, length-map}
 use lib.Seq.{take-at, take-append-le}
 use Rattle.flow.specs.declared.Verdict.{Verdict}
 use Rattle.flow.specs.declared.Verdict.the-variants.{Admitted, Refused}
+use Rattle.flow.specs.Refusals.{pairVerdict}
+use Rattle.flow.specs.Answers.{Told, tells, countValues}
 use Rattle.flow.specs.Graph.{Graph, graph}
 use Rattle.flow.specs.Reachable.{countsOf, reachable}
-use Rattle.flow.specs.Findings.{Finding, wordsOf, spansOf, judgeAnswer}
+use Rattle.flow.specs.Findings.{Finding, findings, wordsOf, spansOf, judge}
 use Rattle.flow.specs.Listing.{report, printedFor}
+use Rattle.flow.proofs.Answers.{refuses}
 use Rattle.flow.proofs.Flags.{node-count, reachable-length}
-use Rattle.lines.specs.Report.{headLines, reportOf, found, answerLines}
+use Rattle.lines.specs.Report.{found, answerLines}
 use Rattle.lines.proofs.Rows.{same-findings}
-
-same-report : (g : Graph) (fs : List Finding) → report g fs ≡ reportOf (countsOf g) (take 5 (reachable g)) fs
-unfolding report headLines
-same-report g fs = refl
 
 -- the columns hold a graph's flags and the findings
 pub record Shown (g : Graph) (fs : List Finding) (flags ws ss : List ℕ) : Type 0 where
   pub exits : take 5 flags ≡ take 5 (reachable g)
   pub words : take (length fs) ws ≡ wordsOf fs
   pub spans : take (length fs) ss ≡ spansOf fs
-
-pub answer-prints : (v : Verdict) (g : Graph) (fs : List Finding) (flags ws ss : List ℕ) → (v ≡ Admitted → Shown g fs flags ws ss)
-    → answerLines (judgeAnswer v g fs) flags ws ss ≡ printedFor v (report g fs)
-answer-prints (Refused r) g fs flags ws ss h = refl
-answer-prints Admitted g fs flags ws ss h = rw (h refl .exits, h refl .words, h refl .spans, same-findings) (sym (same-report g fs))
 
 -- columns that begin with them show them
 pub shown : (S : List ℕ) (fs : List Finding) (r₁ r₂ r₃ : List ℕ) {flags ws ss : List ℕ} → flags ≡ reachable (graph S) ++ r₁ → ws ≡ wordsOf fs ++ r₂ → ss ≡ spansOf fs ++ r₃
@@ -40,7 +35,27 @@ shown S fs r₁ r₂ r₃ e p q = record {
   spans = rw q (take-at (spansOf fs) r₃ (length fs) (length-map fs (λ f. f .span)));
 }
 
--- no more findings than the columns hold
-pub few-found : (v : Verdict) (g : Graph) (fs : List Finding) {m : ℕ} → (v ≡ Admitted → length fs ≤ m) → found (judgeAnswer v g fs) ≤ m
-few-found (Refused r) g fs h = zero-le
-few-found Admitted g fs h = h refl
+-- what judge tells, by its verdict
+abbrev tellsOf : Verdict → Graph → List Finding → Told
+tellsOf v g fs = tells v (countValues (countsOf g) ++ (length fs ∷ []))
+
+by-verdict : (v : Verdict) (g : Graph) (fs : List Finding) (flags ws ss : List ℕ) → (v ≡ Admitted → Shown g fs flags ws ss)
+    → answerLines (tellsOf v g fs) flags ws ss ≡ printedFor (tellsOf v g fs) (reachable g) fs
+unfolding report
+by-verdict (Refused r) g fs flags ws ss h = rw (refuses r)
+by-verdict Admitted g fs flags ws ss h = rw (h refl .exits, h refl .words, h refl .spans, same-findings)
+
+few-by-verdict : (v : Verdict) (g : Graph) (fs : List Finding) {m : ℕ} → (v ≡ Admitted → length fs ≤ m) → found (tellsOf v g fs) ≤ m
+few-by-verdict (Refused r) g fs h = zero-le
+few-by-verdict Admitted g fs h = h refl
+
+module _ (short : Bool) (S U : List ℕ) {t : Told} (e : t ≡ judge short S U) where
+  pub answer-prints : (flags ws ss : List ℕ) → (pairVerdict short S U ≡ Admitted → Shown (graph S) (findings S U) flags ws ss)
+      → answerLines t flags ws ss ≡ printedFor (judge short S U) (reachable (graph S)) (findings S U)
+  unfolding judge
+  answer-prints flags ws ss h = rw e (by-verdict (pairVerdict short S U) (graph S) (findings S U) flags ws ss h)
+
+  -- no more findings than the columns hold
+  pub few-found : {m : ℕ} → (pairVerdict short S U ≡ Admitted → length (findings S U) ≤ m) → found t ≤ m
+  unfolding judge
+  few-found h = rw e (few-by-verdict (pairVerdict short S U) (graph S) (findings S U) h)

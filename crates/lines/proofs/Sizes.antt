@@ -4,14 +4,14 @@ use mathlib.Core.List.{List, [], _∷_}
 use Prim.Native.Nat.{ℕ, zero, suc, _+_, _*_, _-_, _/_, _%_, _^_, _≤_, _<_, zero-le}
 use native.Mathlib.Omega.{arith}
 use lib.Dec.{eqb}
-use lib.ListN.{length, take, getD, length-append}
-use Rattle.flow.specs.declared.Counts.{Counts}
+use lib.ListN.{length, take, getD, length-take, length-append}
 use Rattle.flow.specs.Sheet.{startOf, endOf}
-use Rattle.flow.specs.Listing.{numbers, findingLine, findingLines}
+use Rattle.flow.specs.Listing.{numbers, findingLine, findingLines, report}
 use Rattle.flow.proofs.Laws.{either}
 use Rattle.line_writer.specs.Output.{Room}
 use Rattle.line_writer.proofs.Digits.{at-most, below-power}
-use Rattle.lines.specs.Report.{findingsOf, headLines, roomForAll}
+use Rattle.lines.specs.Report.{firstFindings, roomForAll}
+use Rattle.lines.proofs.Texts.{head-report}
 
 -- numbers of 20 digits
 pub numbers-long : (ns : List ℕ) → length (numbers ns) ≤ 21 * length ns + 1
@@ -43,7 +43,7 @@ finding-long w s hw hs =
 
 -- the lines of n findings
 pub findings-long : (n : ℕ) (ws ss : List ℕ) → ((i : ℕ) → getD ws i 0 < 2 ^ 64) → ((i : ℕ) → getD ss i 0 < 2 ^ 64)
-    → length (findingLines (findingsOf (take n ws) (take n ss))) ≤ 55 * n
+    → length (findingLines (firstFindings n ws ss)) ≤ 55 * n
 unfolding findingLines
 findings-long zero ws ss hw hs = zero-le
 findings-long (suc n) [] ss hw hs = zero-le
@@ -52,11 +52,10 @@ findings-long (suc n) (w ∷ ws) (s ∷ ss) hw hs =
     rw length-append (omega (arith, finding-long w s (hw 0) (hs 0), findings-long n ws ss (λ i. hw (suc i)) (λ i. hs (suc i))))
 
 -- the first two lines
-pub head-long : (counts : Counts) (exits : List ℕ) → length exits ≤ 5 → length (headLines counts exits) ≤ 180
-unfolding headLines
-head-long counts exits h =
-    let graph = counts .nodes ∷ counts .codes ∷ counts .names ∷ [] in
-    rw length-append (omega (arith, numbers-long graph, numbers-long exits))
+pub head-long : (values flags : List ℕ) → length (report values flags []) ≤ 180
+head-long values flags =
+    rw (head-report, length-append)
+    (omega (arith, numbers-long (take 3 values), numbers-long (take 5 flags), length-take 3 values, length-take 5 flags))
 
 pub from-start : (xs : List ℕ) {old : List ℕ} → length xs ≤ roomForAll → roomForAll ≤ length old → Room xs 0 old
 from-start xs h r = record { fits = omega arith }

@@ -1,12 +1,22 @@
--- The lines of findings as pieces, one for each, and a finding's line by its list.
+-- A report by its lines, the lines of findings as pieces, one for each, and a finding's line by its list.
 -- Assumes nothing.
 use mathlib.Core.Path.{_≡_, refl, ap}
-use mathlib.Core.List.{List, [], _∷_, _++_, flatMap}
+use mathlib.Core.List.{List, [], _∷_, _++_, append-nil, flatMap}
 use Prim.Native.Nat.{ℕ, _-_, _/_, _%_, _^_}
 use borrow.Author.Tests.{eq-eqb, ne-eqb}
+use lib.ListN.{take}
 use Rattle.flow.specs.Sheet.{startOf, endOf}
 use Rattle.flow.specs.Findings.{Finding}
-use Rattle.flow.specs.Listing.{line, findingLine, findingLines}
+use Rattle.flow.specs.Listing.{line, findingLine, findingLines, report}
+
+-- a report without findings is its first two lines, and those of findings follow them
+pub head-report : (values flags : List ℕ) → report values flags [] ≡ line "graph" (take 3 values) ++ line "exits" (take 5 flags)
+unfolding report findingLines
+head-report values flags = append-nil (line "graph" (take 3 values) ++ line "exits" (take 5 flags))
+
+pub whole-report : (values flags : List ℕ) (fs : List Finding) → report values flags [] ++ findingLines fs ≡ report values flags fs
+unfolding report
+whole-report values flags fs = ap (λ (l : List ℕ). l ++ findingLines fs) (head-report values flags)
 
 pub findings-pieces : (fs : List Finding) → findingLines fs ≡ flatMap findingLine fs
 unfolding flatMap findingLines

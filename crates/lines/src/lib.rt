@@ -1,15 +1,18 @@
 // The lines that flowlist prints, written into a lent output.
 ghost use mathlib.Core.Path.{_≡_};
+ghost use mathlib.Core.List.{[]};
 ghost use Prim.Native.Nat.{_-_, _≤_};
-ghost use lib.ListN.{length, take};
+ghost use lib.ListN.{length};
 ghost use Rattle.flow.specs.Refusals;
+ghost use Rattle.flow.specs.Answers.{countValues, judgeTold};
 ghost use Rattle.flow.specs.Listing;
 ghost use Rattle.line_writer.specs.Output.{Room, Appended, Printed};
-ghost use Rattle.lines.specs.Report.{findingsOf, headLines, reportOf, found, answerLines, roomForAll};
+ghost use Rattle.lines.specs.Report.{firstFindings, found, answerLines, roomForAll};
 use flow::Counts;
 use flow::JudgeAnswer;
 use flow::Refusal;
 use line_writer::line;
+use numbers::number;
 
 // Bytes that hold every output, as the specs' `roomForAll` has it.
 pub const ROOM: usize = 169140;
@@ -20,26 +23,10 @@ const HALF: u64 = 4294967296;
 // A finding's lower half is its list + 2 × its local.
 const LOCALS: u64 = 2147483648;
 
-// The table's number of a refusal.
-fn number(refusal: Refusal) -> u64
-    ensures { λ r. ⌜ r ≡ Refusals.number refusal ⌝ }
-{
-    match refusal {
-        Refusal::BenchTooSmall => 1,
-        Refusal::Miscount => 2,
-        Refusal::BadItem => 3,
-        Refusal::TooDeep => 4,
-        Refusal::BadNesting => 5,
-        Refusal::OffTheLine => 6,
-        Refusal::BadName => 7,
-        Refusal::BadUse => 8,
-    }
-}
-
 // `refused K` alone.
 pub fn refused(output: &mut [u8], refusal: Refusal) -> usize
     requires { ⌜ roomForAll ≤ length (now output) ⌝ }
-    ensures { λ r. ⌜ Printed (Listing.refused refusal) (now (output .entry)) (now (output .exit)) r ⌝ }
+    ensures { λ r. ⌜ Printed (Listing.refused (Refusals.number refusal)) (now (output .entry)) (now (output .exit)) r ⌝ }
 {
     let values = [number(refusal)];
     line(output, 0, b"refused", &values)
@@ -70,8 +57,8 @@ fn finding_line(output: &mut [u8], at: usize, word: u64, span: u64) -> usize
 // A line for each of the first n findings.
 fn finding_lines(output: &mut [u8], at: usize, words: &[u64], spans: &[u64], n: usize) -> usize
     requires { ⌜ (n ≤ length (now words)) × (n ≤ length (now spans)) ⌝ }
-    requires { ⌜ Room (Listing.findingLines (findingsOf (take n (now words)) (take n (now spans)))) at (now output) ⌝ }
-    ensures { λ r. ⌜ Appended (Listing.findingLines (findingsOf (take n (now (words .entry))) (take n (now (spans .entry))))) at (now (output .entry)) (now (output .exit)) r ⌝ }
+    requires { ⌜ Room (Listing.findingLines (firstFindings n (now words) (now spans))) at (now output) ⌝ }
+    ensures { λ r. ⌜ Appended (Listing.findingLines (firstFindings n (now (words .entry)) (now (spans .entry)))) at (now (output .entry)) (now (output .exit)) r ⌝ }
 {
     let mut next = at;
     let mut i = 0;
@@ -82,11 +69,11 @@ fn finding_lines(output: &mut [u8], at: usize, words: &[u64], spans: &[u64], n: 
     next
 }
 
-// `graph NODES CODES LOCALS` and `exits` with five flags.
+// `graph NODES CODES LOCALS` and `exits` with five flags: the report of a graph without findings.
 fn head_lines(output: &mut [u8], counts: Counts, reachable: &[u64]) -> usize
     requires { ⌜ 5 ≤ length (now reachable) ⌝ }
     requires { ⌜ roomForAll ≤ length (now output) ⌝ }
-    ensures { λ r. ⌜ Appended (headLines counts (take 5 (now (reachable .entry)))) 0 (now (output .entry)) (now (output .exit)) r ⌝ }
+    ensures { λ r. ⌜ Appended (Listing.report (countValues counts) (now (reachable .entry)) []) 0 (now (output .entry)) (now (output .exit)) r ⌝ }
 {
     let values = [
         counts.nodes as u64,
@@ -108,7 +95,7 @@ fn report(
 ) -> usize
     requires { ⌜ (5 ≤ length (now reachable)) × (n ≤ length (now words)) × (n ≤ length (now spans)) ⌝ }
     requires { ⌜ (n ≤ 3072) × (roomForAll ≤ length (now output)) ⌝ }
-    ensures { λ r. ⌜ Printed (reportOf counts (take 5 (now (reachable .entry))) (findingsOf (take n (now (words .entry))) (take n (now (spans .entry))))) (now (output .entry)) (now (output .exit)) r ⌝ }
+    ensures { λ r. ⌜ Printed (Listing.report (countValues counts) (now (reachable .entry)) (firstFindings n (now (words .entry)) (now (spans .entry)))) (now (output .entry)) (now (output .exit)) r ⌝ }
 {
     let next = head_lines(output, counts, reachable);
     finding_lines(output, next, words, spans, n)
@@ -122,9 +109,9 @@ pub fn answered(
     words: &[u64],
     spans: &[u64],
 ) -> usize
-    requires { ⌜ (5 ≤ length (now reachable)) × (found answer ≤ length (now words)) × (found answer ≤ length (now spans)) ⌝ }
-    requires { ⌜ (found answer ≤ 3072) × (roomForAll ≤ length (now output)) ⌝ }
-    ensures { λ r. ⌜ Printed (answerLines answer (now (reachable .entry)) (now (words .entry)) (now (spans .entry))) (now (output .entry)) (now (output .exit)) r ⌝ }
+    requires { ⌜ (5 ≤ length (now reachable)) × (found (judgeTold answer) ≤ length (now words)) × (found (judgeTold answer) ≤ length (now spans)) ⌝ }
+    requires { ⌜ (found (judgeTold answer) ≤ 3072) × (roomForAll ≤ length (now output)) ⌝ }
+    ensures { λ r. ⌜ Printed (answerLines (judgeTold answer) (now (reachable .entry)) (now (words .entry)) (now (spans .entry))) (now (output .entry)) (now (output .exit)) r ⌝ }
 {
     match answer {
         JudgeAnswer::Refused(refusal) => refused(output, refusal),

@@ -1,25 +1,26 @@
 -- What judge promises over the listing's own columns prints as the sheets do.
 -- Assumes nothing.
-use mathlib.Core.Path.{_≡_, ap}
+use mathlib.Core.Path.{_≡_, refl, ap}
+use mathlib.Core.Bool.{false}
 use mathlib.Core.List.{List}
 use Prim.Native.Nat.{ℕ, _≤_}
-use native.Mathlib.Nat.{min-eq-left}
 use native.Mathlib.Omega.{arith}
-use lib.ListN.{length, drop, replicate, length-replicate, length-append, length-map}
+use lib.ListN.{length, drop, replicate, length-append, length-map}
 use Rattle.flow.specs.declared.JudgeAnswer.{JudgeAnswer}
 use Rattle.flow.specs.declared.Verdict.{Verdict}
 use Rattle.flow.specs.declared.Verdict.the-variants.{Admitted}
-use Rattle.flow.specs.Refusals.{judgeVerdict}
+use Rattle.flow.specs.Refusals.{pairVerdict}
+use Rattle.flow.specs.Answers.{judgeTold}
 use Rattle.flow.specs.Graph.{graph}
 use Rattle.flow.specs.Reachable.{reachable}
 use Rattle.flow.specs.Findings.{findings, wordsOf, spansOf, judge}
-use Rattle.flow.specs.Listing.{ownBench}
-use Rattle.chart.specs.Lent.{over, Columns, columns, chartOf}
-use Rattle.calls.specs.Lent.{shortest, chartLeaves}
-use Rattle.judge.specs.Lent.{judgeBench, leaves, JudgePromise}
+use Rattle.column_lengths.specs.Lengths.{chartTooShort, judgeTooShort}
+use Rattle.chart.specs.Lent.{over, Columns, columns, chartOf, chartLeaves}
+use Rattle.findings.specs.Accepted.{FindingColumns}
+use Rattle.judge.specs.Lent.{judgeShort, leaves, JudgePromise}
 use Rattle.file_words.specs.Input.{sheetsPrint}
 use Rattle.lines.specs.Report.{found, answerLines}
-use Rattle.lines.proofs.Answer.{shown, few-found, answer-prints}
+use Rattle.lines.proofs.Answer.{Shown, shown, few-found, answer-prints}
 
 -- ---- the listing's own columns
 
@@ -29,21 +30,22 @@ zeros n = replicate n 0
 abbrev pub ownColumns : Columns
 ownColumns = columns (zeros 1600) (zeros 1600) (zeros 1600) (zeros 1600) (zeros 1024) (zeros 1024) (zeros 1024) (zeros 1024) (zeros 1024)
 
-alike : (n : ℕ) → shortest (zeros n) (zeros n) (zeros n) (zeros n) ≡ n
-alike n = rw (length-replicate {A = ℕ} n 0, min-eq-left {n = n} {m = n} (omega arith)) (min-eq-left {n = n} {m = n} (omega arith))
+abbrev pub ownFindings : FindingColumns
+ownFindings = record { word = zeros 3072; span = zeros 3072; mark = zeros 1024 }
 
-own : judgeBench ownColumns (zeros 3072) (zeros 3072) (zeros 1024) ≡ ownBench
-unfolding judgeBench
-own i = record { nodes = alike 1600 i; codes = alike 1024 i; locals = alike 1024 i; findings = alike 3072 i }
+-- none of them is too short
+own : judgeShort ownColumns ownFindings ≡ false
+unfolding judgeTooShort chartTooShort
+own = refl
 
 -- ---- what is written where the sheets are admitted
 
 admits : {v : Verdict} (xs old : List ℕ) {col : List ℕ} → v ≡ Admitted → col ≡ leaves v xs old → col ≡ over xs old
 admits xs old e p = rw e at p
 
-chart-admits : {v : Verdict} (S : List ℕ) (x : Columns) {y : Columns} → v ≡ Admitted → y ≡ chartLeaves v S x → y .reachable ≡ over (reachable (graph S)) (x .reachable)
+chart-admits : {v : Verdict} (S : List ℕ) (x : Columns) {y : Columns} → v ≡ Admitted → y ≡ chartLeaves v S x → y .nodes .reachable ≡ over (reachable (graph S)) (x .nodes .reachable)
 unfolding chartOf
-chart-admits S x e p = ap (λ (y : Columns). y .reachable) (rw e at p)
+chart-admits S x e p = ap (λ (y : Columns). y .nodes .reachable) (rw e at p)
 
 -- a column is as long as what is written there
 fits : (xs old : List ℕ) {col : List ℕ} → col ≡ over xs old → length xs ≤ length col
@@ -51,22 +53,26 @@ fits xs old p = omega (arith, simp length-append at (ap length p))
 
 -- ---- judge over them
 
-module _ (S U : List ℕ) {answer : JudgeAnswer} {y : Columns} {words spans marks : List ℕ} (p : JudgePromise S U ownColumns (zeros 3072) (zeros 3072) (zeros 1024) answer y words spans marks) where
-  answer-is : answer ≡ judge ownBench S U
-  answer-is = rw own at (p .answer)
+module _ (S U : List ℕ) {answer : JudgeAnswer} {y : Columns} {g : FindingColumns} (p : JudgePromise S U answer (record { chart = record { before = ownColumns; after = y }; found = record { before = ownFindings; after = g } })) where
+  tells : judgeTold answer ≡ judge false S U
+  tells = rw own at (p .told)
 
-  pub held : length words ≡ 3072 → found answer ≤ 3072
-  unfolding judge
-  held l =
-      let fs = findings S U in
-      rw answer-is (few-found (judgeVerdict ownBench S U) (graph S) fs (λ a. omega (arith, fits (wordsOf fs) (zeros 3072) (admits (wordsOf fs) (zeros 3072) a (rw own at (p .findingWords))), length-map fs (λ f. f .word))))
+  words-are : pairVerdict false S U ≡ Admitted → g .word ≡ over (wordsOf (findings S U)) (zeros 3072)
+  words-are a = admits (wordsOf (findings S U)) (zeros 3072) a (rw own at (p .findingWords))
 
-  pub prints : answerLines answer (y .reachable) words spans ≡ sheetsPrint S U
-  unfolding judge
-  prints =
+  spans-are : pairVerdict false S U ≡ Admitted → g .span ≡ over (spansOf (findings S U)) (zeros 3072)
+  spans-are a = admits (spansOf (findings S U)) (zeros 3072) a (rw own at (p .findingSpans))
+
+  flags-are : pairVerdict false S U ≡ Admitted → y .nodes .reachable ≡ over (reachable (graph S)) (zeros 1600)
+  flags-are a = chart-admits S ownColumns a (rw own at (p .columns))
+
+  pub held : length (g .word) ≡ 3072 → found (judgeTold answer) ≤ 3072
+  held l = few-found false S U tells (λ a. omega (arith, fits (wordsOf (findings S U)) (zeros 3072) (words-are a), length-map (findings S U) (λ f. f .word)))
+
+  shows : pairVerdict false S U ≡ Admitted → Shown (graph S) (findings S U) (y .nodes .reachable) (g .word) (g .span)
+  shows a =
       let fs = findings S U in
-      let xs = reachable (graph S) in
-      rw answer-is
-      (answer-prints (judgeVerdict ownBench S U) (graph S) fs (y .reachable) words spans
-      (λ a. shown S fs (drop (length xs) (zeros 1600)) (drop (length (wordsOf fs)) (zeros 3072)) (drop (length (spansOf fs)) (zeros 3072))
-      (chart-admits S ownColumns a (rw own at (p .columns))) (admits (wordsOf fs) (zeros 3072) a (rw own at (p .findingWords))) (admits (spansOf fs) (zeros 3072) a (rw own at (p .findingSpans)))))
+      shown S fs (drop (length (reachable (graph S))) (zeros 1600)) (drop (length (wordsOf fs)) (zeros 3072)) (drop (length (spansOf fs)) (zeros 3072)) (flags-are a) (words-are a) (spans-are a)
+
+  pub prints : answerLines (judgeTold answer) (y .nodes .reachable) (g .word) (g .span) ≡ sheetsPrint S U
+  prints = answer-prints false S U tells (y .nodes .reachable) (g .word) (g .span) shows

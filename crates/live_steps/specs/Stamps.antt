@@ -6,6 +6,7 @@ use mathlib.Core.Bool.{cond}
 use mathlib.Core.List.{List, map}
 use lib.ListN.{length, getD, take}
 use lib.Dec.{eqb}
+use Rattle.search.specs.Lent.{Column, held, left}
 use Rattle.search.specs.Worklist.{State, st, Room}
 
 abbrev pub flag : ℕ → ℕ → ℕ
@@ -34,3 +35,7 @@ pub record Ready (stamp n : ℕ) (marks stack : List ℕ) (top : ℕ) : Type 0 w
 pub record Leaves (stamp n : ℕ) (marks stack : List ℕ) (top : ℕ) (s : State) : Type 0 where
   pub state : view stamp n marks stack top ≡ s
   pub fresh : Fresh (stamp + 1) n marks
+
+-- a call that is lent the columns does f to the worklist that they stand for, whose height was `top` and is r
+abbrev pub Does : (stamp n : ℕ) (visited stack : Column) (top r : ℕ) → (State → State) → Type 0
+Does stamp n visited stack top r f = Leaves stamp n (left visited) (left stack) r (f (view stamp n (held visited) (held stack) top))

@@ -6,10 +6,11 @@ use mathlib.Core.Bool.{Bool, false, _&&_}
 use mathlib.Core.List.{List, [], map}
 use lib.ListN.{length, getD, take}
 use lib.Dec.{eqb, ltb}
-use Rattle.flow.specs.declared.Place.the-variants.{Node}
+use Rattle.search.specs.Lent.{Column, held}
+use Rattle.flow.specs.declared.Found.the-variants.{At}
 use Rattle.flow.specs.Sheet.{useKindOf, crossingOf}
 use Rattle.flow.specs.Graph.{Graph, Nodes}
-use Rattle.flow.specs.Findings.{Use, Declaration, node, isAliveAt}
+use Rattle.flow.specs.Findings.{Use, Declaration, node, isWrite, onlyIf, isAliveAt, liveSuccessors}
 
 -- ---- the graph
 
@@ -49,11 +50,15 @@ inClosureOf captured w = captured && eqb (crossingOf w) 1
 -- use k, with its kind, its closure and its node. Its span is left out: nothing here goes by it.
 abbrev pub useAt : Bool → List ℕ → List ℕ → ℕ → Use
 useAt captured words nodes k =
-    record { number = k; span = 0; kind = useKindOf (getD words k 0); inClosure = inClosureOf captured (getD words k 0); place = Node (getD nodes k 0) }
+    record { number = k; span = 0; kind = useKindOf (getD words k 0); inClosure = inClosureOf captured (getD words k 0); place = At (getD nodes k 0) }
 
 -- a walk goes by no closures
 abbrev pub usesAt : List ℕ → List ℕ → List ℕ → List Use
 usesAt words nodes mine = map (useAt false words nodes) mine
+
+-- the nodes from after a use, if it is a write
+abbrev pub afterWrite : Graph → Declaration → Use → List ℕ
+afterWrite g d u = onlyIf (isWrite u) (liveSuccessors g d (node u))
 
 -- mine has the numbers of the uses us: at each place the same kind and the same node
 pub record Spells (us : List Use) (mine words nodes : List ℕ) : Type 0 where
@@ -74,3 +79,14 @@ pub record OfLocal (captured : Bool) (n : ℕ) (us : List Use) (mine words nodes
   pub placed : AllPlaced n mine words nodes
   pub spells : Spells us mine words nodes
   pub closures : map (λ u. u .inClosure) us ≡ map (λ k. inClosureOf captured (getD words k 0)) mine
+
+-- ---- lent columns
+
+-- the graph that they hold
+abbrev pub charted : ℕ → Column → Column → Column → Graph
+charted n first second start = chart n (held first) (held second) (held start)
+
+-- the nodes are those of g, and the uses that mine numbers are us
+pub record Stands (g : Graph) (us : List Use) (n : ℕ) (mine first second start words nodes : Column) : Type 0 where
+  pub charts : Charts g n (held first) (held second) (held start)
+  pub spells : Spells us (held mine) (held words) (held nodes)

@@ -5,12 +5,13 @@ ghost use mathlib.Core.Bool.{not};
 ghost use Prim.Native.Nat.{_<_, _≤_};
 ghost use lib.ListN.{length, getD};
 ghost use lib.Dec.{eqb};
+ghost use Rattle.search.specs.Lent.{held};
 ghost use Rattle.search.specs.Worklist.{push, pushAll, pushIf};
 ghost use Rattle.flow.specs.Sheet.{useKindOf};
 ghost use Rattle.flow.specs.Graph.{Graph};
 ghost use Rattle.flow.specs.Findings.{isAliveAt, liveSuccessors};
-ghost use Rattle.live_steps.specs.Stamps.{view, Ready, Leaves};
-ghost use Rattle.live_steps.specs.Walk.{Long, chart, declared, enters};
+ghost use Rattle.live_steps.specs.Stamps.{Ready, Does};
+ghost use Rattle.live_steps.specs.Walk.{Long, charted, declared, enters};
 use search::at;
 
 // A word of a use is local + 65,536 × (kind + 4 × crossing).
@@ -19,7 +20,7 @@ const KIND: u64 = 65536;
 // Past the local's scope, or at its LOCAL, which makes the variable anew, its value can't go on.
 pub fn is_alive_at(start: &[u64], node: usize, scope_end: u64, v: usize) -> bool
     requires { ⌜ v < length (now start) ⌝ }
-    ensures { λ r. ⌜ ((g : Graph) → getD (g .nodes .start) v 0 ≡ getD (now (start .entry)) v 0 → r ≡ isAliveAt g (declared node «scope_end») v) ⌝ }
+    ensures { λ r. ⌜ ((g : Graph) → getD (g .nodes .start) v 0 ≡ getD (held start) v 0 → r ≡ isAliveAt g (declared node «scope_end») v) ⌝ }
 {
     v != node && start[v] < scope_end
 }
@@ -35,7 +36,7 @@ fn push_if_new(
 ) -> usize
     requires { ⌜ Ready stamp n (now visited) (now stack) top ⌝ }
     requires { ⌜ v < n ⌝ }
-    ensures { λ r. ⌜ Leaves stamp n (now (visited .exit)) (now (stack .exit)) r (push v (view stamp n (now (visited .entry)) (now (stack .entry)) top)) ⌝ }
+    ensures { λ r. ⌜ Does stamp n visited stack top r (push v) ⌝ }
 {
     if visited[v] == stamp {
         top
@@ -60,7 +61,7 @@ fn push_alive(
 ) -> usize
     requires { ⌜ Ready stamp n (now visited) (now stack) top ⌝ }
     requires { ⌜ n ≤ length (now start) ⌝ }
-    ensures { λ r. ⌜ Leaves stamp n (now (visited .exit)) (now (stack .exit)) r (pushIf (enters n (now (start .entry)) (declared node «scope_end»)) v (view stamp n (now (visited .entry)) (now (stack .entry)) top)) ⌝ }
+    ensures { λ r. ⌜ Does stamp n visited stack top r (pushIf (enters n (held start) (declared node «scope_end»)) v) ⌝ }
 {
     if v < n {
         if is_alive_at(start, node, scope_end, v) {
@@ -89,7 +90,7 @@ pub fn expand(
 ) -> usize
     requires { ⌜ Ready stamp n (now visited) (now stack) top ⌝ }
     requires { ⌜ Long n (now first) (now second) (now start) × (u < n) ⌝ }
-    ensures { λ r. ⌜ Leaves stamp n (now (visited .exit)) (now (stack .exit)) r (pushAll (liveSuccessors (chart n (now (first .entry)) (now (second .entry)) (now (start .entry))) (declared node «scope_end») u) (view stamp n (now (visited .entry)) (now (stack .entry)) top)) ⌝ }
+    ensures { λ r. ⌜ Does stamp n visited stack top r (pushAll (liveSuccessors (charted n first second start) (declared node «scope_end») u)) ⌝ }
 {
     let a = at(first, u);
     let t = push_alive(start, visited, stack, n, top, node, scope_end, stamp, a);

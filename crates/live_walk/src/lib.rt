@@ -3,13 +3,14 @@ ghost use mathlib.Core.Path.{_≡_};
 ghost use mathlib.Core.Bool.{false};
 ghost use mathlib.Core.List.{List};
 ghost use Prim.Native.Nat.{_+_, _≤_};
-ghost use lib.ListN.{length, getD};
+ghost use lib.ListN.{length};
+ghost use Rattle.search.specs.Lent.{held, left};
 ghost use Rattle.search.specs.Search.{zeros};
 ghost use Rattle.search.specs.Worklist.{pushAll};
 ghost use Rattle.flow.specs.Graph.{Graph};
-ghost use Rattle.flow.specs.Findings.{Use, isWrite, onlyIf, liveSuccessors, afterWrites, liveAfterWrites};
-ghost use Rattle.live_steps.specs.Stamps.{flagsOf, Fresh, view, Ready, Leaves};
-ghost use Rattle.live_steps.specs.Walk.{Charts, Long, chart, declared, useAt, usesAt, Spells, Placed, AllPlaced};
+ghost use Rattle.flow.specs.Findings.{Use, afterWrites, liveAfterWrites};
+ghost use Rattle.live_steps.specs.Stamps.{flagsOf, Fresh, Ready, Does};
+ghost use Rattle.live_steps.specs.Walk.{Long, charted, declared, useAt, usesAt, afterWrite, Placed, AllPlaced, Stands};
 use live_steps::expand;
 use live_steps::is_write;
 use live_steps::wide;
@@ -33,7 +34,7 @@ fn expand_write(
     requires { ⌜ Ready stamp n (now visited) (now stack) top ⌝ }
     requires { ⌜ Long n (now first) (now second) (now start) ⌝ }
     requires { ⌜ Placed n (now «use_word») (now «use_node») k ⌝ }
-    ensures { λ r. ⌜ Leaves stamp n (now (visited .exit)) (now (stack .exit)) r (pushAll (onlyIf (isWrite (useAt false (now («use_word» .entry)) (now («use_node» .entry)) k)) (liveSuccessors (chart n (now (first .entry)) (now (second .entry)) (now (start .entry))) (declared node «scope_end») (getD (now («use_node» .entry)) k 0))) (view stamp n (now (visited .entry)) (now (stack .entry)) top)) ⌝ }
+    ensures { λ r. ⌜ Does stamp n visited stack top r (pushAll (afterWrite (charted n first second start) (declared node «scope_end») (useAt false (held «use_word») (held «use_node») k))) ⌝ }
 {
     if is_write(use_word[k]) {
         let u = wide(use_node[k]);
@@ -73,7 +74,7 @@ fn seed(
     requires { ⌜ Ready stamp n (now visited) (now stack) 0 ⌝ }
     requires { ⌜ Long n (now first) (now second) (now start) ⌝ }
     requires { ⌜ AllPlaced n (now mine) (now «use_word») (now «use_node») ⌝ }
-    ensures { λ r. ⌜ Leaves stamp n (now (visited .exit)) (now (stack .exit)) r (pushAll (afterWrites (chart n (now (first .entry)) (now (second .entry)) (now (start .entry))) (declared node «scope_end») (usesAt (now («use_word» .entry)) (now («use_node» .entry)) (now (mine .entry)))) (view stamp n (now (visited .entry)) (now (stack .entry)) 0)) ⌝ }
+    ensures { λ r. ⌜ Does stamp n visited stack 0 r (pushAll (afterWrites (charted n first second start) (declared node «scope_end») (usesAt (held «use_word») (held «use_node») (held mine)))) ⌝ }
 {
     let mut top = 0;
     let mut i = 0;
@@ -117,9 +118,9 @@ pub fn live_walk(
     requires { ⌜ Long n (now first) (now second) (now start) × (n ≤ 1600) ⌝ }
     requires { ⌜ AllPlaced n (now mine) (now «use_word») (now «use_node») ⌝ }
     requires { ⌜ Fresh stamp n (now visited) × (n ≤ length (now stack)) ⌝ }
-    ensures { λ _. ⌜ ((g : Graph) → Charts g n (now (first .entry)) (now (second .entry)) (now (start .entry)) → (us : List Use) → Spells us (now (mine .entry)) (now («use_word» .entry)) (now («use_node» .entry)) → flagsOf stamp n (now (visited .exit)) ≡ liveAfterWrites g (declared node «scope_end») us) ⌝ }
-    ensures { λ _. ⌜ Fresh (stamp + 1) n (now (visited .exit)) × (n ≤ length (now (stack .exit))) ⌝ }
-    ensures { λ r. ⌜ r + zeros n (flagsOf stamp n (now (visited .exit))) ≡ n ⌝ }
+    ensures { λ _. ⌜ ((g : Graph) (us : List Use) → Stands g us n mine first second start «use_word» «use_node» → flagsOf stamp n (left visited) ≡ liveAfterWrites g (declared node «scope_end») us) ⌝ }
+    ensures { λ _. ⌜ Fresh (stamp + 1) n (left visited) × (n ≤ length (left stack)) ⌝ }
+    ensures { λ r. ⌜ r + zeros n (flagsOf stamp n (left visited)) ≡ n ⌝ }
 {
     let mut top = seed(
         first,

@@ -5,10 +5,10 @@ use mathlib.Core.Path.{_≡_, sym, ap, subst, _∙_}
 use mathlib.Core.Bool.{false}
 use mathlib.Core.List.{List, [], _++_}
 use native.Mathlib.Omega.{arith}
-use lib.ListN.{length, getD, drop, replicate, length-append, length-drop, length-replicate, getD-replicate, List·getD-append}
+use lib.ListN.{length, drop, replicate, length-append, length-drop, length-replicate, getD-replicate, List·getD-append}
 use lib.Seq.{drop-append-seam}
 use Rattle.flow.specs.Sheet.{kindWords, useWords, useSpans}
-use Rattle.flow.specs.Findings.{locals, tracked, localAt, firstUnassignedUse, unassignedOf, overwrittenOf, ofEach, findings}
+use Rattle.flow.specs.Findings.{locals, tracked, localAt, firstUnassignedUse, unassignedOf, overwrittenOf, findings}
 use Rattle.uses.specs.Uses.{UseTable, Room, placeOf, LocalsAre, Located as LocatedUses, Sorted as SortedUses}
 use Rattle.locals.specs.Facts.{localsIn, Known, Stored, NoneTracked}
 use Rattle.locals.specs.Columns.{Located}
@@ -22,7 +22,6 @@ use Rattle.overwritten.proofs.Judged.{none-listed, each-none}
 use Rattle.overwritten.proofs.Locals.{lent}
 use Rattle.both_lists.specs.Passes.{Passes, Walks}
 use Rattle.local_flow.specs.Sheets.{Sheets, Given}
-use Rattle.local_flow.specs.Memory.{Memory}
 
 -- ---- what the passes ask
 
@@ -110,14 +109,16 @@ abbrev zeros : ℕ → List ℕ
 zeros k = replicate k 0
 
 -- columns of k zeros are memory for all that has at most k nodes, names and uses
-pub memory : {n names uses : ℕ} (k : ℕ) → n ≤ k → names ≤ k → uses ≤ k → Memory n names uses (zeros k) (zeros k) (zeros k) (zeros k) (zeros (suc k)) (zeros k) (zeros k) (zeros k) (zeros k) (zeros k) (zeros k) (zeros k) (zeros k) (zeros k)
-memory {n} k h i j =
+pub sorting-room : {n names uses : ℕ} (k : ℕ) → n ≤ k → names ≤ k → uses ≤ k → Room uses names n (zeros k) (zeros k) (zeros k) (zeros k) (zeros (suc k)) (zeros k) (zeros k)
+sorting-room k h i j =
     let l : length (zeros k) ≡ k = length-replicate {A = ℕ} k 0 in
     let m : length (zeros (suc k)) ≡ suc k = length-replicate {A = ℕ} (suc k) 0 in
-    record {
-      sorting = record { locals-long = omega (arith, l); nodes-long = omega (arith, l); lost-long = omega (arith, l); order-long = omega (arith, l); name-starts = omega (arith, m); node-starts = omega (arith, m); by-local-long = omega (arith, l); by-node-long = omega (arith, l) };
-      walks = record { ready = record { fresh = fresh-first k h; long = omega (arith, l) }; lent = lent n k h };
-    }
+    record { locals-long = omega (arith, l); nodes-long = omega (arith, l); lost-long = omega (arith, l); order-long = omega (arith, l); name-starts = omega (arith, m); node-starts = omega (arith, m); by-local-long = omega (arith, l); by-node-long = omega (arith, l) }
+
+pub walking-room : {n : ℕ} (k : ℕ) → n ≤ k → Walks n (zeros k) (zeros k) (zeros k) (zeros k) (zeros k) (zeros k) (zeros k) (zeros k)
+walking-room {n} k h =
+    let l : length (zeros k) ≡ k = length-replicate {A = ℕ} k 0 in
+    record { ready = record { fresh = fresh-first k h; long = omega (arith, l) }; lent = lent n k h }
 
 -- ---- no local tracked
 

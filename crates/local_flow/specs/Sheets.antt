@@ -3,13 +3,17 @@
 use Prim.Native.Nat.{ℕ, _≤_}
 use mathlib.Core.Path.{_≡_}
 use mathlib.Core.List.{List}
+use denote.Ref.{RefT, now}
 use lib.ListN.{length, take}
+use Rattle.search.specs.Lent.{Column, held, left}
 use Rattle.flow.specs.Sheet.{kindWords, spanWords, useWords, useSpans}
 use Rattle.flow.specs.Graph.{graph}
-use Rattle.flow.specs.Findings.{locals}
+use Rattle.flow.specs.Findings.{locals, findings}
 use Rattle.uses.specs.Uses.{CodeTable, UseTable}
 use Rattle.locals.specs.Facts.{Known}
 use Rattle.locals.specs.Columns.{Charted, Named, Spanned}
+use Rattle.locals.specs.Entries.{Adds}
+use Rattle.unassigned.specs.Pass.{Marked}
 
 -- the graph's columns are those of the sheet S, and the uses are those of U
 pub record Sheets (S U : List ℕ) (n codes : ℕ) (kinds first second start codeSpan codeNode nameSpan nameNode nameEnd words spans : List ℕ) : Type 0 where
@@ -26,11 +30,16 @@ pub record Sheets (S U : List ℕ) (n codes : ℕ) (kinds first second start cod
   pub spans-are : spans ≡ useSpans U
   pub use-table : UseTable (length (locals S)) words spans
 
--- of some sheets
-pub record AnySheets (n codes : ℕ) (kinds first second start codeSpan codeNode nameSpan nameNode nameEnd words spans : List ℕ) : Type 0 where
+-- lent columns are those of some sheets
+pub record AnySheets (n codes : ℕ) (kinds first second start codeSpan codeNode nameSpan nameNode nameEnd words spans : RefT (List ℕ)) : Type 0 where
   pub sheet : List ℕ
   pub uses : List ℕ
-  pub sheets : Sheets sheet uses n codes kinds first second start codeSpan codeNode nameSpan nameNode nameEnd words spans
+  pub sheets : Sheets sheet uses n codes (now kinds) (now first) (now second) (now start) (now codeSpan) (now codeNode) (now nameSpan) (now nameNode) (now nameEnd) (now words) (now spans)
+
+-- a call lists the findings of the sheets that its columns are those of, r of them, and leaves a mark figure for each local
+abbrev pub Finds : (n codes : ℕ) (kinds first second start codeSpan codeNode nameSpan nameNode nameEnd words spans findingWord findingSpan mark : Column) (r : ℕ) → Type 0
+Finds n codes kinds first second start codeSpan codeNode nameSpan nameNode nameEnd words spans findingWord findingSpan mark r =
+    (S U : List ℕ) → Sheets S U n codes (held kinds) (held first) (held second) (held start) (held codeSpan) (held codeNode) (held nameSpan) (held nameNode) (held nameEnd) (held words) (held spans) → Adds (findings S U) 0 findingWord findingSpan r × Marked n (length (locals S)) (held mark) (left mark)
 
 -- the same of columns for the names: their facts stand for the items
 pub record Given (S U : List ℕ) (n codes names : ℕ) (first second start codeSpan codeNode nameSpan nameNode nameEnd facts words spans : List ℕ) : Type 0 where
@@ -46,7 +55,13 @@ pub record Given (S U : List ℕ) (n codes names : ℕ) (first second start code
   pub spans-are : spans ≡ useSpans U
   pub use-table : UseTable names words spans
 
-pub record AnyGiven (n codes names : ℕ) (first second start codeSpan codeNode nameSpan nameNode nameEnd facts words spans : List ℕ) : Type 0 where
+-- lent columns are such columns of some sheets
+pub record AnyGiven (n codes names : ℕ) (first second start codeSpan codeNode nameSpan nameNode nameEnd facts words spans : RefT (List ℕ)) : Type 0 where
   pub sheet : List ℕ
   pub uses : List ℕ
-  pub given : Given sheet uses n codes names first second start codeSpan codeNode nameSpan nameNode nameEnd facts words spans
+  pub given : Given sheet uses n codes names (now first) (now second) (now start) (now codeSpan) (now codeNode) (now nameSpan) (now nameNode) (now nameEnd) (now facts) (now words) (now spans)
+
+-- a call lists the findings, r of them
+abbrev pub FindsGiven : (n codes names : ℕ) (first second start codeSpan codeNode nameSpan nameNode nameEnd facts words spans findingWord findingSpan : Column) (r : ℕ) → Type 0
+FindsGiven n codes names first second start codeSpan codeNode nameSpan nameNode nameEnd facts words spans findingWord findingSpan r =
+    (S U : List ℕ) → Given S U n codes names (held first) (held second) (held start) (held codeSpan) (held codeNode) (held nameSpan) (held nameNode) (held nameEnd) (held facts) (held words) (held spans) → Adds (findings S U) 0 findingWord findingSpan r

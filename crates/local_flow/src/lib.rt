@@ -1,11 +1,10 @@
 // The findings of all locals, from the columns of a chart and a use sheet (local_flow.rs).
-ghost use mathlib.Core.List.{List};
-ghost use Prim.Native.Nat.{ℕ, _≤_};
+ghost use Prim.Native.Nat.{_≤_};
 ghost use lib.ListN.{length};
-ghost use Rattle.flow.specs.Findings.{locals as localsOf, findings};
-ghost use Rattle.locals.specs.Entries.{Room, Added};
+ghost use Rattle.search.specs.Lent.{held, left};
+ghost use Rattle.locals.specs.Entries.{Room};
 ghost use Rattle.unassigned.specs.Pass.{Marked};
-ghost use Rattle.local_flow.specs.Sheets.{Sheets, AnySheets, Given, AnyGiven};
+ghost use Rattle.local_flow.specs.Sheets.{AnySheets, Finds, AnyGiven, FindsGiven};
 ghost use Rattle.local_flow.specs.Memory.{Memory};
 use both_lists::list_findings;
 use locals::any_tracked;
@@ -49,11 +48,11 @@ fn compute_in(
     codes: usize,
     names: usize,
 ) -> usize
-    requires { ⌜ AnyGiven n codes names (now first) (now second) (now start) (now «code_span») (now «code_node») (now «name_span») (now «name_node») (now «name_end») (now facts) (now «use_word») (now «use_span») ⌝ }
+    requires { ⌜ AnyGiven n codes names first second start «code_span» «code_node» «name_span» «name_node» «name_end» facts «use_word» «use_span» ⌝ }
     requires { ⌜ Room 3072 0 (now «finding_word») (now «finding_span») × (1024 ≤ length (now mark)) ⌝ }
-    requires { ⌜ Memory n names (length (now «use_word»)) (now «use_local») (now «use_node») (now lost) (now stack) (now starts) (now «by_local») (now «by_node») (now visited) (now head) (now «next_a») (now «next_b») (now used) (now reads) (now writes) ⌝ }
-    ensures { λ r. ⌜ ((S U : List ℕ) → Given S U n codes names (now (first .entry)) (now (second .entry)) (now (start .entry)) (now («code_span» .entry)) (now («code_node» .entry)) (now («name_span» .entry)) (now («name_node» .entry)) (now («name_end» .entry)) (now (facts .entry)) (now («use_word» .entry)) (now («use_span» .entry)) → Added (findings S U) 0 (now («finding_word» .entry)) (now («finding_span» .entry)) r (now («finding_word» .exit)) (now («finding_span» .exit))) ⌝ }
-    ensures { λ r. ⌜ Marked n names (now (mark .entry)) (now (mark .exit)) ⌝ }
+    requires { ⌜ Memory n names (length (now «use_word»)) «use_local» «use_node» lost stack starts «by_local» «by_node» visited head «next_a» «next_b» used reads writes ⌝ }
+    ensures { λ r. ⌜ FindsGiven n codes names first second start «code_span» «code_node» «name_span» «name_node» «name_end» facts «use_word» «use_span» «finding_word» «finding_span» r ⌝ }
+    ensures { λ r. ⌜ Marked n names (held mark) (left mark) ⌝ }
 {
     sort_uses(
         code_span,
@@ -122,11 +121,11 @@ fn compute_small(
     codes: usize,
     names: usize,
 ) -> usize
-    requires { ⌜ AnyGiven n codes names (now first) (now second) (now start) (now «code_span») (now «code_node») (now «name_span») (now «name_node») (now «name_end») (now facts) (now «use_word») (now «use_span») ⌝ }
+    requires { ⌜ AnyGiven n codes names first second start «code_span» «code_node» «name_span» «name_node» «name_end» facts «use_word» «use_span» ⌝ }
     requires { ⌜ Room 3072 0 (now «finding_word») (now «finding_span») × (1024 ≤ length (now mark)) ⌝ }
     requires { ⌜ (n ≤ 128) × (names ≤ 128) × (length (now «use_word») ≤ 128) ⌝ }
-    ensures { λ r. ⌜ ((S U : List ℕ) → Given S U n codes names (now (first .entry)) (now (second .entry)) (now (start .entry)) (now («code_span» .entry)) (now («code_node» .entry)) (now («name_span» .entry)) (now («name_node» .entry)) (now («name_end» .entry)) (now (facts .entry)) (now («use_word» .entry)) (now («use_span» .entry)) → Added (findings S U) 0 (now («finding_word» .entry)) (now («finding_span» .entry)) r (now («finding_word» .exit)) (now («finding_span» .exit))) ⌝ }
-    ensures { λ r. ⌜ Marked n names (now (mark .entry)) (now (mark .exit)) ⌝ }
+    ensures { λ r. ⌜ FindsGiven n codes names first second start «code_span» «code_node» «name_span» «name_node» «name_end» facts «use_word» «use_span» «finding_word» «finding_span» r ⌝ }
+    ensures { λ r. ⌜ Marked n names (held mark) (left mark) ⌝ }
 {
     let mut use_local = [0u16; 128];
     let mut use_node = [0u16; 128];
@@ -197,10 +196,10 @@ fn compute_large(
     codes: usize,
     names: usize,
 ) -> usize
-    requires { ⌜ AnyGiven n codes names (now first) (now second) (now start) (now «code_span») (now «code_node») (now «name_span») (now «name_node») (now «name_end») (now facts) (now «use_word») (now «use_span») ⌝ }
+    requires { ⌜ AnyGiven n codes names first second start «code_span» «code_node» «name_span» «name_node» «name_end» facts «use_word» «use_span» ⌝ }
     requires { ⌜ Room 3072 0 (now «finding_word») (now «finding_span») × (1024 ≤ length (now mark)) ⌝ }
-    ensures { λ r. ⌜ ((S U : List ℕ) → Given S U n codes names (now (first .entry)) (now (second .entry)) (now (start .entry)) (now («code_span» .entry)) (now («code_node» .entry)) (now («name_span» .entry)) (now («name_node» .entry)) (now («name_end» .entry)) (now (facts .entry)) (now («use_word» .entry)) (now («use_span» .entry)) → Added (findings S U) 0 (now («finding_word» .entry)) (now («finding_span» .entry)) r (now («finding_word» .exit)) (now («finding_span» .exit))) ⌝ }
-    ensures { λ r. ⌜ Marked n names (now (mark .entry)) (now (mark .exit)) ⌝ }
+    ensures { λ r. ⌜ FindsGiven n codes names first second start «code_span» «code_node» «name_span» «name_node» «name_end» facts «use_word» «use_span» «finding_word» «finding_span» r ⌝ }
+    ensures { λ r. ⌜ Marked n names (held mark) (left mark) ⌝ }
 {
     let mut use_local = [0u16; 1600];
     let mut use_node = [0u16; 1600];
@@ -270,9 +269,9 @@ pub fn compute(
     n: usize,
     codes: usize,
 ) -> usize
-    requires { ⌜ AnySheets n codes (now kinds) (now first) (now second) (now start) (now «code_span») (now «code_node») (now «name_span») (now «name_node») (now «name_end») (now «use_word») (now «use_span») ⌝ }
+    requires { ⌜ AnySheets n codes kinds first second start «code_span» «code_node» «name_span» «name_node» «name_end» «use_word» «use_span» ⌝ }
     requires { ⌜ Room 3072 0 (now «finding_word») (now «finding_span») × (1024 ≤ length (now mark)) ⌝ }
-    ensures { λ r. ⌜ ((S U : List ℕ) → Sheets S U n codes (now (kinds .entry)) (now (first .entry)) (now (second .entry)) (now (start .entry)) (now («code_span» .entry)) (now («code_node» .entry)) (now («name_span» .entry)) (now («name_node» .entry)) (now («name_end» .entry)) (now («use_word» .entry)) (now («use_span» .entry)) → Added (findings S U) 0 (now («finding_word» .entry)) (now («finding_span» .entry)) r (now («finding_word» .exit)) (now («finding_span» .exit)) × Marked n (length (localsOf S)) (now (mark .entry)) (now (mark .exit))) ⌝ }
+    ensures { λ r. ⌜ Finds n codes kinds first second start «code_span» «code_node» «name_span» «name_node» «name_end» «use_word» «use_span» «finding_word» «finding_span» mark r ⌝ }
 {
     let mut facts = [0u16; 1024];
     let names = find_names(kinds, &mut facts);

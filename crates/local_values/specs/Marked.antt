@@ -5,10 +5,12 @@ use mathlib.Core.Path.{_≡_}
 use mathlib.Core.List.{List, [], _∷_, _++_, map, List·Memᴰ}
 use lib.ListN.{length, getD, take}
 use mathlib.Core.Bool.{_&&_}
+use Rattle.search.specs.Lent.{Column, held}
 use Rattle.flow.specs.Graph.{Graph}
-use Rattle.flow.specs.Findings.{Use, Ahead, Finding, Declaration, onlyIf, ofInitial, ofUse, isOverwrittenUnread, overwrittenBelow}
+use Rattle.flow.specs.Findings.{Use, Ahead, Finding, Declaration, onlyIf, ofInitial, ofUse, ahead, isOverwrittenUnread, isOverwritten, overwrittenBelow}
 use Rattle.live_steps.specs.Walk.{Charts}
-use Rattle.uses_by_node.specs.Uses.{Table, Listed, Sorted}
+use Rattle.locals.specs.Entries.{Adds}
+use Rattle.uses_by_node.specs.Uses.{Table, tableOf, Listed, Sorted, AtPlace}
 use Rattle.uses_by_node.specs.Marks.{AheadHeld}
 use Rattle.local_values.specs.declared.LocalDeclaration.{LocalDeclaration}
 
@@ -42,5 +44,32 @@ declared d = record { node = d .node; scopeEnd = d .«scope_end» }
 abbrev pub initialOf : Graph → Ahead → LocalDeclaration → List Finding
 initialOf g a d = onlyIf (d .«has_value» && isOverwrittenUnread g a (d .node)) (ofInitial (d .local) (d .«name_span») ∷ [])
 
+abbrev pub writesOf : Graph → Ahead → ℕ → ℕ → List Use → List Finding
+writesOf g a ℓ n us = map (ofUse 1 ℓ) (overwrittenBelow g a n us)
+
 abbrev pub valuesOf : Graph → Ahead → LocalDeclaration → ℕ → List Use → List Finding
-valuesOf g a d n us = initialOf g a d ++ map (ofUse 1 (d .local)) (overwrittenBelow g a n us)
+valuesOf g a d n us = initialOf g a d ++ writesOf g a (d .local) n us
+
+-- by what is ahead of its uses
+abbrev pub judgedOf : Graph → LocalDeclaration → ℕ → List Use → List Finding
+judgedOf g d n us = valuesOf g (ahead g (declared d) us) d n us
+
+-- what is listed of one use u, which `after` follow by node
+abbrev pub writeOf : Graph → Ahead → ℕ → Use → List Use → List Finding
+writeOf g a ℓ u after = map (ofUse 1 ℓ) (onlyIf (isOverwritten g a u after) (u ∷ []))
+
+-- ---- what calls promise of lent columns
+
+-- P holds of each graph and of each list of uses that a call finds there
+abbrev pub ForStands : ℕ → Column → Column → Column → Column → Column → Column → Column → (Graph → List Use → Type 0) → Type 0
+ForStands n first second start words nodes spans sorted P =
+    (g : Graph) (us : List Use) → Stands n (held first) (held second) (held start) (tableOf words nodes sorted) (held spans) g us → P g us
+
+-- the same with marks, and with what they say is ahead
+abbrev pub ForMarked : ℕ → ℕ → Column → Column → Column → Column → Column → Column → Column → Column → (Graph → Ahead → List Use → Type 0) → Type 0
+ForMarked stamp n first second words nodes spans sorted reads writes P =
+    (g : Graph) (a : Ahead) (us : List Use) → Marked stamp n (held first) (held second) (tableOf words nodes sorted) (held spans) (held reads) (held writes) g a us → P g a us
+
+-- the findings of the use at place i by node are added
+abbrev pub AddsAt : ℕ → List Use → ℕ → (Use → List Use → List Finding) → ℕ → Column → Column → ℕ → Type 0
+AddsAt n us i f count words spans r = AtPlace n us i (λ u after. Adds (f u after) count words spans r)

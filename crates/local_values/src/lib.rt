@@ -1,16 +1,16 @@
 // The overwritten values of one local: the marks of its next uses, its initial value, its writes (local_flow.rs).
 ghost use mathlib.Core.Path.{_≡_};
-ghost use mathlib.Core.List.{List, [], _∷_, map};
+ghost use mathlib.Core.List.{[], _∷_};
 ghost use Prim.Native.Nat.{_+_, _<_, _≤_};
-ghost use lib.ListN.{length, getD, take, drop};
-ghost use Rattle.flow.specs.Graph.{Graph};
-ghost use Rattle.flow.specs.Findings.{Use, Ahead, onlyIf, ofUse, ahead, isOverwritten, overwrittenBelow};
+ghost use lib.ListN.{length, getD, take};
+ghost use Rattle.search.specs.Lent.{held, left};
+ghost use Rattle.flow.specs.Findings.{Use, ofUse};
 ghost use Rattle.predecessors.specs.Predecessors.{Linked};
-ghost use Rattle.uses_by_node.specs.Uses.{byNode, table};
-ghost use Rattle.uses_by_node.specs.Marks.{AheadHeld};
+ghost use Rattle.uses_by_node.specs.Uses.{table};
+ghost use Rattle.uses_by_node.specs.Marks.{ForAhead};
 ghost use Rattle.next_uses.specs.Backwards.{Unmarked};
-ghost use Rattle.locals.specs.Entries.{Room, Added};
-ghost use Rattle.local_values.specs.Marked.{Fits, Stands, Marked, declared, initialOf, valuesOf};
+ghost use Rattle.locals.specs.Entries.{Room, Adds};
+ghost use Rattle.local_values.specs.Marked.{Fits, ForStands, ForMarked, AddsAt, initialOf, writesOf, valuesOf, judgedOf, writeOf};
 use locals::push_finding;
 use next_uses::mark_next_uses;
 use search::cell;
@@ -43,7 +43,7 @@ fn push_write(
     requires { ⌜ (local < 1024) × (k < 1024) × (k < length (now «use_span»)) ⌝ }
     requires { ⌜ Room 1 count (now «finding_word») (now «finding_span») ⌝ }
     ensures { λ r. ⌜ r ≤ count + 1 ⌝ }
-    ensures { λ r. ⌜ ((u : Use) → u .number ≡ k → u .span ≡ getD (now («use_span» .entry)) k 0 → Added (ofUse 1 local u ∷ []) count (now («finding_word» .entry)) (now («finding_span» .entry)) r (now («finding_word» .exit)) (now («finding_span» .exit))) ⌝ }
+    ensures { λ r. ⌜ ((u : Use) → u .number ≡ k → u .span ≡ getD (held «use_span») k 0 → Adds (ofUse 1 local u ∷ []) count «finding_word» «finding_span» r) ⌝ }
 {
     let word = OVERWRITTEN + 2 * local as u64 + USES * (k as u64 + 1);
     push_finding(finding_word, finding_span, count, word, use_span[k])
@@ -72,7 +72,7 @@ fn push_if_overwritten(
     requires { ⌜ (i < length (now sorted)) × (local < 1024) ⌝ }
     requires { ⌜ Room 1 count (now «finding_word») (now «finding_span») ⌝ }
     ensures { λ r. ⌜ r ≤ count + 1 ⌝ }
-    ensures { λ r. ⌜ ((g : Graph) (a : Ahead) (us : List Use) → Marked stamp n (now (first .entry)) (now (second .entry)) (table (now («use_word» .entry)) (now («use_node» .entry)) (now (sorted .entry))) (now («use_span» .entry)) (now (reads .entry)) (now (writes .entry)) g a us → (u : Use) (after : List Use) → drop i (byNode n us) ≡ u ∷ after → Added (map (ofUse 1 local) (onlyIf (isOverwritten g a u after) (u ∷ []))) count (now («finding_word» .entry)) (now («finding_span» .entry)) r (now («finding_word» .exit)) (now («finding_span» .exit))) ⌝ }
+    ensures { λ r. ⌜ ForMarked stamp n first second «use_word» «use_node» «use_span» sorted reads writes (λ g a us. AddsAt n us i (writeOf g a local) count «finding_word» «finding_span» r) ⌝ }
 {
     if is_overwritten(
         first,
@@ -114,8 +114,8 @@ fn list_writes(
     requires { ⌜ (n ≤ length (now reads)) × (n ≤ length (now writes)) ⌝ }
     requires { ⌜ local < 1024 ⌝ }
     requires { ⌜ Room (length (now sorted)) before (now «finding_word») (now «finding_span») ⌝ }
-    ensures { λ r. ⌜ r ≤ before + length (now (sorted .entry)) ⌝ }
-    ensures { λ r. ⌜ ((g : Graph) (a : Ahead) (us : List Use) → Marked stamp n (now (first .entry)) (now (second .entry)) (table (now («use_word» .entry)) (now («use_node» .entry)) (now (sorted .entry))) (now («use_span» .entry)) (now (reads .entry)) (now (writes .entry)) g a us → Added (map (ofUse 1 local) (overwrittenBelow g a n us)) before (now («finding_word» .entry)) (now («finding_span» .entry)) r (now («finding_word» .exit)) (now («finding_span» .exit))) ⌝ }
+    ensures { λ r. ⌜ r ≤ before + length (held sorted) ⌝ }
+    ensures { λ r. ⌜ ForMarked stamp n first second «use_word» «use_node» «use_span» sorted reads writes (λ g a us. Adds (writesOf g a local n us) before «finding_word» «finding_span» r) ⌝ }
 {
     let mut count = before;
     let mut i = 0;
@@ -158,7 +158,7 @@ fn push_initial(
     requires { ⌜ (n ≤ length (now first)) × (n ≤ length (now second)) × (n ≤ length (now reads)) × (n ≤ length (now writes)) × (declaration .node < n) × (declaration .local < 1024) ⌝ }
     requires { ⌜ Room 1 count (now «finding_word») (now «finding_span») ⌝ }
     ensures { λ r. ⌜ r ≤ count + 1 ⌝ }
-    ensures { λ r. ⌜ ((g : Graph) (a : Ahead) → g .nodes .first ≡ take n (now (first .entry)) → g .nodes .second ≡ take n (now (second .entry)) → AheadHeld stamp n (now (reads .entry)) (now (writes .entry)) a → Added (initialOf g a declaration) count (now («finding_word» .entry)) (now («finding_span» .entry)) r (now («finding_word» .exit)) (now («finding_span» .exit))) ⌝ }
+    ensures { λ r. ⌜ ForAhead stamp n first second reads writes (λ g a. Adds (initialOf g a declaration) count «finding_word» «finding_span» r) ⌝ }
 {
     if declaration.has_value {
         let node = declaration.node;
@@ -197,8 +197,8 @@ fn list_values(
     requires { ⌜ (n ≤ length (now reads)) × (n ≤ length (now writes)) ⌝ }
     requires { ⌜ (declaration .node < n) × (declaration .local < 1024) ⌝ }
     requires { ⌜ Room (1 + length (now sorted)) before (now «finding_word») (now «finding_span») ⌝ }
-    ensures { λ r. ⌜ r ≤ before + 1 + length (now (sorted .entry)) ⌝ }
-    ensures { λ r. ⌜ ((g : Graph) (a : Ahead) (us : List Use) → Marked stamp n (now (first .entry)) (now (second .entry)) (table (now («use_word» .entry)) (now («use_node» .entry)) (now (sorted .entry))) (now («use_span» .entry)) (now (reads .entry)) (now (writes .entry)) g a us → Added (valuesOf g a declaration n us) before (now («finding_word» .entry)) (now («finding_span» .entry)) r (now («finding_word» .exit)) (now («finding_span» .exit))) ⌝ }
+    ensures { λ r. ⌜ r ≤ before + 1 + length (held sorted) ⌝ }
+    ensures { λ r. ⌜ ForMarked stamp n first second «use_word» «use_node» «use_span» sorted reads writes (λ g a us. Adds (valuesOf g a declaration n us) before «finding_word» «finding_span» r) ⌝ }
 {
     let count = push_initial(
         first,
@@ -258,9 +258,9 @@ pub fn judge_local(
     requires { ⌜ (declaration .node < n) × (declaration .local < 1024) ⌝ }
     requires { ⌜ Unmarked (declaration .local + 1) n (now used) (now reads) (now writes) (now stack) ⌝ }
     requires { ⌜ Room (1 + length (now sorted)) count (now «finding_word») (now «finding_span») ⌝ }
-    ensures { λ r. ⌜ r ≤ count + 1 + length (now (sorted .entry)) ⌝ }
-    ensures { λ r. ⌜ ((g : Graph) (us : List Use) → Stands n (now (first .entry)) (now (second .entry)) (now (start .entry)) (table (now («use_word» .entry)) (now («use_node» .entry)) (now (sorted .entry))) (now («use_span» .entry)) g us → Added (valuesOf g (ahead g (declared declaration) us) declaration n us) count (now («finding_word» .entry)) (now («finding_span» .entry)) r (now («finding_word» .exit)) (now («finding_span» .exit))) ⌝ }
-    ensures { λ _. ⌜ Unmarked (declaration .local + 2) n (now (used .exit)) (now (reads .exit)) (now (writes .exit)) (now (stack .exit)) ⌝ }
+    ensures { λ r. ⌜ r ≤ count + 1 + length (held sorted) ⌝ }
+    ensures { λ r. ⌜ ForStands n first second start «use_word» «use_node» «use_span» sorted (λ g us. Adds (judgedOf g declaration n us) count «finding_word» «finding_span» r) ⌝ }
+    ensures { λ _. ⌜ Unmarked (declaration .local + 2) n (left used) (left reads) (left writes) (left stack) ⌝ }
 {
     let node = declaration.node;
     let scope_end = declaration.scope_end;

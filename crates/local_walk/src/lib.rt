@@ -1,18 +1,19 @@
 // The walk of one local, if it is due: how many nodes it visits, and the local's first unassigned use (local_flow.rs).
 ghost use mathlib.Core.Path.{_≡_};
-ghost use mathlib.Core.List.{List, [], map};
+ghost use mathlib.Core.List.{List, map};
 ghost use Prim.Native.Nat.{ℕ, _+_, _<_, _≤_};
 ghost use lib.ListN.{length, getD};
+ghost use Rattle.search.specs.Lent.{held, left};
 ghost use Rattle.flow.specs.Graph.{Graph};
-ghost use Rattle.flow.specs.Findings.{Use, liveAfterWrites, firstEmptyRead};
+ghost use Rattle.flow.specs.Findings.{Use};
 ghost use Rattle.live_steps.specs.Stamps.{Fresh};
-ghost use Rattle.live_steps.specs.Walk.{Charts, Long, AllPlaced, OfLocal, declared};
+ghost use Rattle.live_steps.specs.Walk.{Long, AllPlaced, declared};
 ghost use Rattle.empty_read.specs.FirstRead.{InFirst, chosen};
-ghost use Rattle.locals.specs.Columns.{Cut, partAt};
-ghost use Rattle.local_walk.specs.Walks.{codeOf, Finds, Leaves};
+ghost use Rattle.locals.specs.Columns.{Cut, partAt, heldPart};
+ghost use Rattle.local_walk.specs.Walks.{Stands, codeOf, firstEmpty, Finds, Leaves};
 use declarations::Declared;
-use empty_read::FirstUse;
 use empty_read::first_unassigned_use;
+use flow::Found;
 use live_walk::live_walk;
 use locals::part_of;
 use search::cell;
@@ -23,15 +24,15 @@ pub struct Walked {
     pub first: usize,
 }
 
-// The number + 1 of the use at the place that was found.
-fn use_code(mine: &[u16], found: FirstUse) -> usize
+// The number + 1 of the use at the place that was found; 0 where none was.
+fn use_code(mine: &[u16], found: Found) -> usize
     requires { ⌜ InFirst (length (now mine)) found ⌝ }
-    ensures { λ r. ⌜ ((us : List Use) → map (λ u. u .number) us ≡ now (mine .entry) → r ≡ codeOf (chosen found us)) ⌝ }
-    ensures { λ r. ⌜ ((m : ℕ) → ((i : ℕ) → i < length (now (mine .entry)) → getD (now (mine .entry)) i 0 < m) → r ≤ m) ⌝ }
+    ensures { λ r. ⌜ ((us : List Use) → map (λ u. u .number) us ≡ held mine → r ≡ codeOf (chosen found us)) ⌝ }
+    ensures { λ r. ⌜ ((m : ℕ) → ((i : ℕ) → i < length (held mine) → getD (held mine) i 0 < m) → r ≤ m) ⌝ }
 {
     match found {
-        FirstUse::At(i) => cell(mine, i) + 1,
-        FirstUse::Nothing => 0,
+        Found::At(i) => cell(mine, i) + 1,
+        Found::Nothing => 0,
     }
 }
 
@@ -54,8 +55,8 @@ fn walk_local(
     requires { ⌜ Long n (now first) (now second) (now start) × (n ≤ 1600) ⌝ }
     requires { ⌜ AllPlaced n (now mine) (now «use_word») (now «use_node») ⌝ }
     requires { ⌜ Fresh stamp n (now visited) × (n ≤ length (now stack)) ⌝ }
-    ensures { λ r. ⌜ ((g : Graph) (us : List Use) → Charts g n (now (first .entry)) (now (second .entry)) (now (start .entry)) → OfLocal captured n us (now (mine .entry)) (now («use_word» .entry)) (now («use_node» .entry)) → map (λ u. u .number) us ≡ now (mine .entry) → r .first ≡ codeOf (firstEmptyRead (liveAfterWrites g (declared node «scope_end») us) [] us)) ⌝ }
-    ensures { λ r. ⌜ Leaves stamp n (length (now («use_word» .entry))) r (now (visited .exit)) (now (stack .exit)) ⌝ }
+    ensures { λ r. ⌜ ((g : Graph) (us : List Use) → Stands captured g us n (held mine) first second start «use_word» «use_node» → r .first ≡ codeOf (firstEmpty g (declared node «scope_end») us)) ⌝ }
+    ensures { λ r. ⌜ Leaves stamp n (length (held «use_word»)) r (left visited) (left stack) ⌝ }
 {
     let nodes = live_walk(
         first,
@@ -97,8 +98,8 @@ pub fn walk_if_due(
     requires { ⌜ Cut local (now starts) (now «by_local») × (local < 1024) ⌝ }
     requires { ⌜ AllPlaced n (partAt local (now starts) (now «by_local»)) (now «use_word») (now «use_node») ⌝ }
     requires { ⌜ Fresh (local + 1) n (now visited) × (n ≤ length (now stack)) ⌝ }
-    ensures { λ r. ⌜ ((g : Graph) (us : List Use) → Charts g n (now (first .entry)) (now (second .entry)) (now (start .entry)) → OfLocal (declaration .captured) n us (partAt local (now (starts .entry)) (now («by_local» .entry))) (now («use_word» .entry)) (now («use_node» .entry)) → map (λ u. u .number) us ≡ partAt local (now (starts .entry)) (now («by_local» .entry)) → Finds g declaration us r) ⌝ }
-    ensures { λ r. ⌜ Leaves (local + 1) n (length (now («use_word» .entry))) r (now (visited .exit)) (now (stack .exit)) ⌝ }
+    ensures { λ r. ⌜ ((g : Graph) (us : List Use) → Stands (declaration .captured) g us n (heldPart local starts «by_local») first second start «use_word» «use_node» → Finds g declaration us r) ⌝ }
+    ensures { λ r. ⌜ Leaves (local + 1) n (length (held «use_word»)) r (left visited) (left stack) ⌝ }
 {
     let due = declaration.due;
     if due {

@@ -6,6 +6,7 @@ use mathlib.Core.Logic.{_↔_}
 use mathlib.Core.Bool.{true}
 use mathlib.Core.List.{List, map}
 use lib.ListN.{length, getD, take}
+use Rattle.search.specs.Lent.{Column, held}
 use Rattle.flow.specs.Sheet.{useWords, useSpans, startOf}
 use Rattle.flow.specs.Graph.{nodeCount, graph}
 use Rattle.flow.specs.Reachable.{nodeAt}
@@ -65,3 +66,7 @@ pub record Cut (ℓ : ℕ) (starts column : List ℕ) : Type 0 where
 
 abbrev pub partAt : ℕ → List ℕ → List ℕ → List ℕ
 partAt ℓ starts column = part (getD starts ℓ 0) (getD starts (ℓ + 1) 0) column
+
+-- of lent columns
+abbrev pub heldPart : ℕ → Column → Column → List ℕ
+heldPart ℓ starts column = partAt ℓ (held starts) (held column)

@@ -4,6 +4,7 @@ use Prim.Native.Nat.{ℕ, _+_, _≤_}
 use mathlib.Core.Path.{_≡_}
 use mathlib.Core.List.{List, _++_}
 use lib.ListN.{length, take, drop}
+use Rattle.search.specs.Lent.{Column, held, left}
 use Rattle.flow.specs.Findings.{Finding, wordsOf, spansOf}
 
 -- xs stand in the new column from place k on, and all else is as it was
@@ -24,3 +25,13 @@ pub record Room (k count : ℕ) (words spans : List ℕ) : Type 0 where
 pub record Added (fs : List Finding) (count : ℕ) (words spans : List ℕ) (r : ℕ) (newWords newSpans : List ℕ) : Type 0 where
   pub counted : r ≡ count + length fs
   pub entered : Listed fs count words spans newWords newSpans
+
+-- ---- a call that is lent the two columns
+
+-- it lists the findings fs from place k on
+abbrev pub Lists : List Finding → ℕ → Column → Column → Type 0
+Lists fs k words spans = Listed fs k (held words) (held spans) (left words) (left spans)
+
+-- it adds the findings fs to the first `count`, which makes r of them
+abbrev pub Adds : List Finding → ℕ → Column → Column → ℕ → Type 0
+Adds fs count words spans r = Added fs count (held words) (held spans) r (left words) (left spans)

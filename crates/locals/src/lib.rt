@@ -6,8 +6,8 @@ ghost use Prim.Native.Nat.{_+_, _/_, _<_, _≤_};
 ghost use lib.ListN.{length};
 ghost use Rattle.flow.specs.Findings.{Local, noValue, tracked, writesJudged, captured};
 ghost use Rattle.locals.specs.Facts.{factsOf, valuesAfter, beforeAfter, nameHere, localsIn, Stored, NoneTracked};
-ghost use Rattle.locals.specs.Columns.{Cut, partAt};
-ghost use Rattle.locals.specs.Entries.{Listed};
+ghost use Rattle.locals.specs.Columns.{Cut, heldPart};
+ghost use Rattle.locals.specs.Entries.{Lists};
 use search::cell;
 
 // A word of an item is kind + 256 × argument.
@@ -161,7 +161,7 @@ pub fn is_small(n: usize, names: usize, uses: usize) -> bool
 // A local's part of a column of use numbers.
 pub fn part_of<'a>(starts: &[u16], column: &'a [u16], local: usize) -> &'a [u16]
     requires { ⌜ Cut local (now starts) (now column) ⌝ }
-    ensures { λ r. ⌜ now r ≡ partAt local (now (starts .entry)) (now (column .entry)) ⌝ }
+    ensures { λ r. ⌜ now r ≡ heldPart local starts column ⌝ }
 {
     let from = cell(starts, local);
     let to = cell(starts, local + 1);
@@ -177,7 +177,7 @@ pub fn push_finding(
     span: u64,
 ) -> usize
     requires { ⌜ (count < length (now «finding_word»)) × (count < length (now «finding_span»)) ⌝ }
-    ensures { λ r. ⌜ Listed (record { word = word; span = span } ∷ []) count (now («finding_word» .entry)) (now («finding_span» .entry)) (now («finding_word» .exit)) (now («finding_span» .exit)) ⌝ }
+    ensures { λ r. ⌜ Lists (record { word = word; span = span } ∷ []) count «finding_word» «finding_span» ⌝ }
     ensures { λ r. ⌜ r ≡ count + 1 ⌝ }
 {
     finding_word[count] = word;

@@ -1,18 +1,15 @@
 // Which nodes see a read or a pure write of a local ahead, found backwards from its uses (local_flow.rs).
 ghost use mathlib.Core.Path.{_≡_};
-ghost use mathlib.Core.List.{List};
-ghost use Prim.Native.Nat.{ℕ, _<_, _≤_};
+ghost use Prim.Native.Nat.{_<_, _≤_};
 ghost use lib.ListN.{length, getD};
-ghost use Rattle.search.specs.Worklist.{st};
-ghost use Rattle.search.specs.Stamps.{flagsOf, Fresh, Stamped, stampAll, stampWhen};
+ghost use Rattle.search.specs.Stamps.{Fresh, Stamped, stampAll};
+ghost use Rattle.search.specs.Lent.{held, left};
 ghost use Rattle.flow.specs.Sheet.{useKindOf};
-ghost use Rattle.flow.specs.Graph.{Graph};
-ghost use Rattle.flow.specs.Findings.{Use, ahead};
-ghost use Rattle.predecessors.specs.Predecessors.{Linked, Chained};
+ghost use Rattle.predecessors.specs.Predecessors.{Chained};
 ghost use Rattle.predecessors.specs.Scope.{scope};
-ghost use Rattle.uses_by_node.specs.Uses.{table, nodeAt, Placed, Listed, Sorted, Used};
-ghost use Rattle.uses_by_node.specs.Marks.{AheadHeld};
-ghost use Rattle.next_uses.specs.Backwards.{ofSort, startsHere, startsTo, backFlags, Unmarked, Columns};
+ghost use Rattle.predecessors.specs.Lent.{stAt};
+ghost use Rattle.uses_by_node.specs.Uses.{table, tableOf, nodeAt, Placed, Listed, Used};
+ghost use Rattle.next_uses.specs.Backwards.{ofSort, startsHere, startPushed, allStarts, Searched, Unmarked, MarksAhead};
 use predecessors::is_alive_at;
 use predecessors::push_chain;
 use search::cell;
@@ -23,7 +20,7 @@ use uses_by_node::use_kind;
 // Whether a use is of the sort that is searched for: a pure write, or a read.
 fn is_of_sort(use_word: &[u64], pure: bool, k: usize) -> bool
     requires { ⌜ k < length (now «use_word») ⌝ }
-    ensures { λ r. ⌜ r ≡ ofSort pure (useKindOf (getD (now («use_word» .entry)) k 0)) ⌝ }
+    ensures { λ r. ⌜ r ≡ ofSort pure (useKindOf (getD (held «use_word») k 0)) ⌝ }
 {
     let is_write = use_kind(use_word, k) == 1;
     if pure { is_write } else { !is_write }
@@ -43,7 +40,7 @@ fn starts_here(
 ) -> bool
     requires { ⌜ (i < length (now sorted)) × (n ≤ length (now start)) ⌝ }
     requires { ⌜ Listed n (table (now «use_word») (now «use_node») (now sorted)) ⌝ }
-    ensures { λ r. ⌜ r ≡ startsHere (scope (now (start .entry)) node «scope_end») (table (now («use_word» .entry)) (now («use_node» .entry)) (now (sorted .entry))) pure i ⌝ }
+    ensures { λ r. ⌜ r ≡ startsHere (scope (held start) node «scope_end») (tableOf «use_word» «use_node» sorted) pure i ⌝ }
 {
     let k = cell(sorted, i);
     if opens_node(use_node, sorted, i) {
@@ -77,7 +74,7 @@ fn push_start(
     requires { ⌜ (i < length (now sorted)) × (n ≤ length (now start)) × (n ≤ length (now marks)) × (n ≤ 1600) ⌝ }
     requires { ⌜ Listed n (table (now «use_word») (now «use_node») (now sorted)) ⌝ }
     requires { ⌜ ((getD (now marks) (nodeAt (now «use_node») (now sorted) i) 0 ≡ stamp → ⊥) → top < length (now stack)) ⌝ }
-    ensures { λ r. ⌜ st (now (marks .exit)) (now (stack .exit)) r ≡ stampWhen stamp (startsHere (scope (now (start .entry)) node «scope_end») (table (now («use_word» .entry)) (now («use_node» .entry)) (now (sorted .entry))) pure i) (nodeAt (now («use_node» .entry)) (now (sorted .entry)) i) (st (now (marks .entry)) (now (stack .entry)) top) ⌝ }
+    ensures { λ r. ⌜ stAt left marks stack r ≡ startPushed stamp (scope (held start) node «scope_end») (tableOf «use_word» «use_node» sorted) pure i (stAt held marks stack top) ⌝ }
 {
     if starts_here(
         start,
@@ -114,7 +111,7 @@ fn push_starts(
 ) -> usize
     requires { ⌜ (n ≤ 1600) × (n ≤ length (now start)) × (n ≤ length (now marks)) × (n ≤ length (now stack)) ⌝ }
     requires { ⌜ Listed n (table (now «use_word») (now «use_node») (now sorted)) ⌝ }
-    ensures { λ r. ⌜ st (now (marks .exit)) (now (stack .exit)) r ≡ stampAll stamp (startsTo (scope (now (start .entry)) node «scope_end») (table (now («use_word» .entry)) (now («use_node» .entry)) (now (sorted .entry))) pure (length (now (sorted .entry)))) (st (now (marks .entry)) (now (stack .entry)) 0) ⌝ }
+    ensures { λ r. ⌜ stAt left marks stack r ≡ stampAll stamp (allStarts (scope (held start) node «scope_end») (tableOf «use_word» «use_node» sorted) pure) (stAt held marks stack 0) ⌝ }
 {
     let mut top = 0;
     let mut i = 0;
@@ -161,8 +158,8 @@ fn search_back(
     requires { ⌜ Listed n (table (now «use_word») (now «use_node») (now sorted)) ⌝ }
     requires { ⌜ Chained n (now head) (now «next_a») (now «next_b») ⌝ }
     requires { ⌜ Fresh stamp (now marks) ⌝ }
-    ensures { λ _. ⌜ ((f s : List ℕ) → Linked f s n n (now (head .entry)) (now («next_a» .entry)) (now («next_b» .entry)) → flagsOf stamp n (now (marks .exit)) ≡ backFlags (scope (now (start .entry)) node «scope_end») (table (now («use_word» .entry)) (now («use_node» .entry)) (now (sorted .entry))) pure stamp (now (used .entry)) f s n) ⌝ }
-    ensures { λ _. ⌜ Stamped stamp (now (marks .exit)) ⌝ }
+    ensures { λ _. ⌜ Searched stamp n (scope (held start) node «scope_end») (tableOf «use_word» «use_node» sorted) pure head «next_a» «next_b» used marks ⌝ }
+    ensures { λ _. ⌜ Stamped stamp (left marks) ⌝ }
 {
     let mut top = push_starts(
         start,
@@ -202,8 +199,8 @@ fn search_back(
 fn mark_used(use_node: &[u16], sorted: &[u16], used: &mut [u16], stamp: u16)
     requires { ⌜ Placed (length (now used)) (now «use_node») (now sorted) ⌝ }
     requires { ⌜ Fresh stamp (now used) ⌝ }
-    ensures { λ _. ⌜ Used stamp (now («use_node» .entry)) (now (sorted .entry)) (length (now (sorted .entry))) (now (used .exit)) ⌝ }
-    ensures { λ _. ⌜ Stamped stamp (now (used .exit)) ⌝ }
+    ensures { λ _. ⌜ Used stamp (held «use_node») (held sorted) (length (held sorted)) (left used) ⌝ }
+    ensures { λ _. ⌜ Stamped stamp (left used) ⌝ }
 {
     let mut i = 0;
     while i < sorted.len() {
@@ -236,8 +233,8 @@ pub fn mark_next_uses(
     requires { ⌜ Listed n (table (now «use_word») (now «use_node») (now sorted)) ⌝ }
     requires { ⌜ Chained n (now head) (now «next_a») (now «next_b») ⌝ }
     requires { ⌜ Unmarked stamp n (now used) (now reads) (now writes) (now stack) ⌝ }
-    ensures { λ _. ⌜ ((g : Graph) (us : List Use) → Columns g n (now (start .entry)) (now (head .entry)) (now («next_a» .entry)) (now («next_b» .entry)) → Sorted n (table (now («use_word» .entry)) (now («use_node» .entry)) (now (sorted .entry))) us → AheadHeld stamp n (now (reads .exit)) (now (writes .exit)) (ahead g (record { node = node; scopeEnd = «scope_end» }) us)) ⌝ }
-    ensures { λ _. ⌜ Stamped stamp (now (used .exit)) × Stamped stamp (now (reads .exit)) × Stamped stamp (now (writes .exit)) ⌝ }
+    ensures { λ _. ⌜ MarksAhead stamp n (record { node = node; scopeEnd = «scope_end» }) start head «next_a» «next_b» (tableOf «use_word» «use_node» sorted) reads writes ⌝ }
+    ensures { λ _. ⌜ Stamped stamp (left used) × Stamped stamp (left reads) × Stamped stamp (left writes) ⌝ }
 {
     mark_used(use_node, sorted, used, stamp);
     search_back(

@@ -10,7 +10,7 @@ use borrow.Author.Tests.{lt-ltb, le-ltb}
 use lib.Dec.{eqb}
 use lib.ListN.{length, getD, take}
 use lib.Seq.{length-take-le, getD-take}
-use Rattle.flow.specs.declared.Place.the-variants.{Node, Past}
+use Rattle.flow.specs.declared.Found.the-variants.{At, Nothing}
 use Rattle.flow.specs.Sheet.{endOf}
 use Rattle.flow.specs.Graph.{Graph, nodeCount}
 use Rattle.flow.specs.Reachable.{reachable, nodeAmong, canRun}
@@ -26,34 +26,34 @@ getD-tail : (l : List ℕ) (i : ℕ) → getD (tail l) i 0 ≡ getD l (suc i) 0
 getD-tail [] i = refl
 getD-tail (x ∷ l) i = refl
 
-among-at : (spans nodes : List ℕ) (o r : ℕ) → ((i : ℕ) → i < r → endOf (getD spans i 0) ≤ o) → r < length spans → o < endOf (getD spans r 0) → nodeAmong spans nodes o ≡ Node (getD nodes r 0)
+among-at : (spans nodes : List ℕ) (o r : ℕ) → ((i : ℕ) → i < r → endOf (getD spans i 0) ≤ o) → r < length spans → o < endOf (getD spans r 0) → nodeAmong spans nodes o ≡ At (getD nodes r 0)
 unfolding nodeAmong
 among-at [] nodes o r b l p = absurd (not-suc-le-zero l)
 among-at (s ∷ ss) nodes o zero b l p = rw (lt-ltb o (endOf s) p)
 among-at (s ∷ ss) nodes o (suc r) b l p =
     rw (le-ltb o (endOf s) (b 0 (omega arith)))
-    (among-at ss (tail nodes) o r (λ i h. b (suc i) (omega arith)) (le-of-suc-le-suc l) p ∙ ap Node (getD-tail nodes r))
+    (among-at ss (tail nodes) o r (λ i h. b (suc i) (omega arith)) (le-of-suc-le-suc l) p ∙ ap At (getD-tail nodes r))
 
-among-past : (spans nodes : List ℕ) (o : ℕ) → ((i : ℕ) → i < length spans → endOf (getD spans i 0) ≤ o) → nodeAmong spans nodes o ≡ Past
+among-none : (spans nodes : List ℕ) (o : ℕ) → ((i : ℕ) → i < length spans → endOf (getD spans i 0) ≤ o) → nodeAmong spans nodes o ≡ Nothing
 unfolding nodeAmong
-among-past [] nodes o b = refl
-among-past (s ∷ ss) nodes o b = rw (le-ltb o (endOf s) (b 0 (omega arith))) (among-past ss (tail nodes) o (λ i h. b (suc i) (omega arith)))
+among-none [] nodes o b = refl
+among-none (s ∷ ss) nodes o b = rw (le-ltb o (endOf s) (b 0 (omega arith))) (among-none ss (tail nodes) o (λ i h. b (suc i) (omega arith)))
 
 module _ (codes : ℕ) (spans nodes : List ℕ) (o r : ℕ) (l : codes ≤ length spans) (f : FirstPast codes spans o r) where
   all : length (take codes spans) ≡ codes
   all = length-take-le codes spans l
 
-  pub first-at : r < codes → Node (getD nodes r 0) ≡ nodeAmong (take codes spans) (take codes nodes) o
+  pub first-at : r < codes → At (getD nodes r 0) ≡ nodeAmong (take codes spans) (take codes nodes) o
   first-at h =
-      ap Node (sym (getD-take codes nodes r 0 h))
+      ap At (sym (getD-take codes nodes r 0 h))
       ∙ sym (among-at (take codes spans) (take codes nodes) o r (λ i j. rw (getD-take codes spans i 0 (omega arith)) (f .before i j)) (omega (arith, all)) (rw (getD-take codes spans r 0 h) (f .past h)))
 
-  pub first-past : codes ≤ r → Past ≡ nodeAmong (take codes spans) (take codes nodes) o
-  first-past h =
-      sym (among-past (take codes spans) (take codes nodes) o (λ i j. rw (getD-take codes spans i 0 (omega (arith, all))) (f .before i (omega (arith, all)))))
+  pub first-none : codes ≤ r → Nothing ≡ nodeAmong (take codes spans) (take codes nodes) o
+  first-none h =
+      sym (among-none (take codes spans) (take codes nodes) o (λ i j. rw (getD-take codes spans i 0 (omega (arith, all))) (f .before i (omega (arith, all)))))
 
 -- ---- what can run
 
-pub flag-runs : (g : Graph) (m : List ℕ) (v : ℕ) → take (nodeCount g) m ≡ reachable g → v < nodeCount g → eqb (getD m v 0) 1 ≡ canRun g (Node v)
+pub flag-runs : (g : Graph) (m : List ℕ) (v : ℕ) → take (nodeCount g) m ≡ reachable g → v < nodeCount g → eqb (getD m v 0) 1 ≡ canRun g (At v)
 unfolding canRun
 flag-runs g m v e h = ap (λ (x : ℕ). eqb x 1) (sym (getD-take (nodeCount g) m v 0 h) ∙ ap (λ (l : List ℕ). getD l v 0) e)

@@ -4,8 +4,8 @@ use Prim.Native.Nat.{ℕ, _<_, _≤_}
 use mathlib.Core.Path.{_≡_}
 use mathlib.Core.List.{List}
 use lib.ListN.{getD}
-use Rattle.flow.specs.declared.Place.{Place}
-use Rattle.flow.specs.declared.Place.the-variants.{Node}
+use Rattle.flow.specs.declared.Found.{Found}
+use Rattle.flow.specs.declared.Found.the-variants.{At}
 use Rattle.flow.specs.Sheet.{endOf}
 
 -- the ends of the first `codes` spans rise
@@ -18,6 +18,6 @@ pub record FirstPast (codes : ℕ) (spans : List ℕ) (offset r : ℕ) : Type 0 
   pub before : (i : ℕ) → i < r → endOf (getD spans i 0) ≤ offset
   pub past : r < codes → offset < endOf (getD spans r 0)
 
--- the node of a place, if it has one, is below n
-abbrev pub Within : ℕ → Place → Type 0
-Within n p = (v : ℕ) → p ≡ Node v → v < n
+-- the node that was found, if one was, is below n
+abbrev pub Within : ℕ → Found → Type 0
+Within n f = (v : ℕ) → f ≡ At v → v < n

@@ -7,7 +7,7 @@ ghost use lib.ListN.{length, take};
 ghost use Rattle.flow.specs.Graph.{Graph, nodeCount};
 ghost use Rattle.flow.specs.Reachable.{reachable as reachableFlags, nodeAmong, canRun};
 ghost use Rattle.offsets.specs.Codes.{Rising, FirstPast, Within};
-use flow::Place;
+use flow::Found;
 use search::at;
 
 // A span's word is start + 2^32 × end.
@@ -74,19 +74,19 @@ pub fn code_at(code_span: &[u64], codes: usize, offset: u64, hint: usize) -> usi
 }
 
 // The node of the code at an index; past all codes there is none.
-pub fn place_at(code_node: &[u64], codes: usize, index: usize) -> Place
+pub fn place_at(code_node: &[u64], codes: usize, index: usize) -> Found
     requires { ⌜ codes ≤ length (now «code_node») ⌝ }
     ensures { λ r. ⌜ ((spans : List ℕ) (offset : ℕ) → codes ≤ length spans → FirstPast codes spans offset index → r ≡ nodeAmong (take codes spans) (take codes (now («code_node» .entry))) offset) ⌝ }
 {
     if index < codes {
-        Place::Node(at(code_node, index))
+        Found::At(at(code_node, index))
     } else {
-        Place::Past
+        Found::Nothing
     }
 }
 
-// The node of the first code that ends past an offset.
-pub fn node_at(code_span: &[u64], code_node: &[u64], codes: usize, offset: u64) -> Place
+// The node of the first code that ends past an offset, if there is one.
+pub fn node_at(code_span: &[u64], code_node: &[u64], codes: usize, offset: u64) -> Found
     requires { ⌜ (codes ≤ length (now «code_span»)) × (codes ≤ length (now «code_node»)) ⌝ }
     requires { ⌜ Rising codes (now «code_span») ⌝ }
     ensures { λ r. ⌜ r ≡ nodeAmong (take codes (now («code_span» .entry))) (take codes (now («code_node» .entry))) offset ⌝ }
@@ -95,13 +95,13 @@ pub fn node_at(code_span: &[u64], code_node: &[u64], codes: usize, offset: u64) 
     place_at(code_node, codes, index)
 }
 
-// Whether the code at a place can run; past all code the answer is yes.
-pub fn can_run(reachable: &[u64], place: Place) -> bool
-    requires { ⌜ Within (length (now reachable)) place ⌝ }
-    ensures { λ r. ⌜ ((g : Graph) → take (nodeCount g) (now (reachable .entry)) ≡ reachableFlags g → Within (nodeCount g) place → r ≡ canRun g place) ⌝ }
+// Whether the code at the node that was found can run; where none was found the answer is yes.
+pub fn can_run(reachable: &[u64], found: Found) -> bool
+    requires { ⌜ Within (length (now reachable)) found ⌝ }
+    ensures { λ r. ⌜ ((g : Graph) → take (nodeCount g) (now (reachable .entry)) ≡ reachableFlags g → Within (nodeCount g) found → r ≡ canRun g found) ⌝ }
 {
-    match place {
-        Place::Node(v) => reachable[v] == 1,
-        Place::Past => true,
+    match found {
+        Found::At(v) => reachable[v] == 1,
+        Found::Nothing => true,
     }
 }

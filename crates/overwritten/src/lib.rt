@@ -1,15 +1,15 @@
 // The overwritten findings: values that a later write replaces on some path and no path reads (local_flow.rs).
 ghost use mathlib.Core.Path.{_≡_};
 ghost use mathlib.Core.Bool.{false};
-ghost use mathlib.Core.List.{List};
-ghost use Prim.Native.Nat.{ℕ, _+_, _-_, _<_, _≤_};
+ghost use Prim.Native.Nat.{_+_, _-_, _<_, _≤_};
 ghost use lib.ListN.{length, getD, take};
-ghost use Rattle.flow.specs.Findings.{Local, overwrittenOf, ofEach};
+ghost use Rattle.search.specs.Lent.{held, left};
+ghost use Rattle.flow.specs.Findings.{Local};
 ghost use Rattle.predecessors.specs.Predecessors.{Linked};
 ghost use Rattle.next_uses.specs.Backwards.{Unmarked};
 ghost use Rattle.locals.specs.Facts.{factsOf};
-ghost use Rattle.locals.specs.Entries.{Room, Added};
-ghost use Rattle.overwritten.specs.Pass.{Pass, Lent, isJudged, NoneJudged, DeclaredAt};
+ghost use Rattle.locals.specs.Entries.{Room};
+ghost use Rattle.overwritten.specs.Pass.{AnyPass, AddsOne, AddsAll, Lent, isJudged, NoneJudged, DeclaredAt};
 use local_values::LocalDeclaration;
 use local_values::judge_local;
 use locals::has_value;
@@ -37,7 +37,7 @@ fn is_judged(facts: u16, lost: u16) -> bool
 // Whether the values of some local are judged. Where none are, nothing is searched.
 fn any_judged(facts: &[u16], lost: &[u16], names: usize) -> bool
     requires { ⌜ (names ≤ length (now facts)) × (names ≤ length (now lost)) ⌝ }
-    ensures { λ r. ⌜ (r ≡ false → NoneJudged names (now (facts .entry)) (now (lost .entry))) ⌝ }
+    ensures { λ r. ⌜ (r ≡ false → NoneJudged names (held facts) (held lost)) ⌝ }
 {
     let mut i = 0;
     while i < names {
@@ -58,7 +58,7 @@ fn declaration_at(
     local: usize,
 ) -> LocalDeclaration
     requires { ⌜ (local < length (now «name_node»)) × (local < length (now «name_end»)) × (local < length (now «name_span»)) × (local < length (now facts)) ⌝ }
-    ensures { λ r. ⌜ DeclaredAt (now («name_node» .entry)) (now («name_end» .entry)) (now («name_span» .entry)) (now (facts .entry)) local r ⌝ }
+    ensures { λ r. ⌜ DeclaredAt (held «name_node») (held «name_end») (held «name_span») (held facts) local r ⌝ }
 {
     LocalDeclaration {
         local,
@@ -98,14 +98,14 @@ fn add_local(
     count: usize,
     local: usize,
 ) -> usize
-    requires { ⌜ ((S : List ℕ) × (U : List ℕ) × Pass S U n names (now first) (now second) (now start) (now «name_node») (now «name_end») (now «name_span») (now facts) (now lost) (now starts) (now «by_node») (now «use_word») (now «use_node») (now «use_span»)) ⌝ }
+    requires { ⌜ AnyPass n names first second start «name_node» «name_end» «name_span» facts lost starts «by_node» «use_word» «use_node» «use_span» ⌝ }
     requires { ⌜ Linked (take n (now first)) (take n (now second)) n n (now head) (now «next_a») (now «next_b») ⌝ }
     requires { ⌜ local < names ⌝ }
     requires { ⌜ Unmarked (local + 1) n (now used) (now reads) (now writes) (now stack) ⌝ }
     requires { ⌜ Room (1 + (getD (now starts) (local + 1) 0 - getD (now starts) local 0)) count (now «finding_word») (now «finding_span») ⌝ }
-    ensures { λ r. ⌜ r ≤ count + (1 + (getD (now (starts .entry)) (local + 1) 0 - getD (now (starts .entry)) local 0)) ⌝ }
-    ensures { λ r. ⌜ ((S U : List ℕ) → Pass S U n names (now (first .entry)) (now (second .entry)) (now (start .entry)) (now («name_node» .entry)) (now («name_end» .entry)) (now («name_span» .entry)) (now (facts .entry)) (now (lost .entry)) (now (starts .entry)) (now («by_node» .entry)) (now («use_word» .entry)) (now («use_node» .entry)) (now («use_span» .entry)) → Added (overwrittenOf S U local) count (now («finding_word» .entry)) (now («finding_span» .entry)) r (now («finding_word» .exit)) (now («finding_span» .exit))) ⌝ }
-    ensures { λ _. ⌜ Unmarked (local + 2) n (now (used .exit)) (now (reads .exit)) (now (writes .exit)) (now (stack .exit)) ⌝ }
+    ensures { λ r. ⌜ r ≤ count + (1 + (getD (held starts) (local + 1) 0 - getD (held starts) local 0)) ⌝ }
+    ensures { λ r. ⌜ AddsOne n names first second start «name_node» «name_end» «name_span» facts lost starts «by_node» «use_word» «use_node» «use_span» «finding_word» «finding_span» local count r ⌝ }
+    ensures { λ _. ⌜ Unmarked (local + 2) n (left used) (left reads) (left writes) (left stack) ⌝ }
 {
     if is_judged(facts[local], lost[local]) {
         let declaration = declaration_at(name_node, name_end, name_span, facts, local);
@@ -164,11 +164,11 @@ fn list_locals(
     names: usize,
     before: usize,
 ) -> usize
-    requires { ⌜ ((S : List ℕ) × (U : List ℕ) × Pass S U n names (now first) (now second) (now start) (now «name_node») (now «name_end») (now «name_span») (now facts) (now lost) (now starts) (now «by_node») (now «use_word») (now «use_node») (now «use_span»)) ⌝ }
+    requires { ⌜ AnyPass n names first second start «name_node» «name_end» «name_span» facts lost starts «by_node» «use_word» «use_node» «use_span» ⌝ }
     requires { ⌜ Linked (take n (now first)) (take n (now second)) n n (now head) (now «next_a») (now «next_b») ⌝ }
     requires { ⌜ Unmarked 1 n (now used) (now reads) (now writes) (now stack) ⌝ }
     requires { ⌜ Room (names + length (now «use_word»)) before (now «finding_word») (now «finding_span») ⌝ }
-    ensures { λ r. ⌜ ((S U : List ℕ) → Pass S U n names (now (first .entry)) (now (second .entry)) (now (start .entry)) (now («name_node» .entry)) (now («name_end» .entry)) (now («name_span» .entry)) (now (facts .entry)) (now (lost .entry)) (now (starts .entry)) (now («by_node» .entry)) (now («use_word» .entry)) (now («use_node» .entry)) (now («use_span» .entry)) → Added (ofEach (overwrittenOf S U) names) before (now («finding_word» .entry)) (now («finding_span» .entry)) r (now («finding_word» .exit)) (now («finding_span» .exit))) ⌝ }
+    ensures { λ r. ⌜ AddsAll n names first second start «name_node» «name_end» «name_span» facts lost starts «by_node» «use_word» «use_node» «use_span» «finding_word» «finding_span» before r ⌝ }
 {
     let mut count = before;
     let mut local = 0;
@@ -234,10 +234,10 @@ pub fn list_overwritten(
     names: usize,
     before: usize,
 ) -> usize
-    requires { ⌜ ((S : List ℕ) × (U : List ℕ) × Pass S U n names (now first) (now second) (now start) (now «name_node») (now «name_end») (now «name_span») (now facts) (now lost) (now starts) (now «by_node») (now «use_word») (now «use_node») (now «use_span»)) ⌝ }
+    requires { ⌜ AnyPass n names first second start «name_node» «name_end» «name_span» facts lost starts «by_node» «use_word» «use_node» «use_span» ⌝ }
     requires { ⌜ Lent n (now head) (now «next_a») (now «next_b») (now used) (now reads) (now writes) (now stack) ⌝ }
     requires { ⌜ Room (names + length (now «use_word»)) before (now «finding_word») (now «finding_span») ⌝ }
-    ensures { λ r. ⌜ ((S U : List ℕ) → Pass S U n names (now (first .entry)) (now (second .entry)) (now (start .entry)) (now («name_node» .entry)) (now («name_end» .entry)) (now («name_span» .entry)) (now (facts .entry)) (now (lost .entry)) (now (starts .entry)) (now («by_node» .entry)) (now («use_word» .entry)) (now («use_node» .entry)) (now («use_span» .entry)) → Added (ofEach (overwrittenOf S U) names) before (now («finding_word» .entry)) (now («finding_span» .entry)) r (now («finding_word» .exit)) (now («finding_span» .exit))) ⌝ }
+    ensures { λ r. ⌜ AddsAll n names first second start «name_node» «name_end» «name_span» facts lost starts «by_node» «use_word» «use_node» «use_span» «finding_word» «finding_span» before r ⌝ }
 {
     if any_judged(facts, lost, names) {
         build_predecessors(first, second, head, next_a, next_b, n);

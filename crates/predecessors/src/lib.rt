@@ -3,11 +3,12 @@ ghost use mathlib.Core.Path.{_≡_};
 ghost use mathlib.Core.List.{List};
 ghost use Prim.Native.Nat.{ℕ, _<_, _≤_};
 ghost use lib.ListN.{length, getD, take};
-ghost use Rattle.search.specs.Search.{keep};
 ghost use Rattle.search.specs.Worklist.{st};
-ghost use Rattle.search.specs.Stamps.{stampAll, stampWhen, Ready};
+ghost use Rattle.search.specs.Stamps.{stampWhen, Ready};
 ghost use Rattle.predecessors.specs.Predecessors.{Blank, Linked, linkHead, linkNext, Chain, nodeOfEdge, edgeAfter};
 ghost use Rattle.predecessors.specs.Scope.{scope, aliveIn, passes as goesOn};
+ghost use Rattle.search.specs.Lent.{held, left};
+ghost use Rattle.predecessors.specs.Lent.{stAt, Pushes};
 use search::at;
 use search::cell;
 use search::insert;
@@ -15,8 +16,8 @@ use search::insert;
 // An edge of node u to v put in front of v's chain.
 fn link(head: &mut [u16], next: &mut [u16], n: usize, u: usize, v: usize, code: usize)
     requires { ⌜ (n ≤ length (now head)) × (u < length (now next)) × (code < 65536) ⌝ }
-    ensures { λ _. ⌜ now (head .exit) ≡ linkHead n v code (now (head .entry)) ⌝ }
-    ensures { λ _. ⌜ now (next .exit) ≡ linkNext n u v (now (head .entry)) (now (next .entry)) ⌝ }
+    ensures { λ _. ⌜ left head ≡ linkHead n v code (held head) ⌝ }
+    ensures { λ _. ⌜ left next ≡ linkNext n u v (held head) (held next) ⌝ }
 {
     if v < n {
         next[u] = head[v];
@@ -35,7 +36,7 @@ pub fn build_predecessors(
 )
     requires { ⌜ (n ≤ 1600) × (n ≤ length (now first)) × (n ≤ length (now second)) ⌝ }
     requires { ⌜ Blank n (now head) (now «next_a») (now «next_b») ⌝ }
-    ensures { λ _. ⌜ Linked (take n (now (first .entry))) (take n (now (second .entry))) n n (now (head .exit)) (now («next_a» .exit)) (now («next_b» .exit)) ⌝ }
+    ensures { λ _. ⌜ Linked (take n (held first)) (take n (held second)) n n (left head) (left «next_a») (left «next_b») ⌝ }
 {
     let mut u = 0;
     while u < n {
@@ -50,7 +51,7 @@ pub fn build_predecessors(
 // The code of the edge that follows in a chain.
 fn edge_after(next_a: &[u16], next_b: &[u16], e: usize) -> usize
     requires { ⌜ (0 < e) × (nodeOfEdge e < length (now «next_a»)) × (nodeOfEdge e < length (now «next_b»)) ⌝ }
-    ensures { λ r. ⌜ r ≡ edgeAfter (now («next_a» .entry)) (now («next_b» .entry)) e ⌝ }
+    ensures { λ r. ⌜ r ≡ edgeAfter (held «next_a») (held «next_b») e ⌝ }
 {
     let u = (e - 1) / 2;
     if (e - 1) % 2 == 0 {
@@ -63,7 +64,7 @@ fn edge_after(next_a: &[u16], next_b: &[u16], e: usize) -> usize
 // At a re-run of the LOCAL, and past the scope, the value can't go on.
 pub fn is_alive_at(start: &[u64], node: usize, scope_end: u64, v: usize) -> bool
     requires { ⌜ v < length (now start) ⌝ }
-    ensures { λ r. ⌜ r ≡ aliveIn (scope (now (start .entry)) node «scope_end») v ⌝ }
+    ensures { λ r. ⌜ r ≡ aliveIn (scope (held start) node «scope_end») v ⌝ }
 {
     if v == node {
         false
@@ -75,7 +76,7 @@ pub fn is_alive_at(start: &[u64], node: usize, scope_end: u64, v: usize) -> bool
 // Whether a path goes on through v: past a use its next use is that one.
 fn passes(start: &[u64], used: &[u16], node: usize, scope_end: u64, stamp: u16, v: usize) -> bool
     requires { ⌜ (v < length (now start)) × (v < length (now used)) ⌝ }
-    ensures { λ r. ⌜ r ≡ goesOn (scope (now (start .entry)) node «scope_end») stamp (now (used .entry)) v ⌝ }
+    ensures { λ r. ⌜ r ≡ goesOn (scope (held start) node «scope_end») stamp (held used) v ⌝ }
 {
     if used[v] == stamp {
         false
@@ -98,7 +99,7 @@ fn push_back(
 ) -> usize
     requires { ⌜ (v < length (now start)) × (v < length (now used)) × (v < length (now marks)) × (v < 65536) ⌝ }
     requires { ⌜ ((getD (now marks) v 0 ≡ stamp → ⊥) → top < length (now stack)) ⌝ }
-    ensures { λ r. ⌜ st (now (marks .exit)) (now (stack .exit)) r ≡ stampWhen stamp (goesOn (scope (now (start .entry)) node «scope_end») stamp (now (used .entry)) v) v (st (now (marks .entry)) (now (stack .entry)) top) ⌝ }
+    ensures { λ r. ⌜ stAt left marks stack r ≡ stampWhen stamp (goesOn (scope (held start) node «scope_end») stamp (held used) v) v (stAt held marks stack top) ⌝ }
 {
     if passes(start, used, node, scope_end, stamp, v) {
         insert(marks, stack, top, v, stamp)
@@ -125,7 +126,7 @@ pub fn push_chain(
     requires { ⌜ (n ≤ 1600) × (n ≤ length (now start)) × (n ≤ length (now «next_a»)) × (n ≤ length (now «next_b»)) × (n ≤ length (now used)) ⌝ }
     requires { ⌜ Ready stamp n (st (now marks) (now stack) top0) ⌝ }
     requires { ⌜ ((us : List ℕ) × Chain n (now «next_a») (now «next_b») code us) ⌝ }
-    ensures { λ r. ⌜ ((us : List ℕ) → Chain n (now («next_a» .entry)) (now («next_b» .entry)) code us → st (now (marks .exit)) (now (stack .exit)) r ≡ stampAll stamp (keep (goesOn (scope (now (start .entry)) node «scope_end») stamp (now (used .entry))) us) (st (now (marks .entry)) (now (stack .entry)) top0)) ⌝ }
+    ensures { λ r. ⌜ Pushes n (held «next_a») (held «next_b») code stamp (goesOn (scope (held start) node «scope_end») stamp (held used)) (stAt held marks stack top0) (stAt left marks stack r) ⌝ }
 {
     let mut top = top0;
     let mut e = code;

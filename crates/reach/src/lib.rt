@@ -1,13 +1,11 @@
 // What can run: the nodes that a path from the entry reaches (cfg.rs).
 ghost use mathlib.Core.Path.{_≡_};
-ghost use mathlib.Core.List.{_++_};
 ghost use Prim.Native.Nat.{_<_, _≤_};
 ghost use lib.ListN.{length, take, drop};
 ghost use lib.Dec.{ltb};
 ghost use Rattle.search.specs.Worklist.{st, pushAll, pushIf, Room};
-ghost use Rattle.flow.specs.Graph.{Graph, entry};
-ghost use Rattle.flow.specs.Reachable.{reachable as reachableFlags};
-ghost use Rattle.reach.specs.Columns.{edges};
+ghost use Rattle.flow.specs.Graph.{entry};
+ghost use Rattle.reach.specs.Columns.{edges, FlagsOver};
 use search::at;
 use search::clear;
 use search::push_if_new;
@@ -50,7 +48,7 @@ fn expand(
 pub fn reach(first: &[u64], second: &[u64], reachable: &mut [u64], stack: &mut [u64], n: usize)
     requires { ⌜ (n ≤ length (now first)) × (n ≤ length (now second)) × (entry < n) ⌝ }
     requires { ⌜ (n ≤ length (now reachable)) × (n ≤ length (now stack)) ⌝ }
-    ensures { λ _. ⌜ ((g : Graph) → g .nodes .first ≡ take n (now (first .entry)) → g .nodes .second ≡ take n (now (second .entry)) → now (reachable .exit) ≡ reachableFlags g ++ drop n (now (reachable .entry))) ⌝ }
+    ensures { λ _. ⌜ FlagsOver (take n (now (first .entry))) (take n (now (second .entry))) n (now (reachable .entry)) (now (reachable .exit)) ⌝ }
     ensures { λ _. ⌜ (drop n (now (stack .exit)) ≡ drop n (now (stack .entry))) × (length (now (stack .exit)) ≡ length (now (stack .entry))) ⌝ }
 {
     clear(reachable, n);

@@ -1,15 +1,19 @@
 // One case of the stored answers, against what the calls and crates/admission answer.
 ghost use mathlib.Core.Path.{_≡_};
-ghost use Prim.Native.Nat.{_≤_};
-ghost use lib.ListN.{length};
-ghost use Rattle.replay.specs.Stored.{stored};
+ghost use Prim.Native.Nat.{_+_, _≤_};
+ghost use lib.ListN.{length, getD};
+ghost use Rattle.flow.specs.Answers.{labelTold};
 use crate::chart::chart_agrees;
 use crate::findings::judge_agrees;
 use crate::runs::runs_agree;
 use crate::stored;
-use flow::Bench;
+use column_lengths::CODES;
+use column_lengths::FINDINGS;
+use column_lengths::LOCALS;
+use column_lengths::NODES;
 use flow::LabelAnswer;
-use flow::Verdict;
+use numbers::number;
+use numbers::verdict_number;
 
 // Misshapen: a length goes past the case's end. Unread: the file ends in the case, or the case is
 // longer than the reader's buffer. End: no case is left.
@@ -21,34 +25,39 @@ pub enum Outcome {
     End,
 }
 
-// The word that a case holds for a verdict.
-fn number(verdict: Verdict) -> u64
-    ensures { λ r. ⌜ r ≡ stored verdict ⌝ }
+// The word that a case holds for the label check: the refusal's number, else its value.
+fn label_word(answer: LabelAnswer) -> u64
+    ensures { λ r. ⌜ r ≡ labelTold answer .number + getD (labelTold answer .values) 0 0 ⌝ }
 {
-    match verdict {
-        Verdict::Admitted => 0,
-        Verdict::Refused(refusal) => admission::number(refusal),
-    }
-}
-
-// The word that a case holds for the label check.
-fn label_word(answer: LabelAnswer) -> u64 {
     match answer {
-        LabelAnswer::Refused(refusal) => admission::number(refusal),
+        LabelAnswer::Refused(refusal) => number(refusal),
         LabelAnswer::Yes => 1,
         LabelAnswer::No => 0,
     }
 }
 
-// Whether chart and judge answer these two words over a bench.
-fn both_agree(bench: Bench, sheet: &[u64], uses: &[u64], chart: u64, judge: u64) -> bool {
-    let charted = number(admission::chart_verdict(bench, sheet)) == chart;
-    let judged = number(admission::judge_verdict(bench, sheet, uses)) == judge;
+// How many cells each column of a sort has.
+pub struct Cells {
+    nodes: usize,
+    codes: usize,
+    locals: usize,
+    findings: usize,
+}
+
+// Whether chart and judge answer these two numbers over columns of so many cells.
+fn both_agree(cells: Cells, sheet: &[u64], uses: &[u64], chart: u64, judge: u64) -> bool {
+    let n = cells.nodes;
+    let c = cells.codes;
+    let l = cells.locals;
+    let short = column_lengths::chart_short(n, n, n, n, c, c, l, l, l);
+    let any_short = column_lengths::judge_short(cells.findings, cells.findings, l, short);
+    let charted = verdict_number(admission::sheet_verdict(short, sheet)) == chart;
+    let judged = verdict_number(admission::pair_verdict(any_short, sheet, uses)) == judge;
     charted & judged
 }
 
-fn bench(nodes: usize, codes: usize, locals: usize, findings: usize) -> Bench {
-    Bench {
+fn room(nodes: usize, codes: usize, locals: usize, findings: usize) -> Cells {
+    Cells {
         nodes: nodes,
         codes: codes,
         locals: locals,
@@ -56,13 +65,25 @@ fn bench(nodes: usize, codes: usize, locals: usize, findings: usize) -> Bench {
     }
 }
 
-// One entry too few is refusal 1, whatever the sheets. Only judge asks for findings.
+// One cell too few is refusal 1, whatever the sheets. Only judge asks for findings.
 fn verdicts_agree(sheet: &[u64], uses: &[u64], chart: u64, judge: u64) -> bool {
-    let enough = both_agree(bench(1600, 1024, 1024, 3072), sheet, uses, chart, judge);
-    let nodes = both_agree(bench(1599, 1024, 1024, 3072), sheet, uses, 1, 1);
-    let codes = both_agree(bench(1600, 1023, 1024, 3072), sheet, uses, 1, 1);
-    let locals = both_agree(bench(1600, 1024, 1023, 3072), sheet, uses, 1, 1);
-    let findings = both_agree(bench(1600, 1024, 1024, 3071), sheet, uses, chart, 1);
+    let enough = both_agree(
+        room(NODES, CODES, LOCALS, FINDINGS),
+        sheet,
+        uses,
+        chart,
+        judge,
+    );
+    let nodes = both_agree(room(NODES - 1, CODES, LOCALS, FINDINGS), sheet, uses, 1, 1);
+    let codes = both_agree(room(NODES, CODES - 1, LOCALS, FINDINGS), sheet, uses, 1, 1);
+    let locals = both_agree(room(NODES, CODES, LOCALS - 1, FINDINGS), sheet, uses, 1, 1);
+    let findings = both_agree(
+        room(NODES, CODES, LOCALS, FINDINGS - 1),
+        sheet,
+        uses,
+        chart,
+        1,
+    );
     enough & nodes & codes & locals & findings
 }
 

@@ -1,7 +1,12 @@
 // The stored chart of a case, against what calls::chart writes and answers.
+ghost use mathlib.Core.Path.{_≡_};
+ghost use mathlib.Core.Bool.{true};
+ghost use mathlib.Core.List.{[], _∷_};
+ghost use Rattle.flow.specs.Answers.{countValues};
 use crate::stored::Stored;
 use flow::ChartAnswer;
 use flow::Counts;
+use numbers::number;
 
 // What each lent cell holds before the call.
 pub const OLD: u64 = 7;
@@ -56,19 +61,24 @@ pub fn finding_end(column: [u64; 3072], words: &[u64], from: usize, n: usize) ->
     end_in(&column, words, from, n)
 }
 
-pub fn counts_are(counts: Counts, stored: Stored) -> bool {
-    let admitted = stored.number == 0;
-    let nodes = counts.nodes == stored.nodes as usize;
-    let codes = counts.codes == stored.codes as usize;
-    let names = counts.names == stored.names as usize;
-    admitted & nodes & codes & names
+// Whether the values that counts tell are the stored ones.
+pub fn counts_are(counts: Counts, stored: Stored) -> bool
+    ensures { λ r. ⌜ (r ≡ true → countValues counts ≡ stored .nodes ∷ stored .codes ∷ stored .names ∷ []) ⌝ }
+{
+    if counts.nodes != stored.nodes as usize {
+        return false;
+    }
+    if counts.codes != stored.codes as usize {
+        return false;
+    }
+    counts.names == stored.names as usize
 }
 
 // Whether an answer is a stored refusal, or 0 with the stored counts.
 fn answer_is(answer: ChartAnswer, stored: Stored) -> bool {
     match answer {
-        ChartAnswer::Refused(refusal) => admission::number(refusal) == stored.number,
-        ChartAnswer::Charted(counts) => counts_are(counts, stored),
+        ChartAnswer::Refused(refusal) => number(refusal) == stored.number,
+        ChartAnswer::Charted(counts) => (stored.number == 0) & counts_are(counts, stored),
     }
 }
 

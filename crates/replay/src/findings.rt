@@ -5,13 +5,15 @@ use crate::chart::counts_are;
 use crate::chart::finding_end;
 use crate::stored::Stored;
 use flow::JudgeAnswer;
+use numbers::number;
 
 // Whether an answer is a stored refusal, or 0 with the stored counts and the number of findings.
 fn answer_is(answer: JudgeAnswer, stored: Stored) -> bool {
     match answer {
-        JudgeAnswer::Refused(refusal) => admission::number(refusal) == stored.number,
+        JudgeAnswer::Refused(refusal) => number(refusal) == stored.number,
         JudgeAnswer::Judged(counts, found) => {
-            counts_are(counts, stored) & (found == stored.findings as usize)
+            let counted = counts_are(counts, stored);
+            (stored.number == 0) & counted & (found == stored.findings as usize)
         }
     }
 }

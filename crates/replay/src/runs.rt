@@ -5,30 +5,27 @@ use crate::stored::Stored;
 use crate::stored::cells_end;
 use crate::stored::count;
 use crate::stored::word_at;
-use flow::Place;
+use flow::Found;
 use flow::RunAnswer;
 
-// A case writes NONE for a place that is past all code.
-fn place_is(place: Place, node: u64) -> bool {
-    match place {
-        Place::Node(v) => v as u64 == node,
-        Place::Past => node == NONE as u64,
+// A case writes NONE where there is no node.
+fn node_is(found: Found, node: u64) -> bool {
+    match found {
+        Found::At(v) => v as u64 == node,
+        Found::Nothing => node == NONE as u64,
     }
 }
 
 fn answer_is(answer: RunAnswer, node: u64, can: u64) -> bool {
     match answer {
         RunAnswer::Refused(_) => false,
-        RunAnswer::Ran(place, yes) => place_is(place, node) & (can < 2) & (yes == (can == 1)),
+        RunAnswer::Ran(found, yes) => node_is(found, node) & (can < 2) & (yes == (can == 1)),
     }
 }
 
-// Whether run answers a stored refusal.
+// Whether run answers a stored refusal, whose number is not 0.
 fn refusal_agrees(sheet: &[u64], number: u64) -> bool {
-    match run::run(sheet, 0) {
-        RunAnswer::Refused(refusal) => admission::number(refusal) == number,
-        RunAnswer::Ran(_, _) => false,
-    }
+    numbers::run_number(run::run(sheet, 0)) == number
 }
 
 fn run_agrees(sheet: &[u64], offset: u64, node: u64, can: u64) -> bool {

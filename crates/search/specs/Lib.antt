@@ -1,3 +1,4 @@
 pub mod Search
 pub mod Worklist
 pub mod Stamps
+pub mod Lent

@@ -1,9 +1,9 @@
 -- One local of the pass: what its walk asks, and that what it finds is the local's unassigned use.
 -- Assumes nothing.
 use Prim.Native.Nat.{ℕ, _+_, _<_, _≤_}
-use mathlib.Core.Path.{_≡_, ap, ap₂, _∙_}
+use mathlib.Core.Path.{_≡_, sym, ap, ap₂, _∙_}
 use mathlib.Core.Bool.{_&&_}
-use mathlib.Core.List.{List, [], List·Memᴰ}
+use mathlib.Core.List.{List, [], map, List·Memᴰ}
 use native.Mathlib.Omega.{arith}
 use lib.ListN.{length, getD, length-map}
 use Rattle.flow.specs.Graph.{graph}
@@ -27,6 +27,9 @@ module _ {S U : List ℕ} {n names : ℕ} {first second start nameNode nameEnd f
 
   pub local-placed : AllPlaced n (partAt ℓ starts byLocal) words nodes
   local-placed = mine-placed S U n names words spans nodes lost (p .located) starts byLocal ℓ h (p .parts)
+
+  pub local-numbers : map (λ u. u .number) (usesOf S U ℓ) ≡ partAt ℓ starts byLocal
+  local-numbers = sym (p .parts .holds ℓ h)
 
   module _ (d : Declared) (t : Tells (localAt S ℓ) (allFound (usesOf S U ℓ)) d) where
     pub local-uses : OfLocal (d .captured) n (usesOf S U ℓ) (partAt ℓ starts byLocal) words nodes

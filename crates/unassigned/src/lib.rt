@@ -1,12 +1,11 @@
 // The unassigned findings: for each local without a value its first read that no write can reach (local_flow.rs).
 ghost use mathlib.Core.Path.{_≡_};
-ghost use mathlib.Core.List.{List};
-ghost use Prim.Native.Nat.{ℕ, _+_, _<_, _≤_};
+ghost use Prim.Native.Nat.{_+_, _<_, _≤_};
 ghost use lib.ListN.{length, set};
-ghost use Rattle.flow.specs.Findings.{unassignedOf, ofEach};
-ghost use Rattle.locals.specs.Entries.{Listed, Room, Added};
+ghost use Rattle.search.specs.Lent.{held, left};
+ghost use Rattle.locals.specs.Entries.{Room, Lists};
 ghost use Rattle.unassigned.specs.Findings.{findingsAt};
-ghost use Rattle.unassigned.specs.Pass.{Pass, Judges, JudgesLocal, Marked, Noted, Ready};
+ghost use Rattle.unassigned.specs.Pass.{Judges, JudgesLocal, AddsLocal, AddsAll, Marked, Noted, Ready};
 use declarations::declared_at;
 use local_walk::Walked;
 use local_walk::walk_if_due;
@@ -24,8 +23,8 @@ fn push_walked(
 ) -> usize
     requires { ⌜ (local < 1024) × (local < length (now mark)) × (walked .first ≤ 1024) × (walked .first ≤ length (now «use_span»)) ⌝ }
     requires { ⌜ (count < length (now «finding_word»)) × (count < length (now «finding_span»)) ⌝ }
-    ensures { λ r. ⌜ Listed (findingsAt local (now («use_span» .entry)) (walked .first)) count (now («finding_word» .entry)) (now («finding_span» .entry)) (now («finding_word» .exit)) (now («finding_span» .exit)) ⌝ }
-    ensures { λ r. ⌜ (r ≡ count + length (findingsAt local (now («use_span» .entry)) (walked .first))) × (now (mark .exit) ≡ set (now (mark .entry)) local (walked .nodes)) ⌝ }
+    ensures { λ r. ⌜ Lists (findingsAt local (held «use_span») (walked .first)) count «finding_word» «finding_span» ⌝ }
+    ensures { λ r. ⌜ (r ≡ count + length (findingsAt local (held «use_span») (walked .first))) × (left mark ≡ set (held mark) local (walked .nodes)) ⌝ }
 {
     let nodes = walked.nodes;
     let first = walked.first;
@@ -61,11 +60,11 @@ fn list_local(
     count: usize,
     local: usize,
 ) -> usize
-    requires { ⌜ JudgesLocal n local (now first) (now second) (now start) (now «name_node») (now «name_end») (now facts) (now «use_word») (now «use_span») (now «use_node») (now lost) (now starts) (now «by_local») ⌝ }
+    requires { ⌜ JudgesLocal n local first second start «name_node» «name_end» facts «use_word» «use_span» «use_node» lost starts «by_local» ⌝ }
     requires { ⌜ Ready n local (now visited) (now stack) × (local < length (now mark)) ⌝ }
     requires { ⌜ Room 1 count (now «finding_word») (now «finding_span») ⌝ }
-    ensures { λ r. ⌜ ((S U : List ℕ) (names : ℕ) → local < names → Pass S U n names (now (first .entry)) (now (second .entry)) (now (start .entry)) (now («name_node» .entry)) (now («name_end» .entry)) (now (facts .entry)) (now («use_word» .entry)) (now («use_span» .entry)) (now («use_node» .entry)) (now (lost .entry)) (now (starts .entry)) (now («by_local» .entry)) → Added (unassignedOf S U local) count (now («finding_word» .entry)) (now («finding_span» .entry)) r (now («finding_word» .exit)) (now («finding_span» .exit))) ⌝ }
-    ensures { λ r. ⌜ Ready n (local + 1) (now (visited .exit)) (now (stack .exit)) × Noted n local (now (mark .entry)) (now (mark .exit)) ⌝ }
+    ensures { λ r. ⌜ AddsLocal n first second start «name_node» «name_end» facts «use_word» «use_span» «use_node» lost starts «by_local» «finding_word» «finding_span» local count r ⌝ }
+    ensures { λ r. ⌜ Ready n (local + 1) (left visited) (left stack) × Noted n local (held mark) (left mark) ⌝ }
 {
     let declaration = declared_at(name_node, name_end, facts, lost, local);
     let walked = walk_if_due(
@@ -116,11 +115,11 @@ pub fn list_unassigned(
     n: usize,
     names: usize,
 ) -> usize
-    requires { ⌜ Judges n names (now first) (now second) (now start) (now «name_node») (now «name_end») (now facts) (now «use_word») (now «use_span») (now «use_node») (now lost) (now starts) (now «by_local») ⌝ }
+    requires { ⌜ Judges n names first second start «name_node» «name_end» facts «use_word» «use_span» «use_node» lost starts «by_local» ⌝ }
     requires { ⌜ Ready n 0 (now visited) (now stack) × (names ≤ length (now mark)) ⌝ }
     requires { ⌜ Room names 0 (now «finding_word») (now «finding_span») ⌝ }
-    ensures { λ r. ⌜ ((S U : List ℕ) → Pass S U n names (now (first .entry)) (now (second .entry)) (now (start .entry)) (now («name_node» .entry)) (now («name_end» .entry)) (now (facts .entry)) (now («use_word» .entry)) (now («use_span» .entry)) (now («use_node» .entry)) (now (lost .entry)) (now (starts .entry)) (now («by_local» .entry)) → Added (ofEach (unassignedOf S U) names) 0 (now («finding_word» .entry)) (now («finding_span» .entry)) r (now («finding_word» .exit)) (now («finding_span» .exit))) ⌝ }
-    ensures { λ r. ⌜ (r ≤ names) × Marked n names (now (mark .entry)) (now (mark .exit)) × Ready n names (now (visited .exit)) (now (stack .exit)) ⌝ }
+    ensures { λ r. ⌜ AddsAll n first second start «name_node» «name_end» facts «use_word» «use_span» «use_node» lost starts «by_local» «finding_word» «finding_span» names r ⌝ }
+    ensures { λ r. ⌜ (r ≤ names) × Marked n names (held mark) (left mark) × Ready n names (left visited) (left stack) ⌝ }
 {
     let mut count = 0;
     let mut local = 0;

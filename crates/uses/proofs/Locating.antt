@@ -10,12 +10,12 @@ use native.Mathlib.Decide.{ℕ-discrete}
 use lib.Dec.{ltb}
 use lib.ListN.{length, getD, set, take}
 use lib.Seq.{getD-set-same, getD-set-other, getD-take, length-take-le}
-use Rattle.flow.specs.declared.Place.{Place}
-use Rattle.flow.specs.declared.Place.the-variants.{Node, Past}
+use Rattle.flow.specs.declared.Found.{Found}
+use Rattle.flow.specs.declared.Found.the-variants.{At, Nothing}
 use Rattle.flow.specs.Sheet.{startOf, endOf}
 use Rattle.flow.specs.Graph.{Graph}
 use Rattle.flow.specs.Reachable.{nodeAmong, nodeAt}
-use Rattle.flow.specs.Findings.{nodeOf, found}
+use Rattle.flow.specs.Findings.{nodeOf, isFound}
 use Rattle.flow.proofs.Laws.{either}
 use Rattle.bucket_sort.proofs.Cells.{set-more}
 use Rattle.uses.specs.Uses.{CodeTable, UseTable, placeOf, LocalsAre, lostAfter, Located}
@@ -41,10 +41,10 @@ place-in g codes spans nodes useSpans e f u = sym (ap₂ (λ x y. nodeAmong x y 
 
 -- ---- use by use
 
-module _ (names : ℕ) (place : ℕ → Place) (locals : List ℕ) where
+module _ (names : ℕ) (place : ℕ → Found) (locals : List ℕ) where
   -- all uses of ℓ below m find a node
-  abbrev Found : ℕ → ℕ → Type 0
-  Found m ℓ = (u : ℕ) → u < m → getD locals u 0 ≡ ℓ → found (place u) ≡ true
+  abbrev AllFound : ℕ → ℕ → Type 0
+  AllFound m ℓ = (u : ℕ) → u < m → getD locals u 0 ≡ ℓ → isFound (place u) ≡ true
 
   pub located-none : (nodes lost : List ℕ) → ((ℓ : ℕ) → ℓ < names → getD lost ℓ 0 ≡ 0) → Located 0 names place locals nodes lost
   located-none nodes lost z =
@@ -55,32 +55,32 @@ module _ (names : ℕ) (place : ℕ → Place) (locals : List ℕ) where
       }
 
   -- one use more that finds a node, or that is another local's
-  kept-same : (m ℓ : ℕ) {A : Type 0} → (getD locals m 0 ≡ ℓ → found (place m) ≡ true) → A ↔ Found m ℓ → A ↔ Found (m + 1) ℓ
+  kept-same : (m ℓ : ℕ) {A : Type 0} → (getD locals m 0 ≡ ℓ → isFound (place m) ≡ true) → A ↔ AllFound m ℓ → A ↔ AllFound (m + 1) ℓ
   kept-same m ℓ g r = (
     λ a u h q. elim (ℕ-discrete u m) [ yes e ↦ rw e (g (sym (ap (λ x. getD locals x 0) e) ∙ q)) | no d ↦ r .0 a u (omega arith) q ],
     λ f. r .1 (λ u h q. f u (omega arith) q),
   )
 
   module _ (m : ℕ) (nodes lost : List ℕ) (old : Located m names place locals nodes lost) (inside : m < length nodes) (mine : getD locals m 0 < length lost) where
-    kept-more : (p : Place) → place m ≡ p → (ℓ : ℕ) → ℓ < names → (getD (lostAfter p (getD locals m 0) lost) ℓ 0 ≡ 0) ↔ Found (m + 1) ℓ
-    kept-more (Node v) e ℓ h = kept-same m ℓ (λ q. ap found e) (old .kept ℓ h)
-    kept-more Past e ℓ h =
+    kept-more : (p : Found) → place m ≡ p → (ℓ : ℕ) → ℓ < names → (getD (lostAfter p (getD locals m 0) lost) ℓ 0 ≡ 0) ↔ AllFound (m + 1) ℓ
+    kept-more (At v) e ℓ h = kept-same m ℓ (λ q. ap isFound e) (old .kept ℓ h)
+    kept-more Nothing e ℓ h =
         elim (ℕ-discrete ℓ (getD locals m 0)) [
           | yes q ↦
               let one : getD (set lost (getD locals m 0) 1) ℓ 0 ≡ 1 = rw q (getD-set-same lost (getD locals m 0) 1 0 mine) in
-              (λ z. absurd (omega (arith, one, z)), λ f. absurd (false≢true (sym (ap found e) ∙ f m (omega arith) (sym q))))
+              (λ z. absurd (omega (arith, one, z)), λ f. absurd (false≢true (sym (ap isFound e) ∙ f m (omega arith) (sym q))))
           | no q ↦ rw (getD-set-other lost (getD locals m 0) ℓ 1 0 q) (kept-same m ℓ (λ r. absurd (q (sym r))) (old .kept ℓ h))
         ]
 
-    flag-more : (p : Place) → (ℓ : ℕ) → ℓ < names → getD (lostAfter p (getD locals m 0) lost) ℓ 0 ≤ 1
-    flag-more (Node v) ℓ h = old .flag ℓ h
-    flag-more Past ℓ h =
+    flag-more : (p : Found) → (ℓ : ℕ) → ℓ < names → getD (lostAfter p (getD locals m 0) lost) ℓ 0 ≤ 1
+    flag-more (At v) ℓ h = old .flag ℓ h
+    flag-more Nothing ℓ h =
         elim (ℕ-discrete ℓ (getD locals m 0)) [
           | yes q ↦ rw (q, getD-set-same lost (getD locals m 0) 1 0 mine) (omega arith)
           | no q ↦ rw (getD-set-other lost (getD locals m 0) ℓ 1 0 q) (old .flag ℓ h)
         ]
 
-    pub located-more : (p : Place) → p ≡ place m → Located (m + 1) names place locals (set nodes m (nodeOf p)) (lostAfter p (getD locals m 0) lost)
+    pub located-more : (p : Found) → p ≡ place m → Located (m + 1) names place locals (set nodes m (nodeOf p)) (lostAfter p (getD locals m 0) lost)
     located-more p e =
         record {
           node = set-more (λ u x. x ≡ nodeOf (place u)) nodes m (nodeOf p) inside (old .node) (ap nodeOf e);

@@ -10,7 +10,7 @@ use native.Mathlib.Decide.{ℕ-discrete, decLt}
 use borrow.Author.Tests.{eq-eqb, ne-eqb}
 use lib.Dec.{eqb}
 use lib.ListN.{length, getD, length-map, List·getD-map}
-use Rattle.flow.specs.declared.Place.the-variants.{Past}
+use Rattle.flow.specs.declared.Found.the-variants.{Nothing}
 use Rattle.flow.specs.Graph.{Graph}
 use Rattle.flow.specs.Findings.{Use, node, isRead, isWrite, onlyIf, Meeting, noUse, aRead, aPureWrite, meeting, firstAt, orElse, Ahead, isOverwritten, isOverwrittenUnread, overwrittenAt, overwrittenBelow}
 use Rattle.flow.proofs.Laws.{mem-append, mem-at}
@@ -18,7 +18,7 @@ use Rattle.flow.proofs.Order.{Rising, nil, cons, rising-append, rising-at}
 use Rattle.uses_by_node.specs.Uses.{usesAt, byNode, Table, nodeAt, kindAt, Sorted, overwrittenIn}
 
 abbrev pub blank : Use
-blank = record { number = 0; span = 0; kind = 0; inClosure = false; place = Past }
+blank = record { number = 0; span = 0; kind = 0; inClosure = false; place = Nothing }
 
 abbrev pub useAt : List Use → ℕ → Use
 useAt us i = getD us i blank

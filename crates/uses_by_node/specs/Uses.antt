@@ -4,8 +4,9 @@ use Prim.Native.Nat.{ℕ, zero, suc, _+_, _<_}
 use mathlib.Core.Path.{_≡_}
 use mathlib.Core.Bool.{Bool, true, _&&_, not}
 use mathlib.Core.List.{List, [], _∷_, _++_, map, List·Memᴰ}
-use lib.ListN.{length, getD}
+use lib.ListN.{length, getD, drop}
 use lib.Dec.{eqb, ltb}
+use Rattle.search.specs.Lent.{Column, held}
 use Rattle.flow.specs.Sheet.{useKindOf}
 use Rattle.flow.specs.Graph.{Graph}
 use Rattle.flow.specs.Findings.{Use, node, onlyIf, Ahead, isOverwritten}
@@ -55,6 +56,10 @@ pub record Table : Type 0 where
 abbrev pub table : List ℕ → List ℕ → List ℕ → Table
 table w v s = record { words = w; nodes = v; sorted = s }
 
+-- of lent columns, as a call finds them
+abbrev pub tableOf : Column → Column → Column → Table
+tableOf w v s = table (held w) (held v) (held s)
+
 -- a local's uses are placed, and each has its word
 pub record Listed (n : ℕ) (t : Table) : Type 0 where
   pub placed : Placed n (t .nodes) (t .sorted)
@@ -65,6 +70,10 @@ pub record Sorted (n : ℕ) (t : Table) (us : List Use) : Type 0 where
   pub listed : t .sorted ≡ map (λ u. u .number) (byNode n us)
   pub kinds : (u : Use) → List·Memᴰ u us → u .kind ≡ useKindOf (getD (t .words) (u .number) 0)
   pub places : (u : Use) → List·Memᴰ u us → node u ≡ getD (t .nodes) (u .number) 0
+
+-- P holds of the use at place i by node, and of those after it
+abbrev pub AtPlace : ℕ → List Use → ℕ → (Use → List Use → Type 0) → Type 0
+AtPlace n us i P = (u : Use) (after : List Use) → drop i (byNode n us) ≡ u ∷ after → P u after
 
 -- the overwritten writes of a list, in its order
 abbrev pub overwrittenIn : Graph → Ahead → List Use → List Use

@@ -1,24 +1,25 @@
 // A local's uses by node, and which of its writes are overwritten unread, by the marks of what is ahead (local_flow.rs).
 ghost use mathlib.Core.Path.{_≡_};
 ghost use mathlib.Core.Bool.{_&&_};
-ghost use mathlib.Core.List.{List, _∷_};
+ghost use mathlib.Core.List.{List};
 ghost use Prim.Native.Nat.{ℕ, _<_, _≤_};
-ghost use lib.ListN.{length, getD, take, drop};
+ghost use lib.ListN.{length, getD, take};
 ghost use lib.Dec.{ltb, eqb};
 ghost use Rattle.search.specs.Stamps.{flagsOf};
+ghost use Rattle.search.specs.Lent.{held};
 ghost use Rattle.flow.specs.Sheet.{useKindOf};
 ghost use Rattle.flow.specs.Graph.{Graph};
 ghost use Rattle.flow.specs.Reachable.{successors};
-ghost use Rattle.flow.specs.Findings.{Use, Ahead, anyFlag, isOverwrittenUnread, isOverwritten};
-ghost use Rattle.uses_by_node.specs.Uses.{byNode, table, Listed, Sorted, nextInNode, opensNode};
-ghost use Rattle.uses_by_node.specs.Marks.{AheadHeld};
+ghost use Rattle.flow.specs.Findings.{Use, anyFlag, isOverwrittenUnread, isOverwritten};
+ghost use Rattle.uses_by_node.specs.Uses.{table, tableOf, Listed, Sorted, AtPlace, nextInNode, opensNode};
+ghost use Rattle.uses_by_node.specs.Marks.{ForAhead};
 use search::at;
 use search::cell;
 
 // The kind of use k: 0 Read, 1 Write, 2 ReadWrite.
 pub fn use_kind(use_word: &[u64], k: usize) -> u64
     requires { ⌜ k < length (now «use_word») ⌝ }
-    ensures { λ r. ⌜ r ≡ useKindOf (getD (now («use_word» .entry)) k 0) ⌝ }
+    ensures { λ r. ⌜ r ≡ useKindOf (getD (held «use_word») k 0) ⌝ }
 {
     use_word[k] / 65536 % 4
 }
@@ -27,7 +28,7 @@ pub fn use_kind(use_word: &[u64], k: usize) -> u64
 fn next_in_node(use_node: &[u16], sorted: &[u16], i: usize) -> bool
     requires { ⌜ i < length (now sorted) ⌝ }
     requires { ⌜ ((j : ℕ) → j < length (now sorted) → getD (now sorted) j 0 < length (now «use_node»)) ⌝ }
-    ensures { λ r. ⌜ r ≡ nextInNode (now («use_node» .entry)) (now (sorted .entry)) i ⌝ }
+    ensures { λ r. ⌜ r ≡ nextInNode (held «use_node») (held sorted) i ⌝ }
 {
     let next = i + 1;
     if next < sorted.len() {
@@ -43,7 +44,7 @@ fn next_in_node(use_node: &[u16], sorted: &[u16], i: usize) -> bool
 pub fn opens_node(use_node: &[u16], sorted: &[u16], i: usize) -> bool
     requires { ⌜ i < length (now sorted) ⌝ }
     requires { ⌜ ((j : ℕ) → j < length (now sorted) → getD (now sorted) j 0 < length (now «use_node»)) ⌝ }
-    ensures { λ r. ⌜ r ≡ opensNode (now («use_node» .entry)) (now (sorted .entry)) i ⌝ }
+    ensures { λ r. ⌜ r ≡ opensNode (held «use_node») (held sorted) i ⌝ }
 {
     if i == 0 {
         true
@@ -55,7 +56,7 @@ pub fn opens_node(use_node: &[u16], sorted: &[u16], i: usize) -> bool
 // Whether v is a node that is marked.
 fn is_marked(marks: &[u16], n: usize, stamp: u16, v: usize) -> bool
     requires { ⌜ n ≤ length (now marks) ⌝ }
-    ensures { λ r. ⌜ r ≡ (ltb v n && eqb (getD (now (marks .entry)) v 0) stamp) ⌝ }
+    ensures { λ r. ⌜ r ≡ (ltb v n && eqb (getD (held marks) v 0) stamp) ⌝ }
 {
     if v < n { marks[v] == stamp } else { false }
 }
@@ -63,7 +64,7 @@ fn is_marked(marks: &[u16], n: usize, stamp: u16, v: usize) -> bool
 // Whether a successor of v is marked.
 fn is_ahead(first: &[u64], second: &[u64], marks: &[u16], n: usize, stamp: u16, v: usize) -> bool
     requires { ⌜ (n ≤ length (now first)) × (n ≤ length (now second)) × (n ≤ length (now marks)) × (v < n) ⌝ }
-    ensures { λ r. ⌜ ((g : Graph) → g .nodes .first ≡ take n (now (first .entry)) → g .nodes .second ≡ take n (now (second .entry)) → r ≡ anyFlag (flagsOf stamp n (now (marks .entry))) (successors g v)) ⌝ }
+    ensures { λ r. ⌜ ((g : Graph) → g .nodes .first ≡ take n (held first) → g .nodes .second ≡ take n (held second) → r ≡ anyFlag (flagsOf stamp n (held marks)) (successors g v)) ⌝ }
 {
     let a = at(first, v);
     if is_marked(marks, n, stamp, a) {
@@ -85,7 +86,7 @@ pub fn is_overwritten_unread(
     v: usize,
 ) -> bool
     requires { ⌜ (n ≤ length (now first)) × (n ≤ length (now second)) × (n ≤ length (now reads)) × (n ≤ length (now writes)) × (v < n) ⌝ }
-    ensures { λ r. ⌜ ((g : Graph) (a : Ahead) → g .nodes .first ≡ take n (now (first .entry)) → g .nodes .second ≡ take n (now (second .entry)) → AheadHeld stamp n (now (reads .entry)) (now (writes .entry)) a → r ≡ isOverwrittenUnread g a v) ⌝ }
+    ensures { λ r. ⌜ ForAhead stamp n first second reads writes (λ g a. r ≡ isOverwrittenUnread g a v) ⌝ }
 {
     if is_ahead(first, second, reads, n, stamp, v) {
         false
@@ -109,7 +110,7 @@ pub fn is_overwritten(
 ) -> bool
     requires { ⌜ (n ≤ length (now first)) × (n ≤ length (now second)) × (n ≤ length (now reads)) × (n ≤ length (now writes)) × (i < length (now sorted)) ⌝ }
     requires { ⌜ Listed n (table (now «use_word») (now «use_node») (now sorted)) ⌝ }
-    ensures { λ r. ⌜ ((g : Graph) (a : Ahead) (us : List Use) → g .nodes .first ≡ take n (now (first .entry)) → g .nodes .second ≡ take n (now (second .entry)) → AheadHeld stamp n (now (reads .entry)) (now (writes .entry)) a → Sorted n (table (now («use_word» .entry)) (now («use_node» .entry)) (now (sorted .entry))) us → (u : Use) (after : List Use) → drop i (byNode n us) ≡ u ∷ after → r ≡ isOverwritten g a u after) ⌝ }
+    ensures { λ r. ⌜ ForAhead stamp n first second reads writes (λ g a. (us : List Use) → Sorted n (tableOf «use_word» «use_node» sorted) us → AtPlace n us i (λ u vs. r ≡ isOverwritten g a u vs)) ⌝ }
 {
     let k = cell(sorted, i);
     if use_kind(use_word, k) == 0 {

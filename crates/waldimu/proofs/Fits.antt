@@ -1,66 +1,73 @@
--- What chart, judge and run answer of any sheet has its bits in a word.
+-- What chart, judge and run tell of any sheet has its bits in a word.
 -- Assumes nothing.
 use mathlib.Core.Path.{_≡_, refl, sym, _∙_}
-use mathlib.Core.List.{List}
+use mathlib.Core.Bool.{Bool, false}
+use mathlib.Core.List.{List, [], _∷_, _++_}
 use Prim.Native.Nat.{ℕ, _≤_, _^_, _<_}
 use native.Mathlib.Omega.{arith}
-use Rattle.flow.specs.declared.Bench.{Bench}
-use Rattle.flow.specs.declared.Place.{Place}
-use Rattle.flow.specs.declared.Place.the-variants.{Node, Past}
+use lib.ListN.{length, getD}
+use Rattle.flow.specs.declared.Found.{Found}
+use Rattle.flow.specs.declared.Found.the-variants.{At, Nothing}
 use Rattle.flow.specs.declared.Verdict.{Verdict}
 use Rattle.flow.specs.declared.Verdict.the-variants.{Admitted, Refused}
 use Rattle.flow.specs.Sheet.{spanWords}
-use Rattle.flow.specs.Refusals.{sheetVerdict, chartVerdict, judgeVerdict}
+use Rattle.flow.specs.Refusals.{one, number, sheetVerdict, pairVerdict}
+use Rattle.flow.specs.Answers.{told, tells, foundValues, countValues}
 use Rattle.flow.specs.Graph.{nodeCount, graph}
-use Rattle.flow.specs.Reachable.{nodeAt, runAnswer, run, countsOf, chartAnswer, chart}
-use Rattle.flow.specs.Findings.{findings, judgeAnswer, judge}
+use Rattle.flow.specs.Reachable.{nodeAt, canRun, run, countsOf, chart}
+use Rattle.flow.specs.Findings.{findings, judge}
 use Rattle.flow.proofs.NodeCount.{graph-count}
 use Rattle.flow.proofs.CodeNodes.{code-node}
-use Rattle.flow.proofs.Admission.{admitted, of-chart, of-judge}
+use Rattle.flow.proofs.Admission.{admitted, of-sheet, of-pair}
 use Rattle.judge.proofs.Few.{findings-few}
-use Rattle.answer_words.specs.Words.{Packable, ChartFits, JudgeFits, PlaceFits, RunFits}
+use Rattle.answer_words.specs.Words.{orNone, runNode, CountsFit}
 
-module _ (S : List ℕ) (e : sheetVerdict S ≡ Admitted) where
+-- a refusal has no values
+refused-fits : (k : ℕ) → CountsFit (told k [])
+refused-fits k = record { nodes = omega arith; codes = omega arith; names = omega arith; findings = omega arith }
+
+module _ (S : List ℕ) (e : sheetVerdict false S ≡ Admitted) where
   few-nodes : nodeCount (graph S) ≤ 1542
   few-nodes =
       let a = admitted S e in
       omega (arith, graph-count S, a .room (spanWords S) (a .spans ∙ sym (a .kinds)))
 
-  pub packable : Packable (countsOf (graph S))
-  packable =
+  -- the three counts, then the findings' count if there is one
+  counts-fit : (more : List ℕ) → getD more 0 0 < 2 ^ 16 → CountsFit (told 0 (countValues (countsOf (graph S)) ++ more))
+  counts-fit more h =
       let a = admitted S e in
-      record { nodes = omega (arith, few-nodes); codes = omega (arith, a .fewCodes); names = omega (arith, a .fewNames) }
+      record { nodes = omega (arith, few-nodes); codes = omega (arith, a .fewCodes); names = omega (arith, a .fewNames); findings = h }
 
-  place-fits : (o : ℕ) → PlaceFits (nodeAt (graph S) o)
-  place-fits o = go (nodeAt (graph S) o) refl
+  node-fits : (o : ℕ) → orNone (foundValues (nodeAt (graph S) o)) < 2 ^ 32
+  node-fits o = go (nodeAt (graph S) o) refl
     where
-      go : (p : Place) → nodeAt (graph S) o ≡ p → PlaceFits p
-      go (Node v) q = omega (arith, few-nodes, code-node S o v q)
-      go Past q = tt
+      go : (f : Found) → nodeAt (graph S) o ≡ f → orNone (foundValues f) < 2 ^ 32
+      go (At v) q = omega (arith, few-nodes, code-node S o v q)
+      go Nothing q = omega arith
 
-pub chart-fits : (b : Bench) (S : List ℕ) → ChartFits (chart b S)
+pub chart-fits : (short : Bool) (S : List ℕ) → CountsFit (chart short S)
 unfolding chart
-chart-fits b S = go (chartVerdict b S) refl
+chart-fits short S = go (sheetVerdict short S) refl
   where
-    go : (v : Verdict) → chartVerdict b S ≡ v → ChartFits (chartAnswer v (graph S))
-    go (Refused r) e = tt
-    go Admitted e = packable S (of-chart b S e .sheet)
+    go : (v : Verdict) → sheetVerdict short S ≡ v → CountsFit (tells v (countValues (countsOf (graph S))))
+    go (Refused r) e = refused-fits (number r)
+    go Admitted e = counts-fit S (of-sheet short S e .1) [] (omega arith)
 
-pub judge-fits : (b : Bench) (S U : List ℕ) → JudgeFits (judge b S U)
+pub judge-fits : (short : Bool) (S U : List ℕ) → CountsFit (judge short S U)
 unfolding judge
-judge-fits b S U = go (judgeVerdict b S U) refl
+judge-fits short S U = go (pairVerdict short S U) refl
   where
-    go : (v : Verdict) → judgeVerdict b S U ≡ v → JudgeFits (judgeAnswer v (graph S) (findings S U))
-    go (Refused r) e = tt
+    go : (v : Verdict) → pairVerdict short S U ≡ v → CountsFit (tells v (countValues (countsOf (graph S)) ++ (length (findings S U) ∷ [])))
+    go (Refused r) e = refused-fits (number r)
     go Admitted e =
-        let j = of-judge b S U e in
-        let a = admitted S (j .chart .sheet) in
-        (packable S (j .chart .sheet), omega (arith, findings-few S U (omega (arith, a .allNames, a .fewNames)) (omega (arith, j .uses .uses, j .uses .few))))
+        let j = of-pair short S U e in
+        let a = admitted S (j .sheet) in
+        counts-fit S (j .sheet) _ (omega (arith, findings-few S U (omega (arith, a .allNames, a .fewNames)) (omega (arith, j .uses .uses, j .uses .few))))
 
-pub run-fits : (S : List ℕ) (o : ℕ) → RunFits (run S o)
+pub run-fits : (S : List ℕ) (o : ℕ) → runNode (run S o) < 2 ^ 32
 unfolding run
-run-fits S o = go (sheetVerdict S) refl
+run-fits S o = go (sheetVerdict false S) refl
   where
-    go : (v : Verdict) → sheetVerdict S ≡ v → RunFits (runAnswer v (graph S) o)
-    go (Refused r) e = tt
-    go Admitted e = place-fits S e o
+    go : (v : Verdict) → sheetVerdict false S ≡ v → runNode (tells v (one (canRun (graph S) (nodeAt (graph S) o)) ∷ foundValues (nodeAt (graph S) o))) < 2 ^ 32
+    go (Refused r) e = omega arith
+    go Admitted e = node-fits S e o

@@ -1,23 +1,20 @@
 -- `admission::sheet_verdict` meets its contract. Assumes nothing.
-use mathlib.Core.Path.{_∙_, sym}
-use Rattle.flow.specs.Refusals.{lowest, sheetVerdict}
+use borrow.Author.Needs.{needs}
+use mathlib.Core.Path.{sym, _∙_}
+use Rattle.flow.specs.Refusals.{sheetTests, sheetVerdict}
+use Rattle.sheet_parts.proofs.Parts.{counted}
 use Rattle.admission.proofs.sheet_verdict.Statement.{statement}
 use Rattle.admission.proofs.sheet_verdict.Tie as tie
 
-miscount-requires : tie.Need-miscount-requires
-miscount-requires c κs = tt
+miscounted-requires : tie.Need-miscounted-requires
+miscounted-requires c κs = search needs
+
+leading-verdict-requires : tie.Need-leading-verdict-requires
+leading-verdict-requires c κs = λ e. counted 2 _ (sym (c .miscounted .ensures) ∙ e)
 
 returns : tie.Need-returns
-unfolding lowest sheetVerdict
-returns c = rw (sym (c .before .miscount .ensures) ∙ c .if1 .taken)
-
-tests-verdict-requires : tie.Need-tests-verdict-requires
-tests-verdict-requires c κs = sym (c .before .miscount .ensures) ∙ c .if1 .left
-
-returns-2 : tie.Need-returns-2
-unfolding lowest sheetVerdict
-returns-2 c = rw (sym (c .before .before .miscount .ensures) ∙ c .before .if1 .left) (c .tests-verdict .ensures)
+unfolding sheetVerdict sheetTests
+returns c = rw (sym (c .before .miscounted .ensures)) (c .leading-verdict .ensures)
 
 pub sheet-verdict-spec : {M : Type 1} → statement M
-sheet-verdict-spec =
-    tie.close (tie.spec miscount-requires returns tests-verdict-requires returns-2)
+sheet-verdict-spec = tie.close (tie.spec miscounted-requires leading-verdict-requires returns)

@@ -1,115 +1,63 @@
 -- `admission::use_is_bad` meets its contract: the tests of the parts are those of the two sheets. Assumes nothing.
+use borrow.Author.Needs.{needs}
 use Prim.Native.Nat.{ℕ}
 use mathlib.Core.List.{List}
-use mathlib.Core.Path.{sym}
-use native.Mathlib.Omega.{arith}
+use mathlib.Core.Path.{_≡_, sym}
 use denote.Ref.{now}
 use Rattle.flow.specs.Refusals.{nameCount, badUse}
-use Rattle.admission.proofs.Parts.{Counted, counted, first-is, second-is, part-lengths, on-items}
+use Rattle.flow.specs.Sheet.{items}
+use Rattle.admission.proofs.Parts.{long-enough, on-items}
 use Rattle.admission.proofs.use_is_bad.Statement.{statement}
 use Rattle.admission.proofs.use_is_bad.Tie as tie
 
-module _ (s : tie.Start) where
-  abbrev words : List ℕ
-  words = now (s .args .sheet)
+-- where the names are counted
+module _ (c : tie.After-name-count) where
+  abbrev start : tie.Start
+  start = c .before .before .before .before .before
 
-  abbrev others : List ℕ
-  others = now (s .args .uses)
+  abbrev sheet : List ℕ
+  sheet = now (start .args .sheet)
 
-  well : Counted 2 words
-  well = counted 2 words (s .pre .0)
+  abbrev uses : List ℕ
+  uses = now (start .args .uses)
 
-  well-used : Counted 1 others
-  well-used = counted 1 others (s .pre .1)
+  names-are : nameCount (items sheet) ≡ c .name-count .result
+  names-are = on-items nameCount sheet (c .before .before .kinds .ensures) (c .before .spans .ensures) (c .name-count .ensures)
 
-shared-slice-read-m : tie.Need-shared-slice-read-m
-shared-slice-read-m c = omega (arith, well (c .before .before .before))
+kinds-requires : tie.Need-kinds-requires
+kinds-requires c κs = search needs
 
-add-m : tie.Need-add-m
-add-m c = omega (arith, well (c .before .before .before))
-
-sub-name-count : tie.Need-sub-name-count
-sub-name-count c = omega arith
-
-part-name-count-start : tie.Need-part-name-count-start
-part-name-count-start c = omega arith
-
-part-name-count-end : tie.Need-part-name-count-end
-part-name-count-end c = omega (arith, well (c .before .before .before))
-
-mul-name-count : tie.Need-mul-name-count
-mul-name-count c = omega (arith, well (c .before .before .before .before))
-
-sub-name-count-2 : tie.Need-sub-name-count-2
-sub-name-count-2 c = omega (arith, well (c .before .before .before .before))
-
-part-name-count-start-2 : tie.Need-part-name-count-start-2
-part-name-count-start-2 c = omega (arith, well (c .before .before .before .before))
-
-part-name-count-end-2 : tie.Need-part-name-count-end-2
-part-name-count-end-2 c = omega arith
+spans-requires : tie.Need-spans-requires
+spans-requires c κs = search needs
 
 name-count-requires : tie.Need-name-count-requires
-name-count-requires c κs = part-lengths 2 (words (c .before .before .before .before .before)) (well (c .before .before .before .before .before))
+name-count-requires c κs = long-enough 2 _ (c .before .before .before .before .pre .0) (c .before .kinds .ensures) (c .spans .ensures)
 
-shared-slice-read-n : tie.Need-shared-slice-read-n
-shared-slice-read-n c = omega (arith, well-used (c .before .before .before .before .before .before .before))
+use-words-requires : tie.Need-use-words-requires
+use-words-requires c κs = search needs
 
-add-n : tie.Need-add-n
-add-n c = omega (arith, well-used (c .before .before .before .before .before .before .before))
-
-sub-bad-use : tie.Need-sub-bad-use
-sub-bad-use c = omega arith
-
-part-bad-use-start : tie.Need-part-bad-use-start
-part-bad-use-start c = omega arith
-
-part-bad-use-end : tie.Need-part-bad-use-end
-part-bad-use-end c = omega (arith, well-used (c .before .before .before .before .before .before .before))
-
-mul-bad-use : tie.Need-mul-bad-use
-mul-bad-use c = omega (arith, well-used (c .before .before .before .before .before .before .before .before))
-
-sub-bad-use-2 : tie.Need-sub-bad-use-2
-sub-bad-use-2 c = omega (arith, well-used (c .before .before .before .before .before .before .before .before))
-
-part-bad-use-start-2 : tie.Need-part-bad-use-start-2
-part-bad-use-start-2 c = omega (arith, well-used (c .before .before .before .before .before .before .before .before))
-
-part-bad-use-end-2 : tie.Need-part-bad-use-end-2
-part-bad-use-end-2 c = omega arith
+use-spans-requires : tie.Need-use-spans-requires
+use-spans-requires c κs = search needs
 
 bad-use-requires : tie.Need-bad-use-requires
-bad-use-requires c κs = part-lengths 1 (others (c .before .before .before .before .before .before .before .before .before)) (well-used (c .before .before .before .before .before .before .before .before .before))
+bad-use-requires c κs =
+    let n = c .before .before in
+    long-enough 1 (uses n) (start n .pre .1) (c .before .use-words .ensures) (c .use-spans .ensures)
 
 returns : tie.Need-returns
 unfolding badUse
 returns c =
-    let s = c .before .before .before .before .before .before .before .before .before .before in
-    rw (on-items nameCount (words s) (well s) (c .before .before .before .before .name-count .ensures), sym (first-is 1 (others s) (well-used s)), sym (second-is 1 (others s) (well-used s))) (c .bad-use .ensures)
+    let n = c .before .before .before in
+    rw (names-are n, sym (c .before .before .use-words .ensures), sym (c .before .use-spans .ensures)) (c .bad-use .ensures)
 
 pub use-is-bad-spec : {M : Type 1} → statement M
 use-is-bad-spec =
     tie.close
     (tie.spec
-    shared-slice-read-m
-    add-m
-    sub-name-count
-    part-name-count-start
-    part-name-count-end
-    mul-name-count
-    sub-name-count-2
-    part-name-count-start-2
-    part-name-count-end-2
+    kinds-requires
+    spans-requires
     name-count-requires
-    shared-slice-read-n
-    add-n
-    sub-bad-use
-    part-bad-use-start
-    part-bad-use-end
-    mul-bad-use
-    sub-bad-use-2
-    part-bad-use-start-2
-    part-bad-use-end-2
+    use-words-requires
+    use-spans-requires
     bad-use-requires
     returns)

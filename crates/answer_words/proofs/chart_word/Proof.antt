@@ -1,7 +1,6 @@
--- `answer_words::chart_word` meets its contract. Assumes nothing.
+-- `answer_words::chart_word` meets its contract, by the cases of the answer. Assumes nothing.
 use borrow.Author.Needs.{needs}
-use mathlib.Core.Path.{sym, ap, subst, _∙_}
-use Rattle.answer_words.specs.Words.{ChartFits, chartWord}
+use Rattle.answer_words.proofs.Fields.{refused-counts}
 use Rattle.answer_words.proofs.chart_word.Statement.{statement}
 use Rattle.answer_words.proofs.chart_word.Tie as tie
 
@@ -9,19 +8,24 @@ enum-known-answer : tie.Need-enum-known-answer
 enum-known-answer c = search needs
 
 number-requires : tie.Need-number-requires
-number-requires c κs = tt
+number-requires c κs = search needs
 
 enum-known-answer-2 : tie.Need-enum-known-answer-2
 enum-known-answer-2 c = search needs
 
 counts-word-requires : tie.Need-counts-word-requires
-counts-word-requires c κs = subst ChartFits (c .before .answer2 .given .1) (c .before .before .before .pre)
+counts-word-requires c κs =
+    let f = rw (c .before .answer2 .given .1) at (c .before .before .before .pre) in
+    record { nodes = f .nodes; codes = f .codes; names = f .names; findings = f .findings }
 
 returns : tie.Need-returns
-returns c = search needs
+returns c = let n = c .number .ensures in rw (c .before .before .answer .given .1) (refused-counts _ _ (n .0) (n .2))
 
 returns-2 : tie.Need-returns-2
-returns-2 c = c .counts-word .ensures ∙ ap chartWord (sym (c .before .before .answer2 .given .1))
+returns-2 c =
+    let w = c .counts-word .ensures .0 in
+    let f = c .counts-word .ensures .1 in
+    rw (c .before .before .answer2 .given .1) (w, record { number = f .number; nodes = f .nodes; codes = f .codes; names = f .names; findings = f .findings })
 
 pub chart-word-spec : {M : Type 1} → statement M
 chart-word-spec =

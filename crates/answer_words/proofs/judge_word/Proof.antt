@@ -1,8 +1,6 @@
 -- `answer_words::judge_word` meets its contract, by the cases of the answer. Assumes nothing.
 use borrow.Author.Needs.{needs}
-use mathlib.Core.Path.{subst}
-use native.Mathlib.Omega.{arith}
-use Rattle.answer_words.specs.Words.{JudgeFits}
+use Rattle.answer_words.proofs.Fields.{refused-counts}
 use Rattle.answer_words.proofs.judge_word.Statement.{statement}
 use Rattle.answer_words.proofs.judge_word.Tie as tie
 
@@ -16,19 +14,13 @@ enum-known-answer-2 : tie.Need-enum-known-answer-2
 enum-known-answer-2 c = search needs
 
 counts-word-requires : tie.Need-counts-word-requires
-counts-word-requires c κs = subst JudgeFits (c .before .answer2 .given .1) (c .before .before .before .pre) .0
-
-mul-result : tie.Need-mul-result
-mul-result c = let f = subst JudgeFits (c .before .before .answer2 .given .1) (c .before .before .before .before .pre) in omega (arith, f .1)
-
-add-result : tie.Need-add-result
-add-result c = let f = subst JudgeFits (c .before .before .answer2 .given .1) (c .before .before .before .before .pre) in omega (arith, f .0 .nodes, f .0 .codes, f .0 .names, f .1, c .counts-word .ensures)
+counts-word-requires c κs = rw (c .before .answer2 .given .1) at (c .before .before .before .pre)
 
 returns : tie.Need-returns
-returns c = search needs
+returns c = let n = c .number .ensures in rw (c .before .before .answer .given .1) (refused-counts _ _ (n .0) (n .2))
 
 returns-2 : tie.Need-returns-2
-returns-2 c = rw (c .counts-word .ensures, c .before .before .answer2 .given .1)
+returns-2 c = rw (c .before .before .answer2 .given .1) (c .counts-word .ensures)
 
 pub judge-word-spec : {M : Type 1} → statement M
 judge-word-spec =
@@ -38,7 +30,5 @@ judge-word-spec =
     number-requires
     enum-known-answer-2
     counts-word-requires
-    mul-result
-    add-result
     returns
     returns-2)

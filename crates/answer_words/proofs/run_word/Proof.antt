@@ -1,9 +1,8 @@
--- `answer_words::run_word` meets its contract. Assumes nothing.
+-- `answer_words::run_word` meets its contract, by the cases of the answer. Assumes nothing.
 use borrow.Author.Needs.{needs}
 use native.Mathlib.Omega.{arith}
-use mathlib.Core.Path.{sym, ap, ap₂, subst, _∙_}
-use Prim.Native.Nat.{ℕ, _+_, _*_}
-use Rattle.answer_words.specs.Words.{RunFits, runWord}
+use mathlib.Core.Path.{refl}
+use Rattle.answer_words.proofs.Fields.{refused-run, run-fields}
 use Rattle.answer_words.proofs.run_word.Statement.{statement}
 use Rattle.answer_words.proofs.run_word.Tie as tie
 
@@ -11,31 +10,34 @@ enum-known-answer : tie.Need-enum-known-answer
 enum-known-answer c = search needs
 
 number-requires : tie.Need-number-requires
-number-requires c κs = tt
+number-requires c κs = search needs
 
 enum-known-answer-2 : tie.Need-enum-known-answer-2
 enum-known-answer-2 c = search needs
 
 yes-bit-requires : tie.Need-yes-bit-requires
-yes-bit-requires c κs = tt
+yes-bit-requires c κs = search needs
 
 mul-result : tie.Need-mul-result
 mul-result c = search needs
 
-place-word-requires : tie.Need-place-word-requires
-place-word-requires c κs = subst RunFits (c .before .before .answer2 .given .1) (c .before .before .before .before .pre)
+node-word-requires : tie.Need-node-word-requires
+node-word-requires c κs = rw (c .before .before .answer2 .given .1) at (c .before .before .before .before .pre)
 
 mul-result-2 : tie.Need-mul-result-2
-mul-result-2 c = omega (arith, c .place-word .ensures .1)
+mul-result-2 c = omega (arith, c .node-word .ensures .1)
 
 add-result : tie.Need-add-result
-add-result c = omega (arith, c .place-word .ensures .1, c .before .yes-bit .ensures .1)
+add-result c = omega (arith, c .node-word .ensures .1, c .before .yes-bit .ensures .1)
 
 returns : tie.Need-returns
-returns c = search needs
+returns c = let n = c .number .ensures in rw (c .before .before .answer .given .1) (refused-run _ _ (n .0) (n .2))
 
 returns-2 : tie.Need-returns-2
-returns-2 c = ap₂ (λ (y p : ℕ). 16 * y + 4294967296 * p) (c .before .yes-bit .ensures .0) (c .place-word .ensures .0) ∙ ap runWord (sym (c .before .before .before .answer2 .given .1))
+returns-2 c =
+    let y = c .before .yes-bit .ensures in
+    let n = c .node-word .ensures in
+    rw (c .before .before .before .answer2 .given .1) (omega arith, run-fields _ _ (omega arith) refl (omega arith))
 
 pub run-word-spec : {M : Type 1} → statement M
 run-word-spec =
@@ -46,7 +48,7 @@ run-word-spec =
     enum-known-answer-2
     yes-bit-requires
     mul-result
-    place-word-requires
+    node-word-requires
     mul-result-2
     add-result
     returns

@@ -2,37 +2,38 @@
 -- Assumes nothing.
 use borrow.Author.Needs.{needs}
 use mathlib.Core.Path.{_≡_, sym, ap, _∙_}
+use mathlib.Core.Bool.{Bool}
 use mathlib.Core.List.{List}
 use Prim.Native.Nat.{ℕ}
 use denote.Ref.{now}
-use Rattle.flow.specs.declared.Bench.{Bench}
-use Rattle.flow.specs.Refusals.{chartVerdict}
-use Rattle.chart.specs.Lent.{Columns, columns}
-use Rattle.calls.specs.Lent.{chartBench}
-use Rattle.calls.proofs.Bench.{sheet-admitted, wide, chart-refused, chart-accepted}
+use Rattle.flow.specs.Refusals.{sheetVerdict}
+use Rattle.chart.specs.Lent.{Columns, columns, chartShort}
+use Rattle.calls.proofs.Promises.{sheet-admitted, wide-enough, chart-refused, chart-accepted}
 use Rattle.calls.proofs.chart.Statement.{statement}
 use Rattle.calls.proofs.chart.Tie as tie
 
 -- ---- where the verdict is known
 
-module _ (c : tie.After-chart-verdict) where
+module _ (c : tie.After-sheet-verdict) where
+  abbrev begun : tie.Start
+  begun = c .before .before .before .before .before .before .before .before .before .before .before .before
+
   abbrev S : List ℕ
-  S = now (c .before .before .before .before .before .before .before .before .before .before .before .before .args .sheet)
+  S = now (begun .args .sheet)
 
   abbrev x : Columns
   x =
-      let a = c .before .before .before .before .before .before .before .before .before .before .before .before .args in
+      let a = begun .args in
       columns (now (a .first)) (now (a .second)) (now (a .start)) (now (a .reachable)) (now (a .code-span)) (now (a .code-node)) (now (a .name-span)) (now (a .name-node)) (now (a .name-end))
 
-  verdict-is : chartVerdict (chartBench x) S ≡ c .chart-verdict .result
-  unfolding chartBench
-  verdict-is = sym (c .chart-verdict .ensures ∙ ap (λ (b : Bench). chartVerdict b S) (c .before .bench-of .ensures))
+  verdict-is : sheetVerdict (chartShort x) S ≡ c .sheet-verdict .result
+  verdict-is = sym (c .sheet-verdict .ensures ∙ ap (λ (b : Bool). sheetVerdict b S) (c .before .chart-short .ensures))
 
-bench-of-requires : tie.Need-bench-of-requires
-bench-of-requires c κs = search needs
+chart-short-requires : tie.Need-chart-short-requires
+chart-short-requires c κs = search needs
 
-chart-verdict-requires : tie.Need-chart-verdict-requires
-chart-verdict-requires c κs = search needs
+sheet-verdict-requires : tie.Need-sheet-verdict-requires
+sheet-verdict-requires c κs = search needs
 
 enum-known-verdict : tie.Need-enum-known-verdict
 enum-known-verdict c = search needs
@@ -44,7 +45,7 @@ enum-told : tie.Need-enum-told
 enum-told c = search needs
 
 of-sheet-requires : tie.Need-of-sheet-requires
-of-sheet-requires c κs = let d = c .before .before .before .before .before .before .before .before .before .before .before in let e = verdict-is d ∙ c .before .before .before .before .before .before .before .before .before .enum-told .given .1 in (sheet-admitted (x d) (S d) e, wide (x d) (S d) e)
+of-sheet-requires c κs = let t = c .before .before .before .before .before .before .before .before .before in let d = t .before .before in let e = verdict-is d ∙ t .enum-told .given .1 in (sheet-admitted (x d) (S d) e, wide-enough (x d) (S d) e)
 
 same-length : tie.Need-same-length
 same-length c = search needs
@@ -74,14 +75,14 @@ same-length-9 : tie.Need-same-length-9
 same-length-9 c = search needs
 
 returns-2 : tie.Need-returns-2
-returns-2 c = let d = c .before .before .before .before .before .before .before .before .before .before .before .before .before .before .before .before .before .before .before .before .before .before .before .before .before .before .before .before .before .before in chart-accepted (x d) (S d) (verdict-is d ∙ c .before .before .before .before .before .before .before .before .before .before .before .before .before .before .before .before .before .before .before .before .before .before .before .before .before .before .before .before .enum-told .given .1) (c .before .before .before .before .before .before .before .before .before .before .before .before .before .before .before .before .before .before .of-sheet .ensures)
+returns-2 c = let o = c .before .before .before .before .before .before .before .before .before .before .before .before .before .before .before .before .before .before in let t = o .before .before .before .before .before .before .before .before .before .before in let d = t .before .before in chart-accepted (x d) (S d) (verdict-is d ∙ t .enum-told .given .1) (o .of-sheet .ensures)
 
 pub chart-spec : {M : Type 1} → statement M
 chart-spec =
     tie.close
     (tie.spec
-    bench-of-requires
-    chart-verdict-requires
+    chart-short-requires
+    sheet-verdict-requires
     enum-known-verdict
     returns
     enum-told

@@ -1,43 +1,37 @@
 -- `chart::of_sheet` meets its contract: the graph of the sheet's parts, in the lent columns.
 -- Assumes nothing.
 use borrow.Author.Needs.{needs}
+use mathlib.Core.List.{List}
+use Prim.Native.Nat.{ℕ}
 use denote.Ref.{now}
+use lib.ListN.{getD}
+use Rattle.chart.specs.Lent.{PartsOf}
 use Rattle.chart.proofs.Laid.{sheet-parts}
 use Rattle.chart.proofs.of_sheet.Statement.{statement}
 use Rattle.chart.proofs.of_sheet.Tie as tie
 
+-- ---- where both parts are taken
+
+abbrev begun : tie.After-spans → tie.Start
+begun c = c .before .before .before .before .before .before .before .before .before .before .before .before .before
+
+abbrev S : tie.After-spans → List ℕ
+S c = now (begun c .args .sheet)
+
+parts : (c : tie.After-spans) → PartsOf (S c) (now (c .before .kinds .result)) (now (c .spans .result)) (getD (S c) 1 0)
+parts c = sheet-parts (S c) (begun c .pre .0) (c .before .kinds .ensures) (c .spans .ensures)
+
 shared-slice-read-scope-end : tie.Need-shared-slice-read-scope-end
 shared-slice-read-scope-end c = search needs
 
-shared-slice-read-m : tie.Need-shared-slice-read-m
-shared-slice-read-m c = search needs
+kinds-requires : tie.Need-kinds-requires
+kinds-requires c κs = search needs
 
-add-m : tie.Need-add-m
-add-m c = search needs
-
-sub-write-chart : tie.Need-sub-write-chart
-sub-write-chart c = search needs
-
-part-write-chart-start : tie.Need-part-write-chart-start
-part-write-chart-start c = search needs
-
-part-write-chart-end : tie.Need-part-write-chart-end
-part-write-chart-end c = search needs
-
-mul-write-chart : tie.Need-mul-write-chart
-mul-write-chart c = search needs
-
-sub-write-chart-2 : tie.Need-sub-write-chart-2
-sub-write-chart-2 c = search needs
-
-part-write-chart-start-2 : tie.Need-part-write-chart-start-2
-part-write-chart-start-2 c = search needs
-
-part-write-chart-end-2 : tie.Need-part-write-chart-end-2
-part-write-chart-end-2 c = search needs
+spans-requires : tie.Need-spans-requires
+spans-requires c κs = search needs
 
 write-chart-requires : tie.Need-write-chart-requires
-write-chart-requires c κs = ((_, sheet-parts (now (c .before .before .before .before .before .before .before .before .before .before .before .before .before .before .before .before .before .before .before .before .before .before .before .args .sheet)) (c .before .before .before .before .before .before .before .before .before .before .before .before .before .before .before .before .before .before .before .before .before .before .before .pre .0)), c .before .before .before .before .before .before .before .before .before .before .before .before .before .before .before .before .before .before .before .before .before .before .before .pre .1)
+write-chart-requires c κs = let d = c .before .before .before .before .before .before .before .before .before in ((S d, parts d), begun d .pre .1)
 
 same-length : tie.Need-same-length
 same-length c = search needs
@@ -67,22 +61,15 @@ same-length-9 : tie.Need-same-length-9
 same-length-9 c = search needs
 
 returns : tie.Need-returns
-returns c = c .before .before .before .before .before .before .before .before .before .before .before .before .before .before .before .before .before .before .write-chart .ensures (now (c .before .before .before .before .before .before .before .before .before .before .before .before .before .before .before .before .before .before .before .before .before .before .before .before .before .before .before .before .before .before .before .before .before .before .before .before .before .before .before .before .before .before .args .sheet)) (sheet-parts (now (c .before .before .before .before .before .before .before .before .before .before .before .before .before .before .before .before .before .before .before .before .before .before .before .before .before .before .before .before .before .before .before .before .before .before .before .before .before .before .before .before .before .before .args .sheet)) (c .before .before .before .before .before .before .before .before .before .before .before .before .before .before .before .before .before .before .before .before .before .before .before .before .before .before .before .before .before .before .before .before .before .before .before .before .before .before .before .before .before .before .pre .0))
+returns c = let w = c .before .before .before .before .before .before .before .before .before .before .before .before .before .before .before .before .before .before in let d = w .before .before .before .before .before .before .before .before .before .before in w .write-chart .ensures (S d) (parts d)
 
 pub of-sheet-spec : {M : Type 1} → statement M
 of-sheet-spec =
     tie.close
     (tie.spec
     shared-slice-read-scope-end
-    shared-slice-read-m
-    add-m
-    sub-write-chart
-    part-write-chart-start
-    part-write-chart-end
-    mul-write-chart
-    sub-write-chart-2
-    part-write-chart-start-2
-    part-write-chart-end-2
+    kinds-requires
+    spans-requires
     write-chart-requires
     same-length
     same-length-2

@@ -35,13 +35,15 @@ shared-slice-read-wide c = omega arith
 wide-requires : tie.Need-wide-requires Inv-loop μ-loop
 wide-requires c κs = search needs
 
-is-empty-read-requires : tie.Need-is-empty-read-requires Inv-loop μ-loop
-is-empty-read-requires c κs = rw (c .before .wide .ensures, c .before .before .before .before .loop .inv .0) (c .before .before .before .before .before .before .before .before .before .pre (c .before .before .before .before .loop .i) (c .before .before .before .loop-test .taken))
-
 -- ---- the use at place i
 
 abbrev entered : tie.At-loop Inv-loop μ-loop → tie.Start Inv-loop μ-loop
 entered c = c .before .before .before .before .before
+
+is-empty-read-requires : tie.Need-is-empty-read-requires Inv-loop μ-loop
+is-empty-read-requires c κs =
+    let t = c .before .before .before .before in
+    rw (c .before .wide .ensures, t .loop .inv .0) (entered t .pre (t .loop .i) (c .before .before .before .loop-test .taken))
 
 abbrev used : Bool → tie.At-loop Inv-loop μ-loop → Use
 used b c = let a = entered c .args in useAt b (now (a .use-word)) (now (a .use-node)) (getD (now (a .mine)) (c .loop .i) 0)
@@ -72,18 +74,20 @@ returns c =
     )
 
 mark-write-requires : tie.Need-mark-write-requires Inv-loop μ-loop
-mark-write-requires c κs = rw (c .before .before .before .before .wide .ensures, c .before .before .before .before .before .before .before .loop .inv .0) (c .before .before .before .before .before .before .before .before .before .before .before .before .pre (c .before .before .before .before .before .before .before .loop .i) (c .before .before .before .before .before .before .loop-test .taken))
-
-add-i : tie.Need-add-i Inv-loop μ-loop
-add-i c = omega (arith, c .before .before .before .before .before .before .before .before .before .loop-test .taken, c .before .before .before .before .before .before .before .before .before .before .before .before .before .before .before .good .1 .1 .1 .0)
-
-loop-less : tie.Need-loop-less Inv-loop μ-loop
-loop-less c = omega (arith, c .before .before .before .before .before .before .before .before .before .loop-test .taken)
+mark-write-requires c κs =
+    let t = tried (c .before .before) in
+    rw (c .before .before .before .before .wide .ensures, t .loop .inv .0) (entered t .pre (t .loop .i) (c .before .before .before .before .before .before .loop-test .taken))
 
 -- ---- after a turn
 
 abbrev turned : tie.After-mark-write Inv-loop μ-loop → tie.At-loop Inv-loop μ-loop
 turned c = tried (c .before .before .before)
+
+add-i : tie.Need-add-i Inv-loop μ-loop
+add-i c = omega (arith, c .before .before .before .before .before .before .before .before .before .loop-test .taken, entered (turned (c .before .before)) .good .1 .1 .1 .0)
+
+loop-less : tie.Need-loop-less Inv-loop μ-loop
+loop-less c = omega (arith, c .before .before .before .before .before .before .before .before .before .loop-test .taken)
 
 marked : (c : tie.After-mark-write Inv-loop μ-loop) → markIf (isWrite (used false (turned c))) (node (used false (turned c))) (entered (turned c) .args .stamp) (turned c .loop .visited) ≡ c .mark-write .last .1 .1 .0
 marked c = sym (rw (c .before .before .before .before .before .wide .ensures) at (c .mark-write .ensures))

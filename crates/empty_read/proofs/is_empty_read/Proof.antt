@@ -3,7 +3,6 @@
 use Prim.Native.Nat.{ℕ}
 use mathlib.Core.Path.{refl, sym, ap, _∙_}
 use mathlib.Core.Bool.{true, false, not}
-use native.Mathlib.Omega.{arith}
 use borrow.Author.Needs.{needs}
 use denote.Ref.{now}
 use lib.Dec.{eqb}

@@ -5,11 +5,21 @@ use Rattle.findings.proofs.Judging.{sheets, accepted}
 use Rattle.findings.proofs.of_sheets.Statement.{statement}
 use Rattle.findings.proofs.of_sheets.Tie as tie
 
+-- ---- where the chart is written
+
+abbrev begun : tie.After-of-sheet → tie.Start
+begun c = let k = c .before .before .before .before .before .before .before .before .before .before .before .before in k .before .before .before .before .before .before .before .before .before .before .before .before
+
 of-sheet-requires : tie.Need-of-sheet-requires
 of-sheet-requires c κs = search needs
 
 find-all-requires : tie.Need-find-all-requires
-find-all-requires c κs = let p = c .before .before .before .before .before .before .before .before .before .before .before .before .before .before .before .before .before .before .before .before .before .before .before .before .before .before .before .before .before .before .before .before .before .before .before .before .before .before .before .before .before .before .before .before .before .before .before .before .before .before .before .before .before .pre in ((p .0 .0, p .0 .1), (sheets (p .0 .2) (p .0 .0) (p .0 .1) (c .before .before .before .before .before .before .before .before .before .before .before .before .before .before .before .before .before .before .before .before .before .before .before .before .before .before .before .before .before .of-sheet .ensures), p .1 .1))
+find-all-requires c κs =
+    let k = c .before .before .before .before .before .before .before .before .before .before .before .before in
+    let l = k .before .before .before .before .before .before .before .before .before .before .before .before in
+    let d = l .before .before .before .before .before in
+    let p = begun d .pre in
+    ((p .0 .0, p .0 .1), (sheets (p .0 .2) (p .0 .0) (p .0 .1) (d .of-sheet .ensures), p .1 .1))
 
 same-length : tie.Need-same-length
 same-length c = search needs
@@ -48,7 +58,12 @@ same-length-12 : tie.Need-same-length-12
 same-length-12 c = search needs
 
 returns : tie.Need-returns
-returns c = accepted (c .before .before .before .before .before .before .before .before .before .before .before .before .before .before .before .before .before .before .before .before .before .before .before .before .before .before .before .before .before .before .before .before .before .before .before .before .before .before .before .before .before .before .before .before .before .before .before .before .before .before .before .before .before .before .before .before .before .before .before .before .pre .0 .0) (c .before .before .before .before .before .before .before .before .before .before .before .before .before .before .before .before .before .before .before .before .before .before .before .before .before .before .before .before .before .before .before .before .before .before .before .before .of-sheet .ensures) (c .before .before .before .before .before .before .find-all .ensures)
+returns c =
+    let f = c .before .before .before .before .before .before in
+    let k = f .before .before .before .before .before .before .before .before .before .before .before .before in
+    let l = k .before .before .before .before .before .before .before .before .before .before .before .before in
+    let d = l .before .before .before .before .before .before in
+    accepted (begun d .pre .0 .0) (d .of-sheet .ensures) (f .find-all .ensures)
 
 pub of-sheets-spec : {M : Type 1} → statement M
 of-sheets-spec =

@@ -2,66 +2,71 @@
 -- Assumes nothing.
 use borrow.Author.Needs.{needs}
 use mathlib.Core.Path.{_≡_, sym, ap, _∙_}
-use mathlib.Core.List.{List}
+use mathlib.Core.Bool.{Bool}
+use mathlib.Core.List.{List, [], _∷_}
 use Prim.Native.Nat.{ℕ}
 use denote.Ref.{now}
-use Rattle.flow.specs.declared.Bench.{Bench}
-use Rattle.flow.specs.Refusals.{judgeVerdict}
+use lib.ListN.{length}
+use Rattle.column_lengths.specs.Lengths.{judgeTooShort}
+use Rattle.flow.specs.Refusals.{pairVerdict}
 use Rattle.flow.proofs.Admission.{admitted}
 use Rattle.chart.specs.Lent.{Columns, columns}
-use Rattle.judge.specs.Lent.{judgeBench}
-use Rattle.judge.proofs.Promises.{ok, wide, long, judge-refused, judge-accepted}
+use Rattle.findings.specs.Accepted.{FindingColumns}
+use Rattle.judge.specs.Lent.{judgeShort}
+use Rattle.judge.proofs.Promises.{ok, wide-enough, judge-refused, judge-accepted}
 use Rattle.judge.proofs.judge.Statement.{statement}
 use Rattle.judge.proofs.judge.Tie as tie
 
 -- ---- where the verdict is known
 
-module _ (c : tie.After-judge-verdict) where
+module _ (c : tie.After-pair-verdict) where
+  abbrev begun : tie.Start
+  begun = let k = c .before .before .before .before .before .before .before .before .before in k .before .before .before .before .before .before .before .before
+
   abbrev S : List ℕ
-  S = now (c .before .before .before .before .before .before .before .before .before .before .before .before .before .before .before .before .args .sheet)
+  S = now (begun .args .sheet)
 
   abbrev U : List ℕ
-  U = now (c .before .before .before .before .before .before .before .before .before .before .before .before .before .before .before .before .args .uses)
+  U = now (begun .args .uses)
 
   abbrev x : Columns
   x =
-      let a = c .before .before .before .before .before .before .before .before .before .before .before .before .before .before .before .before .args in
+      let a = begun .args in
       columns (now (a .first)) (now (a .second)) (now (a .start)) (now (a .reachable)) (now (a .code-span)) (now (a .code-node)) (now (a .name-span)) (now (a .name-node)) (now (a .name-end))
 
-  abbrev words : List ℕ
-  words = now (c .before .before .before .before .before .before .before .before .before .before .before .before .before .before .before .before .args .finding-word)
+  abbrev f : FindingColumns
+  f = let a = begun .args in record { word = now (a .finding-word); span = now (a .finding-span); mark = now (a .mark) }
 
-  abbrev spans : List ℕ
-  spans = now (c .before .before .before .before .before .before .before .before .before .before .before .before .before .before .before .before .args .finding-span)
+  verdict-is : pairVerdict (judgeShort x f) S U ≡ c .pair-verdict .result
+  verdict-is =
+      let measured = c .before .judge-short .ensures ∙ ap (judgeTooShort (length (f .word) ∷ length (f .span) ∷ []) (length (f .mark) ∷ [])) (c .before .before .chart-short .ensures) in
+      sym (c .pair-verdict .ensures ∙ ap (λ (b : Bool). pairVerdict b S U) measured)
 
-  abbrev marks : List ℕ
-  marks = now (c .before .before .before .before .before .before .before .before .before .before .before .before .before .before .before .before .args .mark)
+chart-short-requires : tie.Need-chart-short-requires
+chart-short-requires c κs = search needs
 
-  verdict-is : judgeVerdict (judgeBench x words spans marks) S U ≡ c .judge-verdict .result
-  unfolding judgeBench
-  verdict-is = sym (c .judge-verdict .ensures ∙ ap (λ (b : Bench). judgeVerdict b S U) (c .before .bench-of .ensures))
+judge-short-requires : tie.Need-judge-short-requires
+judge-short-requires c κs = search needs
 
-bench-of-requires : tie.Need-bench-of-requires
-bench-of-requires c κs = search needs
-
-judge-verdict-requires : tie.Need-judge-verdict-requires
-judge-verdict-requires c κs = search needs
+pair-verdict-requires : tie.Need-pair-verdict-requires
+pair-verdict-requires c κs = search needs
 
 enum-known-verdict : tie.Need-enum-known-verdict
 enum-known-verdict c = search needs
 
 returns : tie.Need-returns
-returns c = let d = c .before .before .before in judge-refused (S d) (U d) (x d) (words d) (spans d) (marks d) (verdict-is d ∙ c .before .verdict .given .1)
+returns c = let d = c .before .before .before in judge-refused (S d) (U d) (x d) (f d) (verdict-is d ∙ c .before .verdict .given .1)
 
 enum-told : tie.Need-enum-told
 enum-told c = search needs
 
 of-sheets-requires : tie.Need-of-sheets-requires
 of-sheets-requires c κs =
-    let d = c .before .before .before .before .before .before .before .before .before .before .before .before .before .before in
-    let e = verdict-is d ∙ c .before .before .before .before .before .before .before .before .before .before .before .before .enum-told .given .1 in
-    let k = ok (S d) (U d) (x d) (words d) (spans d) (marks d) e in
-    ((admitted (S d) (k .chart .sheet), k .uses, k .chart .sheet), (wide (S d) (U d) (x d) (words d) (spans d) (marks d) e, long (S d) (U d) (x d) (words d) (spans d) (marks d) e))
+    let t = c .before .before .before .before .before .before .before .before .before .before .before .before in
+    let d = t .before .before in
+    let e = verdict-is d ∙ t .enum-told .given .1 in
+    let k = ok (S d) (U d) (x d) (f d) e in
+    ((admitted (S d) (k .sheet), k .uses, k .sheet), wide-enough (S d) (U d) (x d) (f d) e)
 
 same-length : tie.Need-same-length
 same-length c = search needs
@@ -100,14 +105,21 @@ same-length-12 : tie.Need-same-length-12
 same-length-12 c = search needs
 
 returns-2 : tie.Need-returns-2
-returns-2 c = let d = c .before .before .before .before .before .before .before .before .before .before .before .before .before .before .before .before .before .before .before .before .before .before .before .before .before .before .before .before .before .before .before .before .before .before .before .before .before .before .before in judge-accepted (S d) (U d) (x d) (words d) (spans d) (marks d) (verdict-is d ∙ c .before .before .before .before .before .before .before .before .before .before .before .before .before .before .before .before .before .before .before .before .before .before .before .before .before .before .before .before .before .before .before .before .before .before .before .before .before .enum-told .given .1) (c .before .before .before .before .before .before .before .before .before .before .before .before .before .before .before .before .before .before .before .before .before .before .before .before .of-sheets .ensures)
+returns-2 c =
+    let h = c .before .before .before .before .before .before .before .before .before .before .before .before in
+    let o = h .before .before .before .before .before .before .before .before .before .before .before .before in
+    let i = o .before .before .before .before .before .before .before .before .before .before .before .before in
+    let t = i .before in
+    let d = t .before .before in
+    judge-accepted (S d) (U d) (x d) (f d) (verdict-is d ∙ t .enum-told .given .1) (o .of-sheets .ensures)
 
 pub judge-spec : {M : Type 1} → statement M
 judge-spec =
     tie.close
     (tie.spec
-    bench-of-requires
-    judge-verdict-requires
+    chart-short-requires
+    judge-short-requires
+    pair-verdict-requires
     enum-known-verdict
     returns
     enum-told

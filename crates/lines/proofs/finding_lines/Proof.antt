@@ -1,33 +1,30 @@
 -- `lines::finding_lines` meets its contract: at the loop's head the lines of the first i findings stand.
 -- Assumes nothing.
-use Prim.Native.Nat.{ℕ, _<_, _-_}
+use Prim.Native.Nat.{_<_, _-_}
 use mathlib.Core.Path.{_≡_}
 use mathlib.Core.List.{List}
 use native.Mathlib.Omega.{arith}
-use lib.ListN.{length, take, getD}
+use lib.ListN.{length, getD}
 use Rattle.flow.specs.Findings.{Finding}
 use Rattle.flow.specs.Listing.{findingLine}
 use Rattle.line_writer.proofs.Pieces.{Passed, none, long, room, turn, all}
-use Rattle.lines.specs.Report.{findingsOf}
+use Rattle.lines.specs.Report.{firstFindings}
 use Rattle.lines.proofs.Rows.{rows, row}
 use Rattle.lines.proofs.Texts.{findings-pieces}
 use Rattle.lines.proofs.finding_lines.Statement.{statement}
 use Rattle.lines.proofs.finding_lines.Tie as tie
 
-abbrev firsts : ℕ → List ℕ → List ℕ → List Finding
-firsts n words spans = findingsOf (take n words) (take n spans)
-
 abbrev noFinding : Finding
 noFinding = record { word = 0; span = 0 }
 
 abbrev Inv-loop : tie.InvT-loop
-Inv-loop output₀ at words spans n next₀ i₀ output next i = Passed findingLine (firsts n words spans) i at output₀ output next
+Inv-loop output₀ at words spans n next₀ i₀ output next i = Passed findingLine (firstFindings n words spans) i at output₀ output next
 
 abbrev μ-loop : tie.MeasureT-loop
 μ-loop output₀ at words spans n next₀ i₀ output next i = n - i
 
 abbrev given : tie.Start Inv-loop μ-loop → List Finding
-given c = firsts (c .args .n) (c .args .words .now) (c .args .spans .now)
+given c = firstFindings (c .args .n) (c .args .words .now) (c .args .spans .now)
 
 count : (c : tie.Start Inv-loop μ-loop) → length (given c) ≡ c .args .n
 count c = rows (c .args .n) (c .args .words .now) (c .args .spans .now) (c .pre .0 .0) (c .pre .0 .1)

@@ -35,7 +35,7 @@ ready c =
     let a = entered c in
     let p = enters (a .args .n) (now (a .args .start)) (decl a) in
     let x = c .before .before .before .at .result in
-    still-ready (a .pre .0)
+    still-ready {m′ = c .push-alive .last .1 .0} {k′ = c .push-alive .last .1 .1 .0} (a .pre .0)
     (if-moved (a .args .n) x (before a) (pushIf p x (before a)) p (enters-node (a .args .n) (now (a .args .start)) (decl a) x) (a .pre .0 .room) refl)
     (c .push-alive .ensures)
 

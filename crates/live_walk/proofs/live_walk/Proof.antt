@@ -22,10 +22,26 @@ abbrev μ-loop : tie.MeasureT-loop
 μ-loop first second start use-word use-node mine visited₀ stack₀ n node scope-end stamp top₀ count₀ visited stack top count =
     measure n (view stamp n visited stack top)
 
+-- ---- the places: after the call of seed and at the loop's head, and the start that they go back to
+
+abbrev entered : tie.After-seed Inv-loop μ-loop → tie.Start Inv-loop μ-loop
+entered c = c .before .before .before .before .before .before .before .before .before .before .before
+
+abbrev seeded : tie.At-loop Inv-loop μ-loop → tie.After-seed Inv-loop μ-loop
+seeded c = c .before .before .before .before .before
+
+abbrev begun : tie.At-loop Inv-loop μ-loop → tie.Start Inv-loop μ-loop
+begun c = entered (seeded c)
+
+abbrev turned : tie.After-expand Inv-loop μ-loop → tie.At-loop Inv-loop μ-loop
+turned c = c .before .before .before .before .before .before
+
 abbrev walk : tie.Start Inv-loop μ-loop → Search
 walk c =
     let a = c .args in
     fromWrites (a .n) (now (a .first)) (now (a .second)) (now (a .start)) (declared (a .node) (a .scope-end)) (usesAt (now (a .use-word)) (now (a .use-node)) (now (a .mine)))
+
+-- ---- before the loop
 
 seed-requires : tie.Need-seed-requires Inv-loop μ-loop
 seed-requires c κs =
@@ -35,10 +51,14 @@ seed-requires c κs =
 
 loop-holds : tie.Need-loop-holds Inv-loop μ-loop
 loop-holds c =
-    let a = c .before .before .before .before .before .before .before .before .before .before .before .before .before .before .before .args in
-    let p = c .before .before .before .before .before .before .before .before .before .before .before .before .before .before .before .pre in
-    let l = c .before .before .before .before .seed .last .1 .1 .1 .1 .1 .1 in
-    (refl, refl, walking-begins (walk (c .before .before .before .before .before .before .before .before .before .before .before .before .before .before .before)) (a .stamp) (now (a .visited)) (now (a .stack)) (l .0) (l .1 .0) (c .before .before .before .before .seed .result) (p .0 .1) (p .1 .1 .0) (p .1 .1 .1) (c .before .before .before .before .seed .ensures))
+    let m = c .before .before .before .before in
+    let e = entered m in
+    let a = e .args in
+    let p = e .pre in
+    let l = m .seed .last .1 .1 .1 .1 .1 .1 in
+    (refl, refl, walking-begins (walk e) (a .stamp) (now (a .visited)) (now (a .stack)) (l .0) (l .1 .0) (m .seed .result) (p .0 .1) (p .1 .1 .0) (p .1 .1 .1) (m .seed .ensures))
+
+-- ---- a turn
 
 sub-top : tie.Need-sub-top Inv-loop μ-loop
 sub-top c = omega arith
@@ -54,36 +74,45 @@ wide-requires c κs = search needs
 
 expand-requires : tie.Need-expand-requires Inv-loop μ-loop
 expand-requires c κs =
-    let g = walk (c .before .before .before .before .before .before .before .before .before .before .before .before .before .before .before .before .before .before .before .before .before) in
-    let s = c .before .before .before .before .before .before .before .before .before .before .before .before .before .before .before .before .before .before .before .before .before .args .stamp in
-    (walking-ready g s (c .before .before .before .before .before .loop .inv .2) (c .before .before .before .before .loop-test .taken), (c .before .before .before .before .before .before .before .before .before .before .before .before .before .before .before .before .before .before .before .before .before .pre .0 .0, rw (c .before .before .wide .ensures) (walking-node g s (c .before .before .before .before .before .loop .inv .2) (c .before .before .before .before .loop-test .taken))))
+    let t = c .before .before .before .before .before in
+    let e = begun t in
+    let p = c .before .before .before .before .loop-test .taken in
+    (walking-ready (walk e) (e .args .stamp) (t .loop .inv .2) p, (e .pre .0 .0, rw (c .before .before .wide .ensures) (walking-node (walk e) (e .args .stamp) (t .loop .inv .2) p)))
 
 add-count : tie.Need-add-count Inv-loop μ-loop
-add-count c = omega (arith, c .before .before .before .before .before .before .before .before .before .before .loop .inv .2 .few, c .before .before .before .before .before .before .before .before .before .before .loop .inv .2 .counted)
+add-count c =
+    let t = turned (c .before .before .before .before) in
+    omega (arith, t .loop .inv .2 .few, t .loop .inv .2 .counted)
 
 loop-less : tie.Need-loop-less Inv-loop μ-loop
-loop-less c = walking-less (walk (c .before .before .before .before .before .before .before .before .before .before .before .before .before .before .before .before .before .before .before .before .before .before .before .before .before .before)) (c .before .before .before .before .before .before .before .before .before .before .before .before .before .before .before .before .before .before .before .before .before .before .before .before .before .before .args .stamp) (c .before .before .before .before .before .before .before .before .before .before .loop .inv .2) (c .before .before .before .before .before .before .before .before .before .loop-test .taken) (rw (c .before .before .before .before .before .before .before .wide .ensures) at (c .before .before .before .before .expand .ensures))
+loop-less c =
+    let m = c .before .before .before .before in
+    let t = turned m in
+    let e = begun t in
+    walking-less (walk e) (e .args .stamp) (t .loop .inv .2) (m .before .before .before .before .before .loop-test .taken) (rw (m .before .before .before .wide .ensures) at (m .expand .ensures))
 
 loop-again : tie.Need-loop-again Inv-loop μ-loop
 loop-again c = (
   c .before .before .before .before .expand .kept .1 .1 .1 .0 ∙ c .before .before .before .before .before .before .before .before .before .before .loop .inv .0,
   c .before .before .before .before .expand .kept .1 .1 .1 .1 .0 ∙ c .before .before .before .before .before .before .before .before .before .before .loop .inv .1,
-  walking-on (walk (c .before .before .before .before .before .before .before .before .before .before .before .before .before .before .before .before .before .before .before .before .before .before .before .before .before .before)) (c .before .before .before .before .before .before .before .before .before .before .before .before .before .before .before .before .before .before .before .before .before .before .before .before .before .before .args .stamp) (c .before .before .before .before .before .before .before .before .before .before .loop .inv .2) (c .before .before .before .before .before .before .before .before .before .loop-test .taken) (rw (c .before .before .before .before .before .before .before .wide .ensures) at (c .before .before .before .before .expand .ensures)),
+  walking-on (walk (begun (turned (c .before .before .before .before)))) (begun (turned (c .before .before .before .before)) .args .stamp) (turned (c .before .before .before .before) .loop .inv .2) (c .before .before .before .before .before .before .before .before .before .loop-test .taken) (rw (c .before .before .before .before .before .before .before .wide .ensures) at (c .before .before .before .before .expand .ensures)),
 )
 
+-- ---- after the loop
+
 same-length : tie.Need-same-length Inv-loop μ-loop
-same-length c = c .before .loop .inv .0 ∙ c .before .before .before .before .before .before .seed .kept .1 .1 .1 .1 .1 .1 .0
+same-length c = c .before .loop .inv .0 ∙ seeded (c .before) .seed .kept .1 .1 .1 .1 .1 .1 .0
 
 same-length-2 : tie.Need-same-length-2 Inv-loop μ-loop
-same-length-2 c = c .before .loop .inv .1 ∙ c .before .before .before .before .before .before .seed .kept .1 .1 .1 .1 .1 .1 .1 .0
+same-length-2 c = c .before .loop .inv .1 ∙ seeded (c .before) .seed .kept .1 .1 .1 .1 .1 .1 .1 .0
 
 returns : tie.Need-returns Inv-loop μ-loop
 returns c =
-    let a = c .before .before .before .before .before .before .before .before .before .before .before .before .before .before .before .before .before .args in
-    let w = c .before .loop .inv .2 in
-    let g = walk (c .before .before .before .before .before .before .before .before .before .before .before .before .before .before .before .before .before) in (
-      λ f h us s. walking-ends g (a .stamp) w (omega arith) ∙ walked-is f (declared (a .node) (a .scope-end)) (a .n) (now (a .first)) (now (a .second)) (now (a .start)) (now (a .use-word)) (now (a .use-node)) (now (a .mine)) us (c .before .before .before .before .before .before .before .before .before .before .before .before .before .before .before .before .before .pre .0 .0 .firsts) h s,
-      ((w .fresh, w .long), walking-count g (a .stamp) w (omega arith)),
+    let e = begun (c .before) in
+    let a = e .args in
+    let w = c .before .loop .inv .2 in (
+      λ g us s. walking-ends (walk e) (a .stamp) w (omega arith) ∙ walked-is g (declared (a .node) (a .scope-end)) (a .n) (now (a .first)) (now (a .second)) (now (a .start)) (now (a .use-word)) (now (a .use-node)) (now (a .mine)) us (e .pre .0 .0 .firsts) (s .charts) (s .spells),
+      ((w .fresh, w .long), walking-count (walk e) (a .stamp) w (omega arith)),
     )
 
 pub live-walk-spec : {M : Type 1} → statement M

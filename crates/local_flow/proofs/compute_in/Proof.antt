@@ -4,7 +4,6 @@ use mathlib.Core.Path.{_∙_}
 use native.Mathlib.Omega.{arith}
 use Rattle.both_lists.proofs.Both.{walks-on}
 use Rattle.local_flow.proofs.Columns.{passes}
-use borrow.Author.Needs.{needs}
 use Rattle.local_flow.proofs.compute_in.Statement.{statement}
 use Rattle.local_flow.proofs.compute_in.Tie as tie
 

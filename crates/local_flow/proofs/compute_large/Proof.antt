@@ -1,7 +1,7 @@
 -- `local_flow::compute_large` meets its contract: columns of 1,600 cells are memory for any sheet.
 -- Assumes nothing.
 use native.Mathlib.Omega.{arith}
-use Rattle.local_flow.proofs.Columns.{memory}
+use Rattle.local_flow.proofs.Columns.{sorting-room, walking-room}
 use borrow.Author.Needs.{needs}
 use Rattle.local_flow.proofs.compute_large.Statement.{statement}
 use Rattle.local_flow.proofs.compute_large.Tie as tie
@@ -50,8 +50,11 @@ slice-aggregate-compute-in-14 c = search needs
 
 compute-in-requires : tie.Need-compute-in-requires
 compute-in-requires c κs =
-    let p = c .before .before .before .before .before .before .before .before .before .before .before .before .before .before .before .before .before .before .before .before .before .before .before .before .before .before .before .before .before .before .before .pre .0 .given in
-    (c .before .before .before .before .before .before .before .before .before .before .before .before .before .before .before .before .before .before .before .before .before .before .before .before .before .before .before .before .before .before .before .pre .0, (c .before .before .before .before .before .before .before .before .before .before .before .before .before .before .before .before .before .before .before .before .before .before .before .before .before .before .before .before .before .before .before .pre .1, memory 1600 (p .charted .few) (omega (arith, p .named .few)) (omega (arith, p .use-table .few))))
+    let i = c .before .before .before .before .before .before .before .before .before .before .before in
+    let j = i .before .before .before .before .before .before .before .before .before .before in
+    let s = j .before .before .before .before .before .before .before .before .before .before in
+    let p = s .pre .0 .given in
+    (s .pre .0, (s .pre .1, record { sorting = sorting-room 1600 (p .charted .few) (omega (arith, p .named .few)) (omega (arith, p .use-table .few)); walks = walking-room 1600 (p .charted .few) }))
 
 same-length : tie.Need-same-length
 same-length c = search needs

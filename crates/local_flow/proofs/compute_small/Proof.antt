@@ -1,6 +1,6 @@
 -- `local_flow::compute_small` meets its contract: columns of 128 cells are memory for it.
 -- Assumes nothing.
-use Rattle.local_flow.proofs.Columns.{memory}
+use Rattle.local_flow.proofs.Columns.{sorting-room, walking-room}
 use borrow.Author.Needs.{needs}
 use Rattle.local_flow.proofs.compute_small.Statement.{statement}
 use Rattle.local_flow.proofs.compute_small.Tie as tie
@@ -49,8 +49,11 @@ slice-aggregate-compute-in-14 c = search needs
 
 compute-in-requires : tie.Need-compute-in-requires
 compute-in-requires c κs =
-    let few = c .before .before .before .before .before .before .before .before .before .before .before .before .before .before .before .before .before .before .before .before .before .before .before .before .before .before .before .before .before .before .before .pre .1 .1 in
-    (c .before .before .before .before .before .before .before .before .before .before .before .before .before .before .before .before .before .before .before .before .before .before .before .before .before .before .before .before .before .before .before .pre .0, (c .before .before .before .before .before .before .before .before .before .before .before .before .before .before .before .before .before .before .before .before .before .before .before .before .before .before .before .before .before .before .before .pre .1 .0, memory 128 (few .0) (few .1) (few .2)))
+    let i = c .before .before .before .before .before .before .before .before .before .before .before in
+    let j = i .before .before .before .before .before .before .before .before .before .before in
+    let s = j .before .before .before .before .before .before .before .before .before .before in
+    let few = s .pre .1 .1 in
+    (s .pre .0, (s .pre .1 .0, record { sorting = sorting-room 128 (few .0) (few .1) (few .2); walks = walking-room 128 (few .0) }))
 
 same-length : tie.Need-same-length
 same-length c = search needs

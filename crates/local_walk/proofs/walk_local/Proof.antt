@@ -13,8 +13,11 @@ use Rattle.local_walk.proofs.walk_local.Tie as tie
 live-walk-requires : tie.Need-live-walk-requires
 live-walk-requires c κs = search needs
 
+abbrev entered : tie.After-live-walk → tie.Start
+entered c = c .before .before .before .before .before .before .before .before .before .before .before
+
 first-unassigned-use-requires : tie.Need-first-unassigned-use-requires
-first-unassigned-use-requires c κs = λ i h. placed-wider (c .before .before .before .before .before .live-walk .ensures .1 .0 .0 .cells) (c .before .before .before .before .before .before .before .before .before .before .before .before .before .before .before .before .pre .1 .0 i h)
+first-unassigned-use-requires c κs = λ i h. placed-wider (c .before .before .before .before .before .live-walk .ensures .1 .0 .0 .cells) (entered (c .before .before .before .before .before) .pre .1 .0 i h)
 
 use-code-requires : tie.Need-use-code-requires
 use-code-requires c κs = c .before .before .first-unassigned-use .ensures .1 .0
@@ -25,14 +28,17 @@ same-length c = search needs
 same-length-2 : tie.Need-same-length-2
 same-length-2 c = search needs
 
+abbrev walked : tie.After-use-code → tie.After-live-walk
+walked c = c .before .before .before .before .before .before .before .before .before
+
 returns : tie.Need-returns
 returns c = (
-  λ g us h o e. c .use-code .ensures .0 us e ∙ ap codeOf (sym (c .before .before .before .first-unassigned-use .ensures .0 (c .before .before .before .before .before .before .before .before .before .before .before .before .before .before .before .before .before .before .before .before .args .n) us o) ∙ ap (λ l. firstEmptyRead l [] us) (c .before .before .before .before .before .before .before .before .before .live-walk .ensures .0 g h us (o .spells))),
+  λ g us s. c .use-code .ensures .0 us (s .numbers) ∙ ap codeOf (sym (c .before .before .before .first-unassigned-use .ensures .0 (entered (walked c) .args .n) us (s .uses)) ∙ ap (λ l. firstEmptyRead l [] us) (walked c .live-walk .ensures .0 g us (record { charts = s .charts; spells = s .uses .spells }))),
   record {
-    few = omega (arith, c .before .before .before .before .before .before .before .before .before .live-walk .ensures .1 .1);
-    within = c .use-code .ensures .1 _ (λ i h. c .before .before .before .before .before .before .before .before .before .before .before .before .before .before .before .before .before .before .before .before .pre .1 .0 i h .worded);
-    fresh = c .before .before .before .first-unassigned-use .ensures .1 .1 _ (c .before .before .before .before .before .before .before .before .before .live-walk .ensures .1 .0 .0);
-    long = c .before .before .before .before .before .before .before .before .before .live-walk .ensures .1 .0 .1;
+    few = omega (arith, walked c .live-walk .ensures .1 .1);
+    within = c .use-code .ensures .1 _ (λ i h. entered (walked c) .pre .1 .0 i h .worded);
+    fresh = c .before .before .before .first-unassigned-use .ensures .1 .1 _ (walked c .live-walk .ensures .1 .0 .0);
+    long = walked c .live-walk .ensures .1 .0 .1;
   },
 )
 

@@ -2,8 +2,8 @@
 -- Assumes nothing.
 use mathlib.Core.Path.{ap, _∙_}
 use borrow.Author.Needs.{needs}
-use Rattle.flow.specs.declared.Place.the-variants.{Node}
-use Rattle.offsets.proofs.Offsets.{first-at, first-past}
+use Rattle.flow.specs.declared.Found.the-variants.{At}
+use Rattle.offsets.proofs.Offsets.{first-at, first-none}
 use Rattle.offsets.proofs.place_at.Statement.{statement}
 use Rattle.offsets.proofs.place_at.Tie as tie
 
@@ -11,10 +11,10 @@ at-requires : tie.Need-at-requires
 at-requires c κs = search needs
 
 returns : tie.Need-returns
-returns c = λ spans o l f. ap Node (c .at .ensures) ∙ first-at (c .before .before .before .args .codes) spans (c .before .before .before .args .code-node .now) o (c .before .before .before .args .index) l f (c .before .if1 .taken)
+returns c = λ spans o l f. ap At (c .at .ensures) ∙ first-at (c .before .before .before .args .codes) spans (c .before .before .before .args .code-node .now) o (c .before .before .before .args .index) l f (c .before .if1 .taken)
 
 returns-2 : tie.Need-returns-2
-returns-2 c = λ spans o l f. first-past (c .before .before .args .codes) spans (c .before .before .args .code-node .now) o (c .before .before .args .index) l f (c .if1 .left)
+returns-2 c = λ spans o l f. first-none (c .before .before .args .codes) spans (c .before .before .args .code-node .now) o (c .before .before .args .index) l f (c .if1 .left)
 
 pub place-at-spec : {M : Type 1} → statement M
 place-at-spec = tie.close (tie.spec at-requires returns returns-2)

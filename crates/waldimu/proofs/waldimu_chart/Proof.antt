@@ -1,16 +1,23 @@
--- `waldimu::waldimu_chart` meets its contract: the word is that of the call's answer, and the columns are as the call leaves them. Assumes nothing.
-use mathlib.Core.Path.{sym, subst}
-use Rattle.answer_words.specs.Words.{ChartFits}
-use Rattle.waldimu.proofs.Fits.{chart-fits}
+-- `waldimu::waldimu_chart` meets its contract: the word is that of the call's answer, the cuts are those of the word, and the columns are as the call leaves them. Assumes nothing.
 use borrow.Author.Needs.{needs}
+use mathlib.Core.Path.{sym, subst}
+use Rattle.answer_words.specs.Words.{CountsFit}
+use Rattle.waldimu.proofs.Fits.{chart-fits}
 use Rattle.waldimu.proofs.waldimu_chart.Statement.{statement}
 use Rattle.waldimu.proofs.waldimu_chart.Tie as tie
+
+-- from where the columns came back, the place where the call has answered
+abbrev from-codes : tie.After-code-span → tie.After-chart
+from-codes c = c .before .before .before .before .before .before .before .before .before
+
+abbrev called : tie.After-slice-known18 → tie.After-chart
+called c = from-codes (c .before .before .before .before .before .before .before .before .before)
 
 chart-requires : tie.Need-chart-requires
 chart-requires c κs = tt
 
 chart-word-requires : tie.Need-chart-word-requires
-chart-word-requires c κs = subst ChartFits (sym (c .before .before .before .before .before .before .before .before .before .before .before .before .before .before .before .before .before .before .chart .ensures .answer)) (chart-fits _ _)
+chart-word-requires c κs = subst CountsFit (sym (called c .chart .ensures .told)) (chart-fits _ _)
 
 same-length : tie.Need-same-length
 same-length c = search needs
@@ -40,7 +47,7 @@ same-length-9 : tie.Need-same-length-9
 same-length-9 c = search needs
 
 returns : tie.Need-returns
-returns c = record { answer = _; word = c .chart-word .ensures; promise = c .before .before .before .before .before .before .before .before .before .before .before .before .before .before .before .before .before .before .before .chart .ensures }
+returns c = record { answer = _; word = c .chart-word .ensures .0; fields = c .chart-word .ensures .1; promise = called (c .before) .chart .ensures }
 
 pub waldimu-chart-spec : {M : Type 1} → statement M
 waldimu-chart-spec =

@@ -1,16 +1,23 @@
--- `waldimu::waldimu_judge` meets its contract: the word is that of the call's answer, and the columns are as the call leaves them. Assumes nothing.
+-- `waldimu::waldimu_judge` meets its contract: the word is that of the call's answer, the cuts are those of the word, and the columns are as the call leaves them. Assumes nothing.
 use borrow.Author.Needs.{needs}
 use mathlib.Core.Path.{sym, subst}
-use Rattle.answer_words.specs.Words.{JudgeFits}
+use Rattle.answer_words.specs.Words.{CountsFit}
 use Rattle.waldimu.proofs.Fits.{judge-fits}
 use Rattle.waldimu.proofs.waldimu_judge.Statement.{statement}
 use Rattle.waldimu.proofs.waldimu_judge.Tie as tie
+
+-- from where the columns came back, the place where the call has answered
+abbrev half-way : tie.After-slice-known18 → tie.After-judge
+half-way c = c .before .before .before .before .before .before .before .before .before .before .before .before
+
+abbrev called : tie.After-slice-known24 → tie.After-judge
+called c = half-way (c .before .before .before .before .before .before .before .before .before .before .before .before)
 
 judge-requires : tie.Need-judge-requires
 judge-requires c κs = search needs
 
 judge-word-requires : tie.Need-judge-word-requires
-judge-word-requires c κs = subst JudgeFits (sym (c .before .before .before .before .before .before .before .before .before .before .before .before .before .before .before .before .before .before .before .before .before .before .before .before .judge .ensures .answer)) (judge-fits _ _ _)
+judge-word-requires c κs = subst CountsFit (sym (called c .judge .ensures .told)) (judge-fits _ _ _)
 
 same-length : tie.Need-same-length
 same-length c = search needs
@@ -49,7 +56,7 @@ same-length-12 : tie.Need-same-length-12
 same-length-12 c = search needs
 
 returns : tie.Need-returns
-returns c = record { answer = _; word = c .judge-word .ensures; promise = c .before .before .before .before .before .before .before .before .before .before .before .before .before .before .before .before .before .before .before .before .before .before .before .before .before .judge .ensures }
+returns c = record { answer = _; word = c .judge-word .ensures .0; fields = c .judge-word .ensures .1; promise = called (c .before) .judge .ensures }
 
 pub waldimu-judge-spec : {M : Type 1} → statement M
 waldimu-judge-spec =

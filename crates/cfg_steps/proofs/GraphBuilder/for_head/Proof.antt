@@ -4,6 +4,7 @@ use borrow.Author.Needs.{needs}
 use mathlib.Core.Path.{refl}
 use native.Mathlib.Omega.{arith}
 use mathlib.Core.List.{[]}
+use Rattle.cfg_steps.specs.Columns.{cols}
 use Rattle.cfg_steps.proofs.Ops.{did-trans}
 use Rattle.cfg_steps.proofs.Simple.{stands}
 use Rattle.cfg_steps.proofs.GraphBuilder.for_head.Statement.{statement}
@@ -31,7 +32,7 @@ returns : tie.Need-returns
 returns c = λ ks n l ok q.
     let d = c .before .before .before .before .before .before .before .before .before .before .before .before .code-and-after .ensures ks n l ok q in
     let e = c .before .before .before .before .before .before .advance-to .ensures ks _ n l (d .good) in
-    did-trans (did-trans d e) (c .before .before .new-node .ensures ks _ n l (e .good))
+    did-trans {x = cols _ _ n l} (did-trans {x = cols _ _ n l} {y = cols _ _ n l} d e) (c .before .before .new-node .ensures ks _ n l (e .good))
 
 pub for-head-spec : {M : Type 1} → statement M
 for-head-spec =

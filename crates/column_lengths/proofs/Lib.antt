@@ -1,0 +1,2 @@
+pub mod Also
+pub mod Long
