@@ -1,6 +1,7 @@
 //! What the library finds in a script, by place.
 
 use crate::exporter::{Exported, Exporter, Limit};
+use crate::labels::{LabelFault, faults, labels_fit};
 use crate::library::{self, Refusal, Unit};
 use crate::parser::parse;
 use crate::resolver::{FunctionBlock, Resolved, resolve};
@@ -56,6 +57,8 @@ impl std::fmt::Display for Reason {
 pub struct Report {
     /// In the order of the text.
     pub findings: Vec<Finding>,
+    /// Labels that no Lua would compile: the findings rest on a graph without them.
+    pub label_faults: Vec<LabelFault>,
     pub unchecked: Vec<Unchecked>,
     /// How many blocks the script has, checked or not.
     pub functions: usize,
@@ -72,21 +75,28 @@ pub fn check(source: &[u8], dialect: Dialect, unit: &mut Unit) -> Result<Report,
     let exporter = Exporter::new(source, &resolved);
     let mut report = Report { functions: resolved.function_blocks.len(), ..Report::default() };
     for (number, function) in resolved.function_blocks.iter().enumerate() {
-        let found = exporter
-            .export(function)
-            .map_err(Reason::Limit)
-            .and_then(|exported| judge(&exported, &resolved, number, unit));
+        let exported = exporter.export(function).map_err(Reason::Limit);
+        let found = exported.and_then(|exported| {
+            if !labels_fit(&exported).map_err(Reason::Refused)? {
+                report.label_faults.extend(faults(source, function));
+            }
+            judge(&exported, &resolved, number, unit)
+        });
         match found {
             Ok(findings) => report.findings.extend(findings),
-            Err(reason) => report.unchecked.push(unchecked(number, function, reason)),
+            Err(reason) => report.unchecked.push(Unchecked::new(number, function, reason)),
         }
     }
     report.findings.sort_by_key(|finding| finding.span);
+    report.label_faults.sort_by_key(|fault| fault.span);
     Ok(report)
 }
 
-fn unchecked(number: usize, function: &FunctionBlock<'_>, reason: Reason) -> Unchecked {
-    Unchecked { function: number, name: function.name, span: function.span, reason }
+impl Unchecked {
+    #[must_use]
+    pub fn new(number: usize, function: &FunctionBlock<'_>, reason: Reason) -> Self {
+        Self { function: number, name: function.name, span: function.span, reason }
+    }
 }
 
 fn judge(
