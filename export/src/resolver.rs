@@ -24,6 +24,8 @@ pub struct FunctionBlock<'ast> {
     pub span: Span,
     /// The number of the function around this one; the script's own is 0.
     pub parent: usize,
+    /// The scope of its parameters and its block.
+    pub scope: ScopeId,
 }
 
 #[must_use]
@@ -199,8 +201,9 @@ impl<'ast, 'source> Resolver<'ast, 'source> {
 
     fn module(&mut self, block: &'ast Block) {
         let span = Span::new(0, block.span.end);
-        self.function_blocks.push(FunctionBlock { block, name: None, span, parent: 0 });
         let outer = self.open(ScopeKind::Module);
+        let scope = self.scope;
+        self.function_blocks.push(FunctionBlock { block, name: None, span, parent: 0, scope });
         self.stmts(block);
         self.close(outer);
     }
@@ -224,8 +227,9 @@ impl<'ast, 'source> Resolver<'ast, 'source> {
         let parent = self.function;
         self.function = self.function_blocks.len();
         let span = body.span;
-        self.function_blocks.push(FunctionBlock { block: &body.block, name, span, parent });
         let outer = self.open(ScopeKind::Function);
+        let (block, scope) = (&body.block, self.scope);
+        self.function_blocks.push(FunctionBlock { block, name, span, parent, scope });
         if is_method {
             let start = name.map_or(span.start, |name| name.end);
             self.declare(b"self", Span::new(start, start), SymbolKind::ImplicitSelf);
