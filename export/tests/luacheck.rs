@@ -232,7 +232,7 @@ fn findings_agree_or_the_difference_is_classed() {
     for (name, source) in &scripts {
         compare(source, theirs.get(name).map_or(&[], Vec::as_slice), &mut counts);
     }
-    println!("luacheck, over {} scripts: {counts:#?}", scripts.len());
+    println!("luacheck, over {} scripts: {counts:?}", scripts.len());
     for agreed in ["agreed: unassigned", "agreed: overwritten", "agreed"] {
         assert!(counts.get(agreed).copied().unwrap_or(0) >= 20, "{agreed}: {counts:#?}");
     }
