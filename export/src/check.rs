@@ -105,9 +105,8 @@ fn judge(
     function: usize,
     unit: &mut Unit,
 ) -> Result<Vec<Finding>, Reason> {
-    let found = unit
-        .judge(&exported.sheet.words(), &exported.uses.words())
-        .map_err(Reason::Refused)?;
+    let found =
+        unit.judge(&exported.sheet.words(), &exported.uses.words()).map_err(Reason::Refused)?;
     let declared = |local: usize| resolved.tree.symbol(exported.symbols[local]).definition_span;
     let used = |number: usize| exported.uses.uses[number].span;
     let finding = |found: library::Finding| match found {

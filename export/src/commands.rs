@@ -13,8 +13,9 @@ use waldimu::lines::Lines;
 use waldimu::parser::parse;
 use waldimu::plain_text::plain_text;
 use waldimu::reach::{self, Answer};
-use waldimu::report::{self, Message, count};
+use waldimu::report::{self, Message};
 use waldimu::resolver::{FunctionBlock, resolve};
+use waldimu::text::{count, grouped};
 use waldimu::token::{Dialect, Span, SyntaxError};
 
 use crate::Status;
@@ -66,7 +67,7 @@ fn each_script(
     for found in &scripts {
         progress.show(|| {
             let done = count(totals.scripts, "script");
-            format!("{done} of {}, {}", scripts.len(), count(totals.findings, "finding"))
+            format!("{done} of {}, {}", grouped(scripts.len()), count(totals.findings, "finding"))
         });
         let mut text = String::new();
         look_at(found, options, &mut totals, &mut text, &mut look);
@@ -91,18 +92,14 @@ fn look_at(
     look: &mut impl FnMut(&[u8], Dialect, &Lines<'_>) -> Result<Said, SyntaxError>,
 ) {
     totals.scripts += 1;
-    let read = match found {
-        Found::Script(path) => files::read(path).map_err(|error| (path, error.to_string())),
-        Found::Unreadable(path, error) => Err((path, error.to_string())),
-    };
-    let (path, source) = match (found, read) {
-        (Found::Script(path), Ok(source)) => (path, source),
-        (_, Err((path, error))) => {
+    let path = found.path();
+    let source = match found.read() {
+        Ok(source) => source,
+        Err(error) => {
             totals.unchecked += 1;
             text.push_str(&unreadable(path, &error, options));
             return;
         }
-        (Found::Unreadable(..), Ok(_)) => return,
     };
     let lines = Lines::new(&source);
     let messages = match look(&source, files::dialect(path, options.is_luau), &lines) {
@@ -154,8 +151,12 @@ fn finish(
             "{{\"kind\":\"summary\",\"scripts\":{scripts},\"blocks\":{blocks},\"findings\":{findings},\"unchecked\":{unchecked}}}"
         )?;
     } else {
-        let mut line =
-            format!("{}, {}: {}", count(scripts, "script"), count(blocks, "block"), count(findings, what));
+        let mut line = format!(
+            "{}, {}: {}",
+            count(scripts, "script"),
+            count(blocks, "block"),
+            count(findings, what)
+        );
         if unchecked > 0 {
             line.push_str(&format!(", {} not checked", count(unchecked, "script or block")));
         }
@@ -192,11 +193,12 @@ fn say_syntax_error(path: &Path, source: &[u8], error: &SyntaxError) -> Status {
     Status::Unchecked
 }
 
+/// What is written of one function: its number, itself, its sheets, and the script.
+type WriteFunction<'write> = dyn FnMut(usize, &FunctionBlock<'_>, &Exported, &[u8]) -> io::Result<Result<(), Reason>>
+    + 'write;
+
 /// Calls `write` for each function that was asked for, and names those that cannot be exported.
-fn each_function(
-    options: &Options,
-    write: &mut dyn FnMut(usize, &FunctionBlock<'_>, &Exported, &[u8]) -> io::Result<Result<(), Reason>>,
-) -> io::Result<Status> {
+fn each_function(options: &Options, write: &mut WriteFunction<'_>) -> io::Result<Status> {
     let Some((path, source, dialect)) = read_one(options) else {
         return Ok(Status::Unchecked);
     };
@@ -206,19 +208,19 @@ fn each_function(
     };
     let resolved = resolve(&source, dialect, &block);
     let exporter = Exporter::new(&source, &resolved);
-    let mut status = Status::Clean;
     let functions = &resolved.function_blocks;
-    if let Some(number) = options.function
-        && number >= functions.len()
-    {
-        let most = functions.len() - 1;
-        eprintln!("{}: there is no function {number}: the last one is {most}", path.display());
-        return Ok(Status::Unchecked);
-    }
-    for (number, function) in functions.iter().enumerate() {
-        if options.function.is_some_and(|asked| asked != number) {
-            continue;
+    let asked = match options.function {
+        None => 0..functions.len(),
+        Some(number) if number < functions.len() => number..number + 1,
+        Some(number) => {
+            let last = functions.len() - 1;
+            eprintln!("{}: there is no function {number}, the last is {last}", path.display());
+            return Ok(Status::Unchecked);
         }
+    };
+    let mut status = Status::Clean;
+    for number in asked {
+        let function = &functions[number];
         let written = match exporter.export(function) {
             Ok(exported) => write(number, function, &exported, &source)?,
             Err(limit) => Err(Reason::Limit(limit)),

@@ -6,8 +6,11 @@ use std::fmt;
 
 use crate::ast::*;
 use crate::resolver::{FunctionBlock, Resolved};
-use crate::scope::{Reference, ReferenceId, ReferenceKind, ScopeTree, Symbol, SymbolId, SymbolKind};
+use crate::scope::{
+    Reference, ReferenceId, ReferenceKind, ScopeTree, Symbol, SymbolId, SymbolKind,
+};
 use crate::sheet::*;
+use crate::text::grouped;
 use crate::token::Span;
 
 /// The sheets of one function body, and what their numbers stand for.
@@ -36,7 +39,7 @@ impl fmt::Display for Limit {
             Self::Uses(count) => (count, "uses of locals that may be at fault", MOST_USES),
             Self::Depth(count) => (count, "blocks in each other", MOST_DEPTH),
         };
-        write!(f, "{count} {what}, and the unit takes {most}")
+        write!(f, "{} {what}, and the unit takes {}", grouped(count), grouped(most))
     }
 }
 
@@ -104,15 +107,17 @@ impl<'tree> Exporter<'tree> {
         let taken = if all.len() <= MOST_USES {
             all
         } else {
-            let tracked = symbols.iter().copied().enumerate().filter(|(local, symbol)| {
-                is_tracked(self.tree.symbol(*symbol), has_value[*local])
-            });
+            let tracked =
+                symbols.iter().copied().enumerate().filter(|(local, symbol)| {
+                    is_tracked(self.tree.symbol(*symbol), has_value[*local])
+                });
             self.references_of(tracked)
         };
         if taken.len() > MOST_USES {
             return Err(Limit::Uses(taken.len()));
         }
-        let uses = taken.iter().map(|(id, local)| self.used(symbols[*local], *local, *id)).collect();
+        let uses =
+            taken.iter().map(|(id, local)| self.used(symbols[*local], *local, *id)).collect();
         Ok((UseSheet { uses }, taken.into_iter().map(|(id, _)| id).collect()))
     }
 

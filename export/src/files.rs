@@ -15,6 +15,25 @@ pub enum Found {
     Unreadable(PathBuf, io::Error),
 }
 
+impl Found {
+    #[must_use]
+    pub fn path(&self) -> &Path {
+        match self {
+            Self::Script(path) | Self::Unreadable(path, _) => path,
+        }
+    }
+
+    /// # Errors
+    ///
+    /// Why it cannot be read, in words.
+    pub fn read(&self) -> Result<Vec<u8>, String> {
+        match self {
+            Self::Script(path) => read(path).map_err(|error| error.to_string()),
+            Self::Unreadable(_, error) => Err(error.to_string()),
+        }
+    }
+}
+
 /// The named files, and every `.lua` and `.luau` below the named folders, in the order of their names.
 #[must_use]
 pub fn scripts(named: &[PathBuf]) -> Vec<Found> {

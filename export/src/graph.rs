@@ -7,6 +7,7 @@ use crate::layout::{Edge, Layout, Size, layout};
 use crate::library::{Graph, Refusal, Unit};
 use crate::lines::Lines;
 use crate::sheet::Kind;
+use crate::text::one_line;
 use crate::token::Span;
 
 const EXITS: [&str; 5] = ["End", "Break", "ReturnValue", "ReturnEmpty", "Error"];
@@ -39,12 +40,19 @@ const NOTES: [&str; 3] = [
 /// # Errors
 ///
 /// The number with which the library refuses the sheet.
-pub fn svg(exported: &Exported, source: &[u8], title: &str, unit: &mut Unit) -> Result<String, Refusal> {
+pub fn svg(
+    exported: &Exported,
+    source: &[u8],
+    title: &str,
+    unit: &mut Unit,
+) -> Result<String, Refusal> {
     let graph = unit.chart(&exported.sheet.words())?;
     let labels = node_labels(&graph, exported, source);
     let sizes: Vec<Size> = labels.iter().map(NodeLabel::size).collect();
     let edges = edges(&graph);
-    let pairs: Vec<(usize, usize)> = edges.iter().map(|(tail, head, _)| (*tail, *head)).collect();
+    let mut pairs: Vec<(usize, usize)> =
+        edges.iter().map(|(tail, head, _)| (*tail, *head)).collect();
+    pairs.extend(below_the_code_before(&graph, &pairs));
     let exits: Vec<usize> = (0..EXITS.len()).collect();
     let layout = layout(&sizes, &pairs, &exits, ENTRY);
     Ok(picture(&layout, &labels, &edges, title))
@@ -97,7 +105,7 @@ fn node_labels(graph: &Graph, exported: &Exported, source: &[u8]) -> Vec<NodeLab
         } else {
             words[*node].push_str(" / ");
         }
-        words[*node].push_str(&cut(span, source));
+        words[*node].push_str(&one_line(span, source, SHOWN));
     }
     let mut labels = Vec::new();
     for (number, (mut words, mut note)) in words.into_iter().zip(notes).enumerate() {
@@ -126,16 +134,6 @@ fn code_spans(exported: &Exported) -> impl Iterator<Item = Span> + '_ {
     exported.sheet.items.iter().filter(move |item| is_code(item.kind)).map(|item| item.span)
 }
 
-fn cut(span: Span, source: &[u8]) -> String {
-    let text = String::from_utf8_lossy(span.text(source));
-    let words = text.split_whitespace().collect::<Vec<_>>().join(" ");
-    if words.chars().count() <= SHOWN {
-        return words;
-    }
-    let start: String = words.chars().take(SHOWN - 3).collect();
-    format!("{} ..", start.trim_end())
-}
-
 /// Each edge with its style: first successors before second ones.
 fn edges(graph: &Graph) -> Vec<(usize, usize, &'static str)> {
     let mut edges = Vec::new();
@@ -148,6 +146,16 @@ fn edges(graph: &Graph) -> Vec<(usize, usize, &'static str)> {
         }
     }
     edges
+}
+
+/// A node that nothing leads to is laid below the code before it. These edges are not drawn.
+fn below_the_code_before(graph: &Graph, pairs: &[(usize, usize)]) -> Vec<(usize, usize)> {
+    let mut is_led_to = vec![false; graph.nodes.len()];
+    for (_, head) in pairs {
+        is_led_to[*head] = true;
+    }
+    let neighbours = graph.code_nodes.windows(2).map(|pair| (pair[0], pair[1]));
+    neighbours.filter(|(_, node)| !is_led_to[*node]).collect()
 }
 
 fn escaped(text: &str) -> String {

@@ -111,7 +111,8 @@ fn rows_from_top(count: usize, down: &[(usize, usize)], last: &[usize]) -> Vec<u
             }
         }
     }
-    let deepest = row.iter().enumerate().filter(|(node, _)| !last.contains(node)).map(|(_, row)| row).max();
+    let deepest =
+        row.iter().enumerate().filter(|(node, _)| !last.contains(node)).map(|(_, row)| row).max();
     let lowest = deepest.map_or(0, |row| row + 1);
     for node in last {
         row[*node] = lowest;
@@ -255,7 +256,8 @@ impl Grid {
     }
 
     fn pull_row(&mut self, row: usize, is_down: bool) {
-        let wanted: Vec<i64> = self.rows[row].iter().map(|cell| self.wanted(*cell, is_down)).collect();
+        let wanted: Vec<i64> =
+            self.rows[row].iter().map(|cell| self.wanted(*cell, is_down)).collect();
         let from_left = self.pushed(row, &wanted, false);
         let from_right = self.pushed(row, &wanted, true);
         for (at, cell) in self.rows[row].iter().enumerate() {

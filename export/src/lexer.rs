@@ -85,7 +85,10 @@ impl Lexer<'_> {
         if self.open_braces.is_empty() {
             return Ok(());
         }
-        self.error(self.at, "expected '}' to close an interpolated value, found the end of the file")
+        self.error(
+            self.at,
+            "expected '}' to close an interpolated value, found the end of the file",
+        )
     }
 
     fn skip_blanks(&mut self) -> Result<(), SyntaxError> {
@@ -129,7 +132,8 @@ impl Lexer<'_> {
                 return self.error(start, format!("expected '{closer}' to close this long {what}"));
             }
             let closes = self.peek(0) == b']'
-                && self.source[self.at + 1..].iter().take_while(|byte| **byte == b'=').count() == level
+                && self.source[self.at + 1..].iter().take_while(|byte| **byte == b'=').count()
+                    == level
                 && self.peek(level + 1) == b']';
             if closes {
                 self.at += level + 2;

@@ -23,4 +23,5 @@ pub mod report;
 pub mod resolver;
 pub mod scope;
 pub mod sheet;
+pub mod text;
 pub mod token;

@@ -290,11 +290,8 @@ struct Counts {
 
 fn counts(result: u64) -> Result<Counts, Refusal> {
     let result = accepted(result)? as usize;
-    let counts = Counts {
-        nodes: result >> 4 & 0xfff,
-        codes: result >> 16 & 0xffff,
-        findings: result >> 48,
-    };
+    let counts =
+        Counts { nodes: result >> 4 & 0xfff, codes: result >> 16 & 0xffff, findings: result >> 48 };
     let fit = counts.nodes <= NODES && counts.codes <= CODES && counts.findings <= FINDINGS;
     assert!(fit, "the library gives counts beyond its columns");
     Ok(counts)

@@ -90,15 +90,34 @@ mod tests {
     #[test]
     fn numerals_of_lua_and_luajit() {
         for good in [
-            "0", "3", "3.", ".5", "3.0", "3.1416", "314.16e-2", "0.31416E1", "34e1", "0xff", "0xBEBADA",
-            "0x0.1E", "0xA23p-4", "0X1.921FB54442D18P+1", "0x.8", "42LL", "42ull", "0x2aULL", "12.5i",
-            "0xffll", "0b101", "0b1LL",
+            "0",
+            "3",
+            "3.",
+            ".5",
+            "3.0",
+            "3.1416",
+            "314.16e-2",
+            "0.31416E1",
+            "34e1",
+            "0xff",
+            "0xBEBADA",
+            "0x0.1E",
+            "0xA23p-4",
+            "0X1.921FB54442D18P+1",
+            "0x.8",
+            "42LL",
+            "42ull",
+            "0x2aULL",
+            "12.5i",
+            "0xffll",
+            "0b101",
+            "0b1LL",
         ] {
             assert_eq!(numeral(good.as_bytes(), Dialect::Lua), Some(TokenKind::Number), "{good}");
         }
         for bad in [
-            "3x", "3..2", "3e", "3e+", "0x", "0xg", "0xp1", ".", "1.5LL", "1e2ull", "1_000", "0b", "0b12",
-            "1L", "1i2", "3.4.5", "0x1p", "LL", "1lll",
+            "3x", "3..2", "3e", "3e+", "0x", "0xg", "0xp1", ".", "1.5LL", "1e2ull", "1_000", "0b",
+            "0b12", "1L", "1i2", "3.4.5", "0x1p", "LL", "1lll",
         ] {
             assert_eq!(numeral(bad.as_bytes(), Dialect::Lua), None, "{bad}");
         }

@@ -3,6 +3,7 @@
 use std::fmt::Write;
 
 use crate::sheet::{Item, Kind, MANY_VALUES, Sheet, Use, UseKind, UseSheet};
+use crate::text::one_line;
 use crate::token::Span;
 
 const CONDITIONS: [&str; 18] = [
@@ -34,14 +35,12 @@ pub fn plain_text(sheet: &Sheet, uses: &UseSheet, source: &[u8]) -> String {
     let mut text = format!("outer {}\n", sheet.outer_end);
     for item in &sheet.items {
         let line = item_line(item);
-        let has_text = !matches!(
-            item.kind,
-            Kind::Do | Kind::Repeat | Kind::Else | Kind::End | Kind::Empty
-        );
-        push_line(&mut text, &line, has_text.then(|| shown(item.span, source)));
+        let has_text =
+            !matches!(item.kind, Kind::Do | Kind::Repeat | Kind::Else | Kind::End | Kind::Empty);
+        push_line(&mut text, &line, has_text.then(|| one_line(item.span, source, SHOWN)));
     }
     for used in &uses.uses {
-        push_line(&mut text, &use_line(used), Some(shown(used.span, source)));
+        push_line(&mut text, &use_line(used), Some(one_line(used.span, source, SHOWN)));
     }
     text
 }
@@ -52,18 +51,6 @@ fn push_line(text: &mut String, line: &str, shown: Option<String>) {
         None => writeln!(text, "{line}"),
     }
     .expect("a string takes all");
-}
-
-/// On one line, cut where it is long.
-fn shown(span: Span, source: &[u8]) -> String {
-    let text = String::from_utf8_lossy(span.text(source));
-    let words: Vec<&str> = text.split_whitespace().collect();
-    let words = words.join(" ");
-    if words.chars().count() <= SHOWN {
-        return words;
-    }
-    let cut: String = words.chars().take(SHOWN - 3).collect();
-    format!("{} ..", cut.trim_end())
 }
 
 fn span_text(span: Span) -> String {
@@ -100,7 +87,12 @@ fn item_line(item: &Item) -> String {
 }
 
 fn flags(argument: u64) -> String {
-    let letters: String = "umc".chars().enumerate().filter(|(bit, _)| argument >> bit & 1 == 1).map(|(_, letter)| letter).collect();
+    let letters: String = "umc"
+        .chars()
+        .enumerate()
+        .filter(|(bit, _)| argument >> bit & 1 == 1)
+        .map(|(_, letter)| letter)
+        .collect();
     if letters.is_empty() { "-".to_owned() } else { letters }
 }
 

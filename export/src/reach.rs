@@ -43,7 +43,9 @@ pub fn can_run(source: &[u8], dialect: Dialect, offset: u32) -> Result<Answer, S
             Err(reason) => return Ok(Answer::Unknown(function.span, reason)),
             Ok(place) if !place.can_run && number == innermost => return Ok(Answer::CannotRun),
             Ok(place) if !place.can_run => return Ok(Answer::NeverDefined(Span::new(at, at))),
-            Ok(place) if place.node.is_none() && number == innermost => answer = Answer::PastAllCode,
+            Ok(place) if place.node.is_none() && number == innermost => {
+                answer = Answer::PastAllCode
+            }
             Ok(_) => {}
         }
         if number == 0 {

@@ -52,7 +52,9 @@ pub fn finding(found: &Finding, source: &[u8], lines: &Lines<'_>) -> Message {
     let (kind, text) = match found.kind {
         FindingKind::Unassigned => (
             "unassigned",
-            format!("local '{name}' is read while it has no value; declared without one at {declared}"),
+            format!(
+                "local '{name}' is read while it has no value; declared without one at {declared}"
+            ),
         ),
         FindingKind::Overwritten => (
             "overwritten",
@@ -62,7 +64,9 @@ pub fn finding(found: &Finding, source: &[u8], lines: &Lines<'_>) -> Message {
         ),
         FindingKind::OverwrittenInitial => (
             "overwritten",
-            format!("the first value of local '{name}' is overwritten and never read; declared here"),
+            format!(
+                "the first value of local '{name}' is overwritten and never read; declared here"
+            ),
         ),
     };
     let is_initial = found.kind == FindingKind::OverwrittenInitial;
@@ -160,20 +164,6 @@ pub fn quoted(text: &str) -> String {
     out
 }
 
-/// `1 script`, `1,024 scripts`
-#[must_use]
-pub fn count(number: usize, what: &str) -> String {
-    let digits = number.to_string();
-    let mut grouped = String::new();
-    for (place, digit) in digits.chars().enumerate() {
-        if place > 0 && (digits.len() - place) % 3 == 0 {
-            grouped.push(',');
-        }
-        grouped.push(digit);
-    }
-    format!("{grouped} {what}{}", if number == 1 { "" } else { "s" })
-}
-
 #[cfg(test)]
 mod tests {
     use super::*;
@@ -181,12 +171,5 @@ mod tests {
     #[test]
     fn strings_of_json() {
         assert_eq!(quoted("a\"b\\c\n\u{1}é"), "\"a\\\"b\\\\c\\n\\u0001é\"");
-    }
-
-    #[test]
-    fn counts_in_words() {
-        assert_eq!(count(1, "script"), "1 script");
-        assert_eq!(count(0, "script"), "0 scripts");
-        assert_eq!(count(1_234_567, "block"), "1,234,567 blocks");
     }
 }

@@ -106,8 +106,7 @@ impl<'ast, 'source> Resolver<'ast, 'source> {
 
     fn open(&mut self, kind: ScopeKind) -> Outer {
         let parent = (!self.tree.scopes.is_empty()).then_some(self.scope);
-        let outer =
-            Outer { scope: self.scope, shadowed_count: self.shadowed.len(), env: self.env };
+        let outer = Outer { scope: self.scope, shadowed_count: self.shadowed.len(), env: self.env };
         self.scope = ScopeId::from_index(self.tree.scopes.len());
         self.tree.scopes.push(Scope { parent, kind });
         outer

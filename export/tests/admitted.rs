@@ -25,7 +25,9 @@ fn all_calls(source: &[u8], dialect: Dialect, unit: &mut Unit) -> Option<usize> 
         Err(error) => {
             assert!(error.span.start <= error.span.end && error.span.end as usize <= source.len());
             assert!(error.message.starts_with("expected "), "{}", error.message);
-            assert!(syntax_error(&error, &lines).text.contains(", found ") || error.opened.is_none());
+            assert!(
+                syntax_error(&error, &lines).text.contains(", found ") || error.opened.is_none()
+            );
             return None;
         }
     };
@@ -70,7 +72,8 @@ fn generated_scripts_are_admitted() {
             let size = 10 + random.below(60);
             let source = text(&script(&mut random, version, size));
             let made = all_calls(source.as_bytes(), dialect, &mut unit);
-            blocks += made.unwrap_or_else(|| panic!("{:?}\n{source}", parse(source.as_bytes(), dialect)));
+            blocks +=
+                made.unwrap_or_else(|| panic!("{:?}\n{source}", parse(source.as_bytes(), dialect)));
         }
     }
     assert!(blocks > 4_000, "{blocks}");
@@ -104,8 +107,8 @@ fn damage(source: &mut Vec<u8>, random: &mut Random) {
             let to = random.below(source.len());
             source.splice(to..to, taken);
         }
-        2 => source.insert(at, *random.pick(BYTES)),
-        3 if at < source.len() => source[at] = *random.pick(BYTES),
+        2 => source.insert(at, random.pick(BYTES)),
+        3 if at < source.len() => source[at] = random.pick(BYTES),
         4 if at < source.len() => source[at] ^= 1 << random.below(8),
         _ if random.chance(10) => source.truncate(at),
         _ => {}
@@ -121,9 +124,10 @@ fn damaged_scripts_never_panic() {
     let count = 6_000;
     for number in 0..count {
         let mut source = if number % 2 == 0 {
-            random.pick(&kept).1.clone().into_bytes()
+            kept[random.below(kept.len())].1.clone().into_bytes()
         } else {
-            let version = *random.pick(&[Version::Lua51, Version::Lua54, Version::Lua55, Version::Luau]);
+            let version =
+                random.pick(&[Version::Lua51, Version::Lua54, Version::Lua55, Version::Luau]);
             text(&script(&mut random, version, 20)).into_bytes()
         };
         for _ in 0..=random.below(4) {
@@ -141,14 +145,15 @@ fn nonsense_never_panics() {
     let mut unit = Unit::default();
     let mut random = Random::new(8);
     const WORDS: &[&str] = &[
-        "local", "x", "=", "function", "(", ")", "end", "if", "then", "else", "elseif", "while", "do",
-        "for", "in", ",", "repeat", "until", "return", "break", "goto", "::", "{", "}", "[", "]", "...",
-        "'s'", "1", "+", "-", "not", ".", ":", ";", "global", "*", "<", ">", "const", "type", "continue",
-        "`a{", "}b`", "+=", "?", "->", "|", "&", "@", "<<", ">>", "[[", "]]", "--", "--[[", "\n", "error",
+        "local", "x", "=", "function", "(", ")", "end", "if", "then", "else", "elseif", "while",
+        "do", "for", "in", ",", "repeat", "until", "return", "break", "goto", "::", "{", "}", "[",
+        "]", "...", "'s'", "1", "+", "-", "not", ".", ":", ";", "global", "*", "<", ">", "const",
+        "type", "continue", "`a{", "}b`", "+=", "?", "->", "|", "&", "@", "<<", ">>", "[[", "]]",
+        "--", "--[[", "\n", "error",
     ];
     for _ in 0..3_000 {
         let bytes: Vec<u8> = (0..random.below(40)).map(|_| random.next() as u8).collect();
-        let words: Vec<&str> = (0..random.below(30)).map(|_| *random.pick(WORDS)).collect();
+        let words: Vec<&str> = (0..random.below(30)).map(|_| random.pick(WORDS)).collect();
         for dialect in [Dialect::Lua, Dialect::Luau] {
             all_calls(&bytes, dialect, &mut unit);
             all_calls(words.join(" ").as_bytes(), dialect, &mut unit);
@@ -174,13 +179,17 @@ fn deep_and_long_scripts() {
         assert!(all_calls(nested(190).as_bytes(), Dialect::Lua, &mut unit).is_some(), "{open}");
         assert!(all_calls(nested(100_000).as_bytes(), Dialect::Lua, &mut unit).is_none(), "{open}");
     }
-    for open in ["do ", "while x do ", "repeat ", "if x then ", "function f() ", "for i = 1, 2 do "] {
+    for open in ["do ", "while x do ", "repeat ", "if x then ", "function f() ", "for i = 1, 2 do "]
+    {
         assert!(all_calls(open.repeat(100_000).as_bytes(), Dialect::Lua, &mut unit).is_none());
     }
     for (open, close) in [("{", "}"), ("(", ") -> ()"), ("t<", ">")] {
         let nested = |depth| format!("type x = {}t{}", open.repeat(depth), close.repeat(depth));
         assert!(all_calls(nested(190).as_bytes(), Dialect::Luau, &mut unit).is_some(), "{open}");
-        assert!(all_calls(nested(100_000).as_bytes(), Dialect::Luau, &mut unit).is_none(), "{open}");
+        assert!(
+            all_calls(nested(100_000).as_bytes(), Dialect::Luau, &mut unit).is_none(),
+            "{open}"
+        );
     }
     for link in [".x", "()", "[1]", ":m()", "'s'"] {
         let source = format!("local x = y{}", link.repeat(100_000));

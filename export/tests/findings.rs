@@ -50,9 +50,8 @@ fn findings_are_the_marked_ones() {
             let place = lines.position(finding.span.start);
             let text = std::str::from_utf8(finding.span.text(source.as_bytes())).expect("a name");
             let kind = kind_word(finding);
-            let marked = marks
-                .iter()
-                .find(|mark| mark.0 == place.line && mark.1 == kind && mark.2 == text);
+            let marked =
+                marks.iter().find(|mark| mark.0 == place.line && mark.1 == kind && mark.2 == text);
             let column = marked.and_then(|mark| mark.3).map(|_| place.column);
             found.push((place.line, kind.to_owned(), text.to_owned(), column));
         }
@@ -62,8 +61,10 @@ fn findings_are_the_marked_ones() {
     assert!(total > 30, "the kept scripts have findings");
 }
 
-/// Line and column of each finding, and of its declaration.
-fn places(source: &str, dialect: Dialect) -> Vec<(FindingKind, (u32, u32), (u32, u32))> {
+/// Line and column of a finding, and of its declaration.
+type Place = (FindingKind, (u32, u32), (u32, u32));
+
+fn places(source: &str, dialect: Dialect) -> Vec<Place> {
     let report = check(source.as_bytes(), dialect, &mut Unit::default()).expect("a script");
     let lines = Lines::new(source.as_bytes());
     let place = |offset| {
@@ -114,7 +115,7 @@ fn a_block_beyond_the_limits_is_named() {
     assert_eq!(report.unchecked.len(), 1);
     let named = &report.unchecked[0];
     assert_eq!(named.name.expect("a name").text(source.as_bytes()), b"big");
-    assert_eq!(named.reason.to_string(), "1025 items, and the unit takes 1024");
+    assert_eq!(named.reason.to_string(), "1,025 items, and the unit takes 1,024");
 }
 
 #[test]

@@ -83,8 +83,12 @@ fn functions_of_tree(source: &str, version: Version) -> Vec<Function> {
     let block = parse(source.as_bytes(), Dialect::Lua).expect("luac takes it");
     let resolved = resolve(source.as_bytes(), Dialect::Lua, &block);
     let tree = &resolved.tree;
-    let number_of: BTreeMap<ScopeId, usize> =
-        resolved.function_blocks.iter().enumerate().map(|(number, one)| (one.scope, number)).collect();
+    let number_of: BTreeMap<ScopeId, usize> = resolved
+        .function_blocks
+        .iter()
+        .enumerate()
+        .map(|(number, one)| (one.scope, number))
+        .collect();
     let function_of = |scope: ScopeId| number_of[&function_scope(tree, scope)];
     let mut locals = vec![Vec::new(); number_of.len()];
     for symbol in &tree.symbols {
@@ -219,7 +223,8 @@ fn class(message: &str) -> Option<&'static str> {
 
 /// Lua 5.5 has `( ... name )`, and there is no compiler of it here.
 fn names_its_varargs(source: &str) -> bool {
-    let is_name = |token: &str| token.bytes().all(|byte| byte.is_ascii_alphabetic() || byte == b'_');
+    let is_name =
+        |token: &str| token.bytes().all(|byte| byte.is_ascii_alphabetic() || byte == b'_');
     let tokens: Vec<&str> = source.split_whitespace().collect();
     tokens.windows(3).any(|three| three[0] == "..." && is_name(three[1]) && three[2] == ")")
 }
@@ -253,7 +258,8 @@ fn damaged_bytes_parse_where_some_compiler_takes_them() {
     let mut random = Random::new(40);
     let mut counts: BTreeMap<&str, usize> = BTreeMap::new();
     let kept = kept_scripts();
-    let of_compilers = kept.iter().filter(|(name, _)| matches!(&**name, "syntax51.lua" | "syntax54.lua"));
+    let of_compilers =
+        kept.iter().filter(|(name, _)| matches!(&**name, "syntax51.lua" | "syntax54.lua"));
     for (_, source) in of_compilers {
         for _ in 0..if here.is_empty() { 0 } else { 150 } {
             let mut source = source.clone().into_bytes();
@@ -262,8 +268,8 @@ fn damaged_bytes_parse_where_some_compiler_takes_them() {
                 0 => {
                     source.remove(at);
                 }
-                1 => source.insert(at, *random.pick(BYTES)),
-                _ => source[at] = *random.pick(BYTES),
+                1 => source.insert(at, random.pick(BYTES)),
+                _ => source[at] = random.pick(BYTES),
             }
             let source = String::from_utf8(source).expect("bytes of ASCII");
             *counts.entry(agreement(&here, &source)).or_default() += 1;
@@ -271,7 +277,10 @@ fn damaged_bytes_parse_where_some_compiler_takes_them() {
     }
     println!("scripts with damaged bytes: {counts:?}");
     let count = |what| counts.get(what).copied().unwrap_or(0);
-    assert!(here.is_empty() || count("taken by both") > 50 && count("refused by both") > 50, "{counts:?}");
+    assert!(
+        here.is_empty() || count("taken by both") > 50 && count("refused by both") > 50,
+        "{counts:?}"
+    );
 }
 
 /// In which way parser and compilers agree on a script. Panics where they do not.

@@ -34,7 +34,18 @@ struct Warning {
 
 fn warnings(folder: &Path) -> Option<BTreeMap<String, Vec<Warning>>> {
     let output = Command::new("luacheck")
-        .args(["--formatter", "plain", "--codes", "--no-config", "--std", "max", "--only", "2", "3", "--"])
+        .args([
+            "--formatter",
+            "plain",
+            "--codes",
+            "--no-config",
+            "--std",
+            "max",
+            "--only",
+            "2",
+            "3",
+            "--",
+        ])
         .arg(folder)
         .output()
         .ok()?;
@@ -124,7 +135,8 @@ fn look(source: &str) -> Script {
 fn has_literal_if(source: &str) -> bool {
     let words: Vec<&str> = source.split_whitespace().collect();
     words.windows(3).any(|three| {
-        let is_literal = three[1].starts_with(|first: char| first.is_ascii_digit() || "'[".contains(first));
+        let is_literal =
+            three[1].starts_with(|first: char| first.is_ascii_digit() || "'[".contains(first));
         let is_word = matches!(three[1], "nil" | "true" | "false");
         matches!(three[0], "if" | "elseif") && (is_literal || is_word) && three[2] == "then"
     })
@@ -177,15 +189,16 @@ fn class_of_theirs(said: &Warning, script: &Script) -> Option<&'static str> {
         return Some("theirs alone: a value that nobody overwrites, or a local never read");
     }
     let local = script.locals.get(&said.place)?;
-    let same = |ours: &&Ours| {
-        ours.declared == local.declared && ours.is_unassigned == is_unassigned
-    };
+    let same =
+        |ours: &&Ours| ours.declared == local.declared && ours.is_unassigned == is_unassigned;
     let mut own = script.findings.iter().filter(same);
     if own.clone().any(|ours| ours.place == said.place || ours.declared == said.place) {
         return Some("agreed");
     }
     match local.kind {
-        SymbolKind::Local if said.name.starts_with('_') => Some("theirs alone: a name with underscore"),
+        SymbolKind::Local if said.name.starts_with('_') => {
+            Some("theirs alone: a name with underscore")
+        }
         SymbolKind::Local if is_unassigned && own.next().is_some() => {
             Some("theirs alone: not the first empty read")
         }
@@ -200,7 +213,8 @@ fn compare(source: &str, theirs: &[Warning], counts: &mut Counts) {
     let script = look(source);
     for ours in &script.findings {
         let class = class_of_ours(ours, &script, theirs);
-        let what = || format!("{} at {:?}, unassigned: {}", ours.name, ours.place, ours.is_unassigned);
+        let what =
+            || format!("{} at {:?}, unassigned: {}", ours.name, ours.place, ours.is_unassigned);
         count(counts, class.unwrap_or_else(|| panic!("luacheck has no {}\n{source}", what())));
     }
     for said in theirs {

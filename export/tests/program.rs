@@ -113,7 +113,11 @@ fn a_broken_script_does_not_stop_the_others() {
     let lines: Vec<&str> = ended.out.lines().collect();
     assert_eq!(lines.len(), starts.len(), "{}", ended.out);
     for start in &starts {
-        assert!(lines.iter().any(|line| line.starts_with(start.as_str())), "{start}\n{}", ended.out);
+        assert!(
+            lines.iter().any(|line| line.starts_with(start.as_str())),
+            "{start}\n{}",
+            ended.out
+        );
     }
     assert!(lines[3].starts_with("4 scripts"));
 }
@@ -194,12 +198,16 @@ fn whether_a_place_can_run() {
     assert_eq!(answer("16"), (1, ":16:5: cannot run: no path leads here".to_owned()));
     assert_eq!(answer("18:5"), (0, ":18:5: can run".to_owned()));
     assert_eq!(answer("21:15"), (0, ":21:15: can run: no code follows in this block".to_owned()));
-    let source = "do return end\nlocal function f()\n  g()\nend\nfunction h()\n  error()\n  g()\nend";
+    let source =
+        "do return end\nlocal function f()\n  g()\nend\nfunction h()\n  error()\n  g()\nend";
     let run = |place: &str| {
         let ended = with_input(&["run", "-", place], source);
         (ended.status, ended.out)
     };
-    assert_eq!(run("3"), (1, "-:3:3: cannot run: no path leads to its function on line 2\n".to_owned()));
+    assert_eq!(
+        run("3"),
+        (1, "-:3:3: cannot run: no path leads to its function on line 2\n".to_owned())
+    );
     assert_eq!(run("7"), (1, "-:7:3: cannot run: no path leads here\n".to_owned()));
     assert_eq!(run("1").0, 0);
 }

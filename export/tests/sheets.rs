@@ -140,7 +140,10 @@ fn labels_and_jumps() {
         "::a:: goto b ::b:: goto a",
         "outer 25 | label 1 0-5 | goto 2 6-12 | label 2 13-18 | goto 1 19-25",
     );
-    is("while x do break f() end", "outer 24 | while var 21 0-11 | break 11-16 | call 0 17-20 | end");
+    is(
+        "while x do break f() end",
+        "outer 24 | while var 21 0-11 | break 11-16 | call 0 17-20 | end",
+    );
     is("while x do break; end", "outer 21 | while var 18 0-11 | break 11-16 | empty | end");
     luau("while x do continue end", "outer 23 | while var 20 0-11 | continue 11-19 | end");
     luau("while x do continue; end", "outer 24 | while var 21 0-11 | continue 11-20 | end");
@@ -150,7 +153,10 @@ fn labels_and_jumps() {
 #[test]
 fn words_that_are_names_elsewhere() {
     is("goto = 1 goto() goto.x = goto", "outer 29 | plain 0-8 | call 0 9-15 | plain 16-29");
-    is("local goto = 1 f(goto)", "outer 22 | local 1 0-14 | name - 6-10 | call 0 15-22 | use read 0 17-21");
+    is(
+        "local goto = 1 f(goto)",
+        "outer 22 | local 1 0-14 | name - 6-10 | call 0 15-22 | use read 0 17-21",
+    );
     is("global = 1 global()", "outer 19 | plain 0-10 | call 0 11-19");
     is("continue = type", "outer 15 | plain 0-15");
     luau(
@@ -178,7 +184,12 @@ fn declarations_of_5_5() {
         "local x = 1 global * x = 2",
         "outer 26 | local 1 0-11 | name m 6-7 | plain 12-20 | plain 21-26 | use write 0 21-22",
     );
-    of_function(Dialect::Lua, "function f(a, ...t) local x = t end", 1, "outer 32 | local 1 20-31 | name - 26-27");
+    of_function(
+        Dialect::Lua,
+        "function f(a, ...t) local x = t end",
+        1,
+        "outer 32 | local 1 20-31 | name - 26-27",
+    );
 }
 
 // ---- Locals ----
@@ -218,10 +229,7 @@ fn flags_of_a_name() {
         "local f function f() end",
         "outer 24 | local 0 0-7 | name m 6-7 | plain 8-24 | use write 0 17-18",
     );
-    luau(
-        "local x x+=1",
-        "outer 12 | local 0 0-7 | name m 6-7 | plain 8-12 | use readwrite 0 8-9",
-    );
+    luau("local x x+=1", "outer 12 | local 0 0-7 | name m 6-7 | plain 8-12 | use readwrite 0 8-9");
 }
 
 /// Only names of a `local` statement are on a sheet: no parameter, loop variable or local function.
@@ -415,7 +423,9 @@ fn bits_of_a_call() {
         assert_eq!(last(source), bits, "{source}");
     }
     // Luau has no _ENV.
-    assert!(sheet_lines("_ENV = {} error()", Dialect::Luau, 0).contains(&"call 6 10-17".to_owned()));
+    assert!(
+        sheet_lines("_ENV = {} error()", Dialect::Luau, 0).contains(&"call 6 10-17".to_owned())
+    );
 }
 
 // ---- Limits ----
@@ -456,7 +466,8 @@ fn what_is_left_out_beyond_the_limits() {
 /// Other blocks go on.
 #[test]
 fn a_large_block_stops_no_other() {
-    let source = format!("function f() {} end function g() local x return x end", "g() ".repeat(1_025));
+    let source =
+        format!("function f() {} end function g() local x return x end", "g() ".repeat(1_025));
     assert_eq!(limit(&source, 0), None);
     assert_eq!(limit(&source, 1), Some(Limit::Items(1_025)));
     assert_eq!(limit(&source, 2), None);

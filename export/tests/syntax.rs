@@ -56,20 +56,38 @@ fn what_is_expected() {
 
 #[test]
 fn what_should_have_been_closed() {
-    lua("if x then\n  f()\n", "3:1: expected 'end' to close 'if' at line 1, column 1, found the end of the file");
-    lua("while x do\nrepeat\nend", "3:1: expected 'until' to close 'repeat' at line 2, column 1, found 'end'");
-    lua("f(function()\n", "2:1: expected 'end' to close 'function' at line 1, column 3, found the end of the file");
+    lua(
+        "if x then\n  f()\n",
+        "3:1: expected 'end' to close 'if' at line 1, column 1, found the end of the file",
+    );
+    lua(
+        "while x do\nrepeat\nend",
+        "3:1: expected 'until' to close 'repeat' at line 2, column 1, found 'end'",
+    );
+    lua(
+        "f(function()\n",
+        "2:1: expected 'end' to close 'function' at line 1, column 3, found the end of the file",
+    );
     lua("do", "1:3: expected 'end' to close 'do' at line 1, column 1, found the end of the file");
-    lua("for i = 1, 2 do", "1:16: expected 'end' to close 'for' at line 1, column 1, found the end of the file");
+    lua(
+        "for i = 1, 2 do",
+        "1:16: expected 'end' to close 'for' at line 1, column 1, found the end of the file",
+    );
 }
 
 #[test]
 fn where_a_word_may_not_stand() {
     lua("break", "1:1: expected a loop around 'break'");
     lua("while x do f(function() break end) end", "1:25: expected a loop around 'break'");
-    lua("function f() return ... end", "1:21: expected '...' only in a function that has '...' as parameter");
+    lua(
+        "function f() return ... end",
+        "1:21: expected '...' only in a function that has '...' as parameter",
+    );
     luau("continue", "1:1: expected a loop around 'continue'");
-    luau("while x do continue f() end", "1:21: expected the end of the block after 'continue', found 'f'");
+    luau(
+        "while x do continue f() end",
+        "1:21: expected the end of the block after 'continue', found 'f'",
+    );
 }
 
 #[test]
@@ -85,7 +103,10 @@ fn what_is_no_token() {
     lua("x = \u{e9}", "1:5: expected a token, found the byte 195");
     lua("x = `s`", "1:5: expected a token, found '`'");
     lua("x += 1", "1:3: expected '=' or the arguments of a call, found '+'");
-    luau("x = `a {b", "1:10: expected '}' to close an interpolated value, found the end of the file");
+    luau(
+        "x = `a {b",
+        "1:10: expected '}' to close an interpolated value, found the end of the file",
+    );
     luau("x = `a", "1:5: expected ` to close this string, found the end of the file");
     luau("x = `{a b}`", "1:9: expected '}' to close an interpolated value, found 'b'");
     luau("goto a", "1:6: expected '=' or the arguments of a call, found 'a'");
@@ -102,5 +123,8 @@ fn the_first_error_is_the_one_that_is_said() {
 #[test]
 fn nesting_has_a_limit() {
     let source = format!("x = {}1{}", "(".repeat(300), ")".repeat(300));
-    assert!(said(&source, Dialect::Lua).ends_with("expected at most 200 levels of blocks and expressions"));
+    assert!(
+        said(&source, Dialect::Lua)
+            .ends_with("expected at most 200 levels of blocks and expressions")
+    );
 }

@@ -24,7 +24,9 @@ const fn precedence(kind: TokenKind) -> Option<(u8, u8)> {
         TokenKind::ShiftLeft | TokenKind::ShiftRight => (7, 7),
         TokenKind::DoubleDot => (9, 8),
         TokenKind::Plus | TokenKind::Minus => (10, 10),
-        TokenKind::Star | TokenKind::Slash | TokenKind::DoubleSlash | TokenKind::Percent => (11, 11),
+        TokenKind::Star | TokenKind::Slash | TokenKind::DoubleSlash | TokenKind::Percent => {
+            (11, 11)
+        }
         TokenKind::Caret => (14, 13),
         _ => return None,
     })
@@ -110,7 +112,8 @@ impl Parser<'_> {
             TokenKind::String => Expression::StringLiteral(span),
             TokenKind::TripleDot if self.function().is_vararg => Expression::VarArg(span),
             TokenKind::TripleDot => {
-                return self.error(span, "expected '...' only in a function that has '...' as parameter");
+                return self
+                    .error(span, "expected '...' only in a function that has '...' as parameter");
             }
             TokenKind::InterpolatedWhole | TokenKind::InterpolatedStart => {
                 return self.interpolated_string();

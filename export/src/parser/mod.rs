@@ -101,7 +101,12 @@ impl<'source> Parser<'source> {
     }
 
     /// As `expect`, for what closes something: the error says where that begins.
-    fn expect_closing(&mut self, kind: TokenKind, what: &'static str, opener: Token) -> Parsed<Token> {
+    fn expect_closing(
+        &mut self,
+        kind: TokenKind,
+        what: &'static str,
+        opener: Token,
+    ) -> Parsed<Token> {
         self.expect(kind).map_err(|mut error| {
             if self.kind() != TokenKind::Invalid {
                 error.opened = Some((what, opener.span));

@@ -32,9 +32,10 @@ impl Parser<'_> {
                 let name = self.take();
                 Ok(Statement::Goto(NamedJump { name, span: self.span_from(start) }))
             }
-            (b"global", TokenKind::Name | TokenKind::Star | TokenKind::Less | TokenKind::Function) => {
-                self.global_stmt()
-            }
+            (
+                b"global",
+                TokenKind::Name | TokenKind::Star | TokenKind::Less | TokenKind::Function,
+            ) => self.global_stmt(),
             _ => self.expr_stmt(),
         }
     }
@@ -89,7 +90,13 @@ impl Parser<'_> {
         };
         self.expect_closing(TokenKind::End, "'if'", opener)?;
         let span = self.span_from(opener.span.start);
-        Ok(Statement::IfStatement(IfStatement { condition, block, elseif_clauses, else_clause, span }))
+        Ok(Statement::IfStatement(IfStatement {
+            condition,
+            block,
+            elseif_clauses,
+            else_clause,
+            span,
+        }))
     }
 
     fn while_loop(&mut self) -> Parsed<Statement> {
@@ -301,7 +308,7 @@ impl Parser<'_> {
             }
         }
         self.expect(TokenKind::CloseParen)?;
-        self.return_annotation()?;
+        self.pack_annotation()?;
         self.functions.push(Function { is_vararg, open_loops: 0 });
         let block = self.block();
         self.functions.pop();
@@ -314,7 +321,7 @@ impl Parser<'_> {
     /// Lua 5.5 may name the table of the values behind `...`, Luau their type.
     fn vararg_name(&mut self) -> Parsed<Option<Token>> {
         if self.is_luau() {
-            self.type_annotation()?;
+            self.pack_annotation()?;
             return Ok(None);
         }
         Ok(self.take_if(TokenKind::Name))

@@ -12,8 +12,8 @@ impl Parser<'_> {
         Ok(())
     }
 
-    /// `: type` or `: (type, type)` behind the parameters of a function.
-    pub(super) fn return_annotation(&mut self) -> Parsed<()> {
+    /// `: type`, `: (type, type)` or `: T...` behind the parameters of a function, or behind `...`.
+    pub(super) fn pack_annotation(&mut self) -> Parsed<()> {
         if self.is_luau() && self.take_if(TokenKind::Colon).is_some() {
             self.type_or_pack()?;
         }

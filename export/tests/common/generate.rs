@@ -55,14 +55,14 @@ impl Generator<'_> {
     }
 
     fn name(&mut self) -> &'static str {
-        *self.random.pick(&NAMES)
+        self.random.pick(&NAMES)
     }
 
     fn any_name(&mut self) -> &'static str {
         match self.random.below(10) {
             0..=6 => self.name(),
-            7 | 8 => *self.random.pick(&GLOBALS),
-            _ => *self.random.pick(&CONSTANTS),
+            7 | 8 => self.random.pick(&GLOBALS),
+            _ => self.random.pick(&CONSTANTS),
         }
     }
 
@@ -193,7 +193,7 @@ impl Generator<'_> {
 
     fn local(&mut self) {
         if self.version == Version::Lua54 && self.random.chance(15) {
-            let name = *self.random.pick(&CONSTANTS);
+            let name = self.random.pick(&CONSTANTS);
             self.put(&format!("local {name} <const> = g ( )"));
             return;
         }
@@ -240,7 +240,7 @@ impl Generator<'_> {
                 self.put("]");
             }
             2 => {
-                let name = *self.random.pick(&GLOBALS);
+                let name = self.random.pick(&GLOBALS);
                 self.put(name);
             }
             _ => {
@@ -349,7 +349,7 @@ impl Generator<'_> {
             Version::Lua55 => self.global_statement(),
             Version::Luau => {
                 let name = self.name();
-                let operator = *self.random.pick(&["+=", "..=", "//=", "^="]);
+                let operator = self.random.pick(&["+=", "..=", "//=", "^="]);
                 self.put(&format!("{name} {operator}"));
                 self.expression(1);
             }
@@ -388,7 +388,8 @@ impl Generator<'_> {
                 self.put(name);
             }
             4 => {
-                let literal = *self.random.pick(&["nil", "true", "false", "1", "0x1F", "'s'", "[[s]]"]);
+                let literal =
+                    self.random.pick(&["nil", "true", "false", "1", "0x1F", "'s'", "[[s]]"]);
                 self.put(literal);
             }
             5 if self.is_vararg.last() == Some(&true) => self.put("..."),
@@ -435,14 +436,13 @@ impl Generator<'_> {
     }
 
     fn operator(&mut self) -> &'static str {
-        const OLD: [&str; 12] =
-            ["+", "-", "*", "/", "%", "^", "..", "==", "~=", "<", "and", "or"];
+        const OLD: [&str; 12] = ["+", "-", "*", "/", "%", "^", "..", "==", "~=", "<", "and", "or"];
         const NEW: [&str; 5] = ["//", "&", "|", "<<", ">>"];
         let has_new = !matches!(self.version, Version::Lua51 | Version::Luau);
         if has_new && self.random.chance(20) {
-            *self.random.pick(&NEW)
+            self.random.pick(&NEW)
         } else {
-            *self.random.pick(&OLD)
+            self.random.pick(&OLD)
         }
     }
 }
