@@ -2,6 +2,7 @@
 //! and the others go on.
 
 use std::io::{self, IsTerminal, Write};
+use std::ops::Range;
 use std::path::Path;
 
 use waldimu::check::{self, Reason, Unchecked};
@@ -183,18 +184,12 @@ fn read_one(options: &Options) -> Option<(&Path, Vec<u8>, Dialect)> {
     }
 }
 
-fn say(path: &Path, source: &[u8], message: &Message) {
-    eprint!("{}", report::line(&path.to_string_lossy(), message, &Lines::new(source)));
+fn say(path: &Path, message: &Message, lines: &Lines<'_>) {
+    eprint!("{}", report::line(&path.to_string_lossy(), message, lines));
 }
 
-fn say_syntax_error(path: &Path, source: &[u8], error: &SyntaxError) -> Status {
-    let message = report::syntax_error(error, &Lines::new(source));
-    say(path, source, &message);
-    Status::Unchecked
-}
-
-/// What is written of one function: its number, itself, its sheets, and the script.
-type WriteFunction<'write> = dyn FnMut(usize, &FunctionBlock<'_>, &Exported, &[u8]) -> io::Result<Result<(), Reason>>
+/// What is written of one function: its number, itself, its sheets, and the script's lines.
+type WriteFunction<'write> = dyn FnMut(usize, &FunctionBlock<'_>, &Exported, &Lines<'_>) -> io::Result<Result<(), Reason>>
     + 'write;
 
 /// Calls `write` for each function that was asked for, and names those that cannot be exported.
@@ -202,43 +197,52 @@ fn each_function(options: &Options, write: &mut WriteFunction<'_>) -> io::Result
     let Some((path, source, dialect)) = read_one(options) else {
         return Ok(Status::Unchecked);
     };
+    let lines = Lines::new(&source);
     let block = match parse(&source, dialect) {
         Ok(block) => block,
-        Err(error) => return Ok(say_syntax_error(path, &source, &error)),
+        Err(error) => {
+            say(path, &report::syntax_error(&error, &lines), &lines);
+            return Ok(Status::Unchecked);
+        }
     };
     let resolved = resolve(&source, dialect, &block);
     let exporter = Exporter::new(&source, &resolved);
     let functions = &resolved.function_blocks;
-    let asked = match options.function {
-        None => 0..functions.len(),
-        Some(number) if number < functions.len() => number..number + 1,
-        Some(number) => {
-            let last = functions.len() - 1;
-            eprintln!("{}: there is no function {number}, the last is {last}", path.display());
-            return Ok(Status::Unchecked);
-        }
+    let Some(asked) = asked(options, functions.len()) else {
+        let last = functions.len() - 1;
+        eprintln!("{}: the last function is number {last}", path.display());
+        return Ok(Status::Unchecked);
     };
     let mut status = Status::Clean;
     for number in asked {
         let function = &functions[number];
         let written = match exporter.export(function) {
-            Ok(exported) => write(number, function, &exported, &source)?,
+            Ok(exported) => write(number, function, &exported, &lines)?,
             Err(limit) => Err(Reason::Limit(limit)),
         };
         if let Err(reason) = written {
             let unchecked = Unchecked::new(number, function, reason);
-            say(path, &source, &report::unchecked(&unchecked, &source));
+            say(path, &report::unchecked(&unchecked, &source), &lines);
             status = Status::Unchecked;
         }
     }
     Ok(status)
 }
 
+/// The numbers of the functions that were asked for: all, or the one that is named.
+fn asked(options: &Options, count: usize) -> Option<Range<usize>> {
+    match options.function {
+        None => Some(0..count),
+        Some(number) => (number < count).then(|| number..number + 1),
+    }
+}
+
 pub fn sheet(options: &Options, out: &mut impl Write) -> io::Result<Status> {
-    each_function(options, &mut |number, function, exported, source| {
+    each_function(options, &mut |number, function, exported, lines| {
         if options.is_text {
-            writeln!(out, "# {}", function_title(number, function, source))?;
-            out.write_all(plain_text(&exported.sheet, &exported.uses, source).as_bytes())?;
+            writeln!(out, "# {}", function_title(number, function, lines))?;
+            let text = plain_text(&exported.sheet, &exported.uses, lines.source());
+            out.write_all(text.as_bytes())?;
         } else {
             for word in exported.sheet.words().iter().chain(&exported.uses.words()) {
                 out.write_all(&word.to_le_bytes())?;
@@ -248,24 +252,23 @@ pub fn sheet(options: &Options, out: &mut impl Write) -> io::Result<Status> {
     })
 }
 
-fn function_title(number: usize, function: &FunctionBlock<'_>, source: &[u8]) -> String {
-    let name = function.name.map_or_else(String::new, |name| {
-        format!(" {}", String::from_utf8_lossy(name.text(source)))
-    });
-    let line = Lines::new(source).position(function.span.start).line;
-    match number {
-        0 => "the script itself".to_owned(),
-        _ => format!("function {number}:{name}, line {line}"),
+fn function_title(number: usize, function: &FunctionBlock<'_>, lines: &Lines<'_>) -> String {
+    if number == 0 {
+        return "the script itself".to_owned();
     }
+    let name = function.name.map_or_else(String::new, |name| {
+        format!(" {}", String::from_utf8_lossy(name.text(lines.source())))
+    });
+    format!("function {number}:{name}, line {}", lines.position(function.span.start).line)
 }
 
 pub fn graph(options: &Options, out: &mut impl Write) -> io::Result<Status> {
     let one = Options { function: Some(options.function.unwrap_or(0)), ..shallow(options) };
     let file = options.files[0].display().to_string();
     let mut unit = Unit::default();
-    each_function(&one, &mut |number, function, exported, source| {
-        let title = format!("{file}: {}", function_title(number, function, source));
-        match waldimu::graph::svg(exported, source, &title, &mut unit) {
+    each_function(&one, &mut |number, function, exported, lines| {
+        let title = format!("{file}: {}", function_title(number, function, lines));
+        match waldimu::graph::svg(exported, lines, &title, &mut unit) {
             Ok(svg) => out.write_all(svg.as_bytes()).map(Ok),
             Err(refusal) => Ok(Err(Reason::Refused(refusal))),
         }
@@ -292,7 +295,10 @@ pub fn run(
     };
     let answer = match reach::can_run(&source, dialect, offset) {
         Ok(answer) => answer,
-        Err(error) => return Ok(say_syntax_error(path, &source, &error)),
+        Err(error) => {
+            say(path, &report::syntax_error(&error, &lines), &lines);
+            return Ok(Status::Unchecked);
+        }
     };
     let (status, text) = match answer {
         Answer::CanRun => (Status::Clean, "can run".to_owned()),

@@ -42,12 +42,12 @@ const NOTES: [&str; 3] = [
 /// The number with which the library refuses the sheet.
 pub fn svg(
     exported: &Exported,
-    source: &[u8],
+    lines: &Lines<'_>,
     title: &str,
     unit: &mut Unit,
 ) -> Result<String, Refusal> {
     let graph = unit.chart(&exported.sheet.words())?;
-    let labels = node_labels(&graph, exported, source);
+    let labels = node_labels(&graph, exported, lines);
     let sizes: Vec<Size> = labels.iter().map(NodeLabel::size).collect();
     let edges = edges(&graph);
     let mut pairs: Vec<(usize, usize)> =
@@ -95,8 +95,7 @@ fn text_width(text: &str, size: i64) -> i64 {
     (hundredths * size + 99) / 100
 }
 
-fn node_labels(graph: &Graph, exported: &Exported, source: &[u8]) -> Vec<NodeLabel> {
-    let lines = Lines::new(source);
+fn node_labels(graph: &Graph, exported: &Exported, lines: &Lines<'_>) -> Vec<NodeLabel> {
     let mut words = vec![String::new(); graph.nodes.len()];
     let mut notes = vec![String::new(); graph.nodes.len()];
     for (span, node) in code_spans(exported).zip(&graph.code_nodes) {
@@ -105,7 +104,7 @@ fn node_labels(graph: &Graph, exported: &Exported, source: &[u8]) -> Vec<NodeLab
         } else {
             words[*node].push_str(" / ");
         }
-        words[*node].push_str(&one_line(span, source, SHOWN));
+        words[*node].push_str(&one_line(span, lines.source(), SHOWN));
     }
     let mut labels = Vec::new();
     for (number, (mut words, mut note)) in words.into_iter().zip(notes).enumerate() {

@@ -338,3 +338,47 @@ fn sum_to(sums: &[usize], mut place: usize) -> usize {
     }
     sum
 }
+
+#[cfg(test)]
+mod tests {
+    use super::*;
+
+    /// A loop with a branch in it, a box that leads to itself, and one that nothing leads to.
+    const EDGES: [(usize, usize); 9] =
+        [(1, 2), (2, 3), (2, 4), (3, 5), (4, 5), (5, 2), (5, 0), (6, 6), (7, 0)];
+
+    fn laid() -> (Vec<Size>, Layout) {
+        let size = |width| Size { width, height: 26 };
+        let sizes: Vec<Size> = [40, 60, 200, 90, 310, 50, 48, 70].map(size).into();
+        let laid = layout(&sizes, &EDGES, &[0], 1);
+        (sizes, laid)
+    }
+
+    #[test]
+    fn edges_lead_down_but_for_those_that_close_a_circle() {
+        let (_, laid) = laid();
+        for (edge, (tail, head)) in laid.edges.iter().zip(EDGES) {
+            assert_eq!((edge.tail, edge.head), (tail, head));
+            let (from, to) = (laid.middles[tail].1, laid.middles[head].1);
+            match (tail, head) {
+                (5, 2) => assert!(edge.is_upward && from > to),
+                (6, 6) => assert!(edge.points.is_empty()),
+                _ => assert!(!edge.is_upward && from < to, "{tail} to {head}"),
+            }
+        }
+    }
+
+    #[test]
+    fn boxes_stand_apart_and_inside() {
+        let (sizes, laid) = laid();
+        for (one, (x, y)) in laid.middles.iter().enumerate() {
+            let half = sizes[one].width / 2;
+            assert!(x - half >= 0 && x + half <= laid.width, "{one}");
+            assert!(y - 13 >= 0 && y + 13 <= laid.height, "{one}");
+            for (other, (x1, y1)) in laid.middles.iter().enumerate().skip(one + 1) {
+                let apart = (x - x1).abs() >= half + sizes[other].width / 2;
+                assert!(y != y1 || apart, "{one} and {other}");
+            }
+        }
+    }
+}

@@ -31,6 +31,11 @@ impl<'source> Lines<'source> {
     }
 
     #[must_use]
+    pub fn source(&self) -> &'source [u8] {
+        self.source
+    }
+
+    #[must_use]
     pub fn position(&self, offset: u32) -> Position {
         let line = self.starts.partition_point(|start| *start <= offset);
         Position { line: line as u32, column: offset - self.starts[line - 1] + 1 }

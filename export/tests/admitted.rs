@@ -121,7 +121,8 @@ fn damaged_scripts_never_panic() {
     let mut random = Random::new(7);
     let kept = kept_scripts();
     let mut parsed = 0;
-    let count = 6_000;
+    // WALDIMU_FUZZ asks for another number of scripts.
+    let count = std::env::var("WALDIMU_FUZZ").map_or(6_000, |text| text.parse().expect("a number"));
     for number in 0..count {
         let mut source = if number % 2 == 0 {
             kept[random.below(kept.len())].1.clone().into_bytes()
@@ -206,8 +207,9 @@ fn pictures_are_drawn() {
     let mut random = Random::new(9);
     for _ in 0..40 {
         let source = text(&script(&mut random, Version::Lua54, 40));
+        let lines = Lines::new(source.as_bytes());
         for exported in common::exported(&source, Dialect::Lua).into_iter().flatten() {
-            let drawn = svg(&exported, source.as_bytes(), "a < b", &mut unit).expect("admitted");
+            let drawn = svg(&exported, &lines, "a < b", &mut unit).expect("admitted");
             assert!(drawn.starts_with("<svg ") && drawn.ends_with("</svg>\n"));
             assert!(drawn.contains("<title>a &lt; b</title>"));
             let nodes = unit.chart(&exported.sheet.words()).expect("admitted").nodes;

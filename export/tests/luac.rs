@@ -304,6 +304,57 @@ fn agreement(here: &[(&str, Version)], source: &str) -> &'static str {
     }
 }
 
+/// Says of each line whether it is a value.
+const VALUES: &str =
+    "for line in io.lines() do print((loadstring or load)('return ' .. line) and 1 or 0) end";
+
+fn values(program: &str, texts: &[String]) -> Vec<bool> {
+    let mut child = Command::new(program)
+        .args(["-e", VALUES])
+        .stdin(Stdio::piped())
+        .stdout(Stdio::piped())
+        .spawn()
+        .expect("it is installed");
+    let mut pipe = child.stdin.take().expect("a pipe");
+    let lines = texts.join("\n") + "\n";
+    let writer = std::thread::spawn(move || pipe.write_all(lines.as_bytes()));
+    let output = child.wait_with_output().expect("it ends");
+    writer.join().expect("it ends").expect("it reads all");
+    String::from_utf8_lossy(&output.stdout).lines().map(|line| line == "1").collect()
+}
+
+/// Numerals are what any interpreter takes, LuaJIT's among them.
+#[test]
+fn numerals_of_the_interpreters() {
+    const PROGRAMS: [&str; 4] = ["lua5.1", "lua5.3", "lua5.4", "luajit"];
+    let (here, missing): (Vec<&str>, Vec<&str>) =
+        PROGRAMS.into_iter().partition(|program| is_installed(program));
+    for program in &missing {
+        println!("{program} is not installed: numerals not compared with it");
+    }
+    let mut random = Random::new(50);
+    let parts = [
+        "0", "1", "9", "0x", "0X", "0b", "a", "F", ".", "e", "E", "p", "-", "+", "LL", "ULL", "i",
+        "l", "u",
+    ];
+    let numeral = |random: &mut Random| -> String {
+        (0..1 + random.below(5)).map(|_| random.pick(&parts)).collect()
+    };
+    let texts: Vec<String> = (0..4_000).map(|_| numeral(&mut random)).collect();
+    let answers: Vec<Vec<bool>> = here.iter().map(|program| values(program, &texts)).collect();
+    let mut taken = 0;
+    for (place, text) in texts.iter().enumerate() {
+        let ours = parse(format!("return {text}").as_bytes(), Dialect::Lua).is_ok();
+        let theirs = answers.iter().any(|answers| answers[place]);
+        assert!(ours || !theirs, "an interpreter takes {text}");
+        assert!(theirs || !ours || !missing.is_empty(), "no interpreter takes {text}");
+        taken += usize::from(ours);
+    }
+    println!("luajit and lua: {taken} of {} random numerals are taken", texts.len());
+    let tenth = texts.len() / 10;
+    assert!(taken > tenth && taken < 9 * tenth, "{taken}");
+}
+
 fn damage(tokens: &mut Vec<String>, random: &mut Random) {
     let at = random.below(tokens.len());
     match random.below(4) {
