@@ -352,11 +352,15 @@ impl<'ast, 'source> Resolver<'ast, 'source> {
         self.close(outer);
     }
 
-    /// As the assignment that it stands for: the body, then the name.
+    /// What the name reads, then the body, then a written name: as Lua evaluates it.
     fn function_decl(&mut self, node: &'ast FunctionDecl) {
+        if node.has_fields {
+            self.read(node.root);
+        }
         self.function_body(&node.body, Some(node.name), node.is_method);
-        let kind = if node.has_fields { ReferenceKind::Read } else { ReferenceKind::Write };
-        self.refer(node.root, kind);
+        if !node.has_fields {
+            self.write(node.root);
+        }
     }
 
     /// With values it writes the globals; the names hold from the next statement on.

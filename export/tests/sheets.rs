@@ -280,12 +280,12 @@ fn an_assignment_in_order() {
     );
 }
 
-/// A function statement is the assignment that it stands for.
+/// A function statement reads what its name goes through, and writes the name behind its body.
 #[test]
 fn a_function_statement_in_order() {
     is(
         "local t function t.a.b() t() end",
-        "outer 32 | local 0 0-7 | name c 6-7 | plain 8-32 | use read^ 0 25-26 | use read 0 17-18",
+        "outer 32 | local 0 0-7 | name c 6-7 | plain 8-32 | use read 0 17-18 | use read^ 0 25-26",
     );
     is(
         "local f function f() f() end",

@@ -42,3 +42,7 @@ print(g)
 local h = 1 --! overwritten h
 function h() end
 print(h)
+
+-- The table is looked up before the function exists that fills it.
+local i
+function i.x() i = {} end --! unassigned i@10
