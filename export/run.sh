@@ -27,7 +27,7 @@ cargo test --offline --no-fail-fast -- --show-output >"$tests" 2>&1 || {
     exit 1
 }
 # What the tests say of other tools, which are there or not.
-awk '/^(lua|scripts with damaged)/ && !said[$0]++' "$tests"
+awk '/^(lua|luck|scripts with damaged)/ && !said[$0]++' "$tests"
 awk '/^test result: ok/ { passed += $4 } END { print "export: " passed " tests passed" }' "$tests"
 
 # The example's findings, and its sheet beside the one that was written by hand.
