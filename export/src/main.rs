@@ -18,7 +18,8 @@ usage: waldimu check [--json] [--marks] [--luau] FILE|FOLDER|- ..
 
 check   says which locals are read while they have no value, and which values are
         overwritten and never read, by file, line and column
-sheet   writes the sheets of a script: words as flowlist reads them, or --text
+sheet   writes the sheets of a script one behind the other, as words or, with --text, as
+        text; flowlist reads the words of one: --function N
 graph   draws the flow graph of a script, or of its function N, as SVG
 labels  says which gotos find no label, and which labels stand twice in a block
 run     says whether the code at a place can run
