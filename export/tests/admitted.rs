@@ -8,7 +8,7 @@ use common::{dialect_of, kept_scripts};
 use waldimu::check::{Reason, check};
 use waldimu::exporter::Exporter;
 use waldimu::graph::svg;
-use waldimu::labels::{faults, labels_fit};
+use waldimu::labels::{faults, labels, labels_fit};
 use waldimu::library::{Unit, run};
 use waldimu::lines::Lines;
 use waldimu::parser::parse;
@@ -160,6 +160,43 @@ fn nonsense_never_panics() {
             all_calls(words.join(" ").as_bytes(), dialect, &mut unit);
         }
     }
+}
+
+/// Labels and gotos in blocks of every kind: the tree's faults and the library's answer go together.
+#[test]
+fn faults_of_labels_are_the_librarys() {
+    const BLOCKS: [(&str, &str); 5] = [
+        ("do", "end"),
+        ("while x do", "end"),
+        ("repeat", "until x"),
+        ("for i = 1, 2 do", "end"),
+        ("if x then f() else", "end"),
+    ];
+    let mut unit = Unit::default();
+    let mut random = Random::new(10);
+    let mut fitting = 0;
+    let count = 2_000;
+    for _ in 0..count {
+        let mut words = Vec::new();
+        let mut open = Vec::new();
+        for _ in 0..random.below(12) {
+            match random.below(5) {
+                0 => {
+                    let (start, end) = random.pick(&BLOCKS);
+                    words.push(start);
+                    open.push(end);
+                }
+                1 => words.extend(open.pop()),
+                2 | 3 => words.push(random.pick(&["::a::", "::b::", "::c::"])),
+                _ => words.push(random.pick(&["goto a", "goto b"])),
+            }
+        }
+        words.extend(open.into_iter().rev());
+        let source = words.join(" ");
+        assert_eq!(all_calls(source.as_bytes(), Dialect::Lua, &mut unit), Some(1), "{source}");
+        fitting += usize::from(labels(source.as_bytes(), Dialect::Lua).expect("a script").fit);
+    }
+    assert!(fitting > count / 10 && fitting < count * 9 / 10, "{fitting} of {count} fit");
 }
 
 /// Nesting beyond the limit is an error and no overflow; long chains are no nesting.

@@ -210,6 +210,11 @@ fn whether_a_place_can_run() {
     );
     assert_eq!(run("7"), (1, "-:7:3: cannot run: no path leads here\n".to_owned()));
     assert_eq!(run("1").0, 0);
+    // The function around the one around it is what cannot be reached.
+    let source = "function f()\n  do return end\n  local function g()\n    return function()\n      h()\n    end\n  end\nend";
+    let ended = with_input(&["run", "-", "5"], source);
+    let expected = "-:5:7: cannot run: no path leads to its function on line 3\n";
+    assert_eq!((ended.status, ended.out.as_str()), (1, expected));
 }
 
 #[test]

@@ -406,6 +406,8 @@ fn bits_of_a_call() {
         ("local function error() end error()", 14),
         ("local _ENV = {} error()", 22),
         ("local _ENV = {} error = 1 error()", 22),
+        ("do local _ENV = {} end error()", 6),
+        ("local function f(_ENV) end error()", 6),
         ("_ENV = {} error()", 38),
         ("function f() _ENV = {} end error()", 38),
         ("error = 1 error()", 70),
@@ -422,6 +424,8 @@ fn bits_of_a_call() {
     ] {
         assert_eq!(last(source), bits, "{source}");
     }
+    let source = "function f(_ENV) error() end";
+    of_function(Dialect::Lua, source, 1, "outer 25 | call 22 17-24");
     // Luau has no _ENV.
     assert!(
         sheet_lines("_ENV = {} error()", Dialect::Luau, 0).contains(&"call 6 10-17".to_owned())

@@ -343,6 +343,7 @@ impl Generator<'_> {
     /// What only one version has.
     fn own_statement(&mut self) {
         match self.version {
+            Version::Lua53 | Version::Lua54 if self.random.chance(40) => self.put("local _ENV = t"),
             Version::Lua51 => self.call_statement(),
             Version::Lua53 => self.put(";"),
             Version::Lua54 => self.put("local k <close> = nil"),
