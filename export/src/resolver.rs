@@ -263,6 +263,22 @@ impl<'ast, 'source> Resolver<'ast, 'source> {
                 let kind = SymbolKind::IteratorVariable;
                 self.for_loop(&node.names, kind, &node.exprs, &node.block);
             }
+            Statement::EmptyStatement(_)
+            | Statement::Goto(_)
+            | Statement::Label(_)
+            | Statement::GlobalStar(_)
+            | Statement::Break(_)
+            | Statement::TypeDeclaration(_) => {}
+            Statement::FunctionDecl(_)
+            | Statement::LocalFunction(_)
+            | Statement::LocalAssignment(_)
+            | Statement::GlobalDeclaration(_)
+            | Statement::GlobalFunction(_) => self.declaration(stmt),
+        }
+    }
+
+    fn declaration(&mut self, stmt: &'ast Statement) {
+        match stmt {
             Statement::FunctionDecl(node) => self.function_decl(node),
             Statement::LocalFunction(node) => {
                 self.declare_token(node.name, SymbolKind::FunctionName);
@@ -280,12 +296,7 @@ impl<'ast, 'source> Resolver<'ast, 'source> {
                 self.function_body(&node.body, Some(node.name.span), false);
                 self.write(node.name);
             }
-            Statement::EmptyStatement(_)
-            | Statement::Goto(_)
-            | Statement::Label(_)
-            | Statement::GlobalStar(_)
-            | Statement::Break(_)
-            | Statement::TypeDeclaration(_) => {}
+            _ => {}
         }
     }
 

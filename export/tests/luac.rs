@@ -10,7 +10,7 @@ use common::generate::{Version, script, text};
 use common::random::Random;
 use common::{is_installed, kept_scripts};
 use waldimu::parser::parse;
-use waldimu::resolver::resolve;
+use waldimu::resolver::{Resolved, resolve};
 use waldimu::scope::{ScopeId, ScopeKind, ScopeTree, SymbolId};
 use waldimu::token::Dialect;
 
@@ -95,7 +95,33 @@ fn functions_of_tree(source: &str, version: Version) -> Vec<Function> {
         let name = String::from_utf8_lossy(symbol.name).into_owned();
         locals[function_of(symbol.scope)].push((symbol.definition_span, name));
     }
-    let mut upvalues = vec![BTreeSet::new(); number_of.len()];
+    let upvalues = upvalues(&resolved, version, &function_of);
+    let name = |symbol: &Option<SymbolId>| {
+        let name = symbol.map_or(b"_ENV".as_slice(), |symbol| tree.symbol(symbol).name);
+        String::from_utf8_lossy(name).into_owned()
+    };
+    let sorted = locals.into_iter().map(|mut locals| {
+        locals.sort_by_key(|(span, _)| *span);
+        locals.into_iter().map(|(_, name)| name).collect()
+    });
+    sorted
+        .zip(&upvalues)
+        .map(|(locals, upvalues)| {
+            let mut upvalues: Vec<String> = upvalues.iter().map(name).collect();
+            upvalues.sort();
+            Function { locals, upvalues }
+        })
+        .collect()
+}
+
+/// The symbols that each function takes from those around it.
+fn upvalues(
+    resolved: &Resolved<'_, '_>,
+    version: Version,
+    function_of: &dyn Fn(ScopeId) -> usize,
+) -> Vec<BTreeSet<Option<SymbolId>>> {
+    let tree = &resolved.tree;
+    let mut upvalues = vec![BTreeSet::new(); resolved.function_blocks.len()];
     if version != Version::Lua51 {
         upvalues[0].insert(SCRIPT_ENV);
     }
@@ -114,22 +140,7 @@ fn functions_of_tree(source: &str, version: Version) -> Vec<Function> {
             function = resolved.function_blocks[function].parent;
         }
     }
-    let name = |symbol: &Option<SymbolId>| {
-        let name = symbol.map_or(b"_ENV".as_slice(), |symbol| tree.symbol(symbol).name);
-        String::from_utf8_lossy(name).into_owned()
-    };
-    let sorted = locals.into_iter().map(|mut locals| {
-        locals.sort_by_key(|(span, _)| *span);
-        locals.into_iter().map(|(_, name)| name).collect()
-    });
-    sorted
-        .zip(&upvalues)
-        .map(|(locals, upvalues)| {
-            let mut upvalues: Vec<String> = upvalues.iter().map(name).collect();
-            upvalues.sort();
-            Function { locals, upvalues }
-        })
-        .collect()
+    upvalues
 }
 
 fn function_scope(tree: &ScopeTree<'_>, mut scope: ScopeId) -> ScopeId {
@@ -244,10 +255,7 @@ fn damaged_scripts_parse_where_some_compiler_takes_them() {
             *counts.entry(agreement(&here, &text(&tokens))).or_default() += 1;
         }
     }
-    println!("scripts with damaged tokens: {counts:?}");
-    let count = |what| counts.get(what).copied().unwrap_or(0);
-    let is_enough = count("taken by both") > 10 && count("refused by both") > 100;
-    assert!(here.is_empty() || is_enough, "{counts:?}");
+    say_agreement(&here, "scripts with damaged tokens", &counts);
 }
 
 /// The same for single bytes: strings, numerals, comments and operators.
@@ -275,12 +283,20 @@ fn damaged_bytes_parse_where_some_compiler_takes_them() {
             *counts.entry(agreement(&here, &source)).or_default() += 1;
         }
     }
-    println!("scripts with damaged bytes: {counts:?}");
+    say_agreement(&here, "scripts with damaged bytes", &counts);
+}
+
+/// Both answers must have come up often enough to tell anything.
+#[track_caller]
+fn say_agreement(here: &[(&str, Version)], what: &str, counts: &BTreeMap<&str, usize>) {
+    if here.is_empty() {
+        return;
+    }
+    println!("{what}: {counts:?}");
+    let total: usize = counts.values().sum();
     let count = |what| counts.get(what).copied().unwrap_or(0);
-    assert!(
-        here.is_empty() || count("taken by both") > 50 && count("refused by both") > 50,
-        "{counts:?}"
-    );
+    assert!(30 * count("taken by both") > total, "{counts:?}");
+    assert!(3 * count("refused by both") > total, "{counts:?}");
 }
 
 /// In which way parser and compilers agree on a script. Panics where they do not.
@@ -349,6 +365,9 @@ fn numerals_of_the_interpreters() {
         assert!(ours || !theirs, "an interpreter takes {text}");
         assert!(theirs || !ours || !missing.is_empty(), "no interpreter takes {text}");
         taken += usize::from(ours);
+    }
+    if here.is_empty() {
+        return;
     }
     println!("luajit and lua: {taken} of {} random numerals are taken", texts.len());
     let tenth = texts.len() / 10;
