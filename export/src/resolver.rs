@@ -363,7 +363,8 @@ impl<'ast, 'source> Resolver<'ast, 'source> {
         self.close(outer);
     }
 
-    /// What the name reads, then the body, then a written name: as Lua evaluates it.
+    /// What the name reads, then the body, then a written name. The body does not run here, so a
+    /// write in it cannot fill the table that the name goes through.
     fn function_decl(&mut self, node: &'ast FunctionDecl) {
         if node.has_fields {
             self.read(node.root);

@@ -130,3 +130,11 @@ fn labels_that_do_not_fit() {
     assert_eq!(lines.position(second.span.start).line, 4);
     assert_eq!(lines.position(second.repeats.expect("the first one").start).line, 2);
 }
+
+/// docs/EXPORTING.md names this silence: the write in the function stands before the read of the target.
+#[test]
+fn a_write_in_an_assigned_function_hides_an_empty_table() {
+    assert_eq!(places("local t\nt.f = function() t = {} end\n", Dialect::Lua), []);
+    let listed = places("local t\nfunction t.f() t = {} end\n", Dialect::Lua);
+    assert_eq!(listed, [(FindingKind::Unassigned, (2, 10), (1, 7))]);
+}
