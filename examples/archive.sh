@@ -30,8 +30,10 @@ if [ -n "${GATE:-}" ]; then
     cd target/library
 fi
 
-# `rt staticlib` alone would prove one crate after the other, `rt check` proves several at a time.
+# `rt staticlib` alone would prove one crate after the other, `rt check` proves several at a time. Beside the gate nothing is
+# left to prove; else the crates are named as they are proved.
 mkdir -p target
+[ -n "${GATE:-}" ] || examples/proving.sh waldimu >&2
 # shellcheck disable=SC2086
 { rt check $needs && rt staticlib waldimu; } >target/staticlib.txt 2>&1 || {
     cat target/staticlib.txt >&2
