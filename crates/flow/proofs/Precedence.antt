@@ -1,16 +1,19 @@
 -- "The lowest number that applies is returned, and no other case refuses": the tests stand in the order of their numbers, a refusal is that of the first that applies, and a call is admitted where none does.
 -- Assumes nothing.
-use mathlib.Core.Path.{_≡_, refl, sym, ap, _∙_}
-use mathlib.Core.Bool.{Bool, true, false, cond}
+use mathlib.Core.Path.{_≡_, refl, sym, ap, _∙_, subst}
+use mathlib.Core.Bool.{Bool, true, false, cond, true≢false}
 use mathlib.Core.List.{List, [], _∷_, _++_, map}
 use Prim.Native.Nat.{ℕ, zero, suc, _+_, _<_}
 use native.Mathlib.Omega.{arith}
+use lib.Dec.{eqb}
 use lib.ListN.{length, getD, length-append}
 use Rattle.flow.specs.declared.Refusal.{Refusal}
 use Rattle.flow.specs.declared.Verdict.{Verdict}
 use Rattle.flow.specs.declared.Verdict.the-variants.{Admitted, Refused}
 use Rattle.flow.specs.Refusals.{number, Test, firstApplying, itemTests, sheetTests, pairTests}
+use Rattle.flow.specs.Answers.{tells}
 use Rattle.flow.proofs.Tests.{passed-one}
+use Rattle.flow.proofs.Answers.{refuses}
 
 -- ---- the order of precedence
 
@@ -99,3 +102,20 @@ sheet-place short S = place-number 7 (sheetTests short S) (sheet-numbers short S
 pub pair-place : (short : Bool) (S U : List ℕ) (k : ℕ) (f : Foremost (pairTests short S U) k) → k ≡ length (f .before) + 1
 unfolding pairTests itemTests
 pair-place short S U = place-number 8 (pairTests short S U) (pair-numbers short S U) refl
+
+-- ---- by what a call tells: a number that is not 0 is that of the foremost test, and 0 means that none applies
+
+module _ (ts : List Test) (values : List ℕ) where
+  applies-by : (k : ℕ) (v : Verdict) → firstApplying ts ≡ v → tells v values .number ≡ suc k → Foremost ts (suc k)
+  applies-by k Admitted e n = absurd (omega arith)
+  applies-by k (Refused r) e n = subst (Foremost ts) n (refused-foremost ts r e)
+
+  pub number-applies : (k : ℕ) → tells (firstApplying ts) values .number ≡ suc k → Foremost ts (suc k)
+  number-applies k = applies-by k (firstApplying ts) refl
+
+  none-by : (v : Verdict) → firstApplying ts ≡ v → tells v values .number ≡ 0 → NoneApplies ts
+  none-by Admitted e n = admitted-none ts e
+  none-by (Refused r) e n = absurd (true≢false (sym (ap (λ (k : ℕ). eqb k 0) n) ∙ refuses r))
+
+  pub zero-admits : tells (firstApplying ts) values .number ≡ 0 → NoneApplies ts
+  zero-admits = none-by (firstApplying ts) refl
