@@ -1,8 +1,8 @@
 //! Points the library at luck's own files, which stay where they are.
 //!
-//! `LUCK_SRC` names the folder that holds `crates/`; without it the folder
-//! beside the repository is taken. `WALDIMU_ARCHIVE` names the static library
-//! to link, if any.
+//! `LUCK_SRC` names the folder that holds `crates/`; without it luck is looked
+//! for beside the repository, and a warning says where it was found.
+//! `WALDIMU_ARCHIVE` names the static library to link, if any.
 
 use std::path::{Path, PathBuf};
 use std::{env, fs};
@@ -22,10 +22,8 @@ fn main() {
     println!("cargo::rerun-if-env-changed=LUCK_SRC");
     let here = PathBuf::from(env::var("CARGO_MANIFEST_DIR").unwrap());
     let out = PathBuf::from(env::var("OUT_DIR").unwrap());
-    let root = env::var("LUCK_SRC")
-        .map_or_else(|_| here.join("../../shared/docs/src"), PathBuf::from)
-        .canonicalize()
-        .expect("LUCK_SRC names no folder");
+    let root = env::var("LUCK_SRC").map_or_else(|_| beside(&here), PathBuf::from);
+    let root = root.canonicalize().expect("LUCK_SRC names no folder");
 
     let mut modules = String::new();
     for (krate, name) in FILES {
@@ -36,6 +34,18 @@ fn main() {
     }
     fs::write(out.join("luck.rs"), modules).unwrap();
     link_archive();
+}
+
+/// Where luck stands beside the repository, as in `luck-src.sh`.
+fn beside(here: &Path) -> PathBuf {
+    for place in ["../luck", "../shared/docs/src"] {
+        let root = here.join("..").join(place);
+        if root.join("crates/luck_linter/src/cfg.rs").exists() {
+            println!("cargo::warning=luck's files are taken from {place}, beside the repository");
+            return root;
+        }
+    }
+    panic!("luck's files are not at hand: LUCK_SRC names no place, nor are they beside us")
 }
 
 /// With the archive, `cfg(library)` holds and the program calls it.

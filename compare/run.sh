@@ -3,10 +3,16 @@
 # FLOWLIST names the program, the Rattle side. Ends with the first difference.
 # `run.sh library` lets the static library answer too: the one that
 # WALDIMU_ARCHIVE names, or else one that is built first.
-# LUCK_SRC names the folder with luck's files, if it is not the usual one.
+#   run.sh [library] [LUCK]
+# LUCK or else LUCK_SRC names the folder that holds luck's crates/; without one
+# luck is looked for beside the repository (luck-src.sh).
 set -eu
 here=$(cd "$(dirname "$0")" && pwd)
-luck=${LUCK_SRC:-$here/../../shared/docs/src}
+part=
+if [ "${1:-}" = library ]; then
+    part=library
+    shift
+fi
 
 skip() {
     echo "compare: skipped, $1"
@@ -14,12 +20,12 @@ skip() {
 }
 
 command -v cargo >/dev/null 2>&1 || skip "there is no cargo here"
-[ -r "$luck/crates/luck_linter/src/cfg.rs" ] || skip "luck's files are not at hand (LUCK_SRC)"
-LUCK_SRC=$(cd "$luck" && pwd)
+LUCK_SRC=$("$here/luck-src.sh" "$@")
+[ -n "$LUCK_SRC" ] || exit 0
 export LUCK_SRC
 cd "$here"
 
-if [ "${1:-}" = library ]; then
+if [ "$part" = library ]; then
     WALDIMU_ARCHIVE=${WALDIMU_ARCHIVE-$(../examples/archive.sh)}
     [ -n "$WALDIMU_ARCHIVE" ] || skip "there is no static library"
     export WALDIMU_ARCHIVE
