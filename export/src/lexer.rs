@@ -1,6 +1,6 @@
 //! From bytes to tokens, in one pass. Comments and white space are left out.
 
-use crate::numeral::numeral;
+use crate::numeral::{is_plain, numeral};
 use crate::token::{Dialect, Span, SyntaxError, Token, TokenKind, keyword};
 
 /// The tokens of a script, the last one `EndOfFile`, or `Invalid` where
@@ -187,27 +187,37 @@ impl Lexer<'_> {
     }
 
     /// Takes all that could belong to a numeral, as Lua does, and then looks
-    /// whether it is one: `3x` and `3..2` are malformed and not two tokens.
+    /// whether it is one: `3e` and `3..2` are malformed and not two tokens.
+    /// 5.2 and 5.3 end before a letter that is no digit: `x=3y=4` is theirs.
     fn number(&mut self) -> Result<TokenKind, SyntaxError> {
         let start = self.at;
-        let is_hex = self.peek(0) == b'0' && matches!(self.peek(1), b'x' | b'X');
-        let exponent = if is_hex { b'p' } else { b'e' };
-        loop {
-            let byte = self.peek(0);
-            if byte.eq_ignore_ascii_case(&exponent) && matches!(self.peek(1), b'+' | b'-') {
-                self.at += 2;
-            } else if byte.is_ascii_alphanumeric() || matches!(byte, b'.' | b'_') {
-                self.at += 1;
-            } else {
-                break;
-            }
+        let whole = self.number_end(|byte| byte.is_ascii_alphanumeric() || byte == b'_');
+        let digits = self.number_end(|byte| byte.is_ascii_hexdigit());
+        self.at = whole;
+        let text = &self.source[start..whole];
+        if let Some(kind) = numeral(text, self.dialect) {
+            return Ok(kind);
         }
-        let text = &self.source[start..self.at];
-        match numeral(text, self.dialect) {
-            Some(kind) => Ok(kind),
-            None => {
-                let text = String::from_utf8_lossy(text).into_owned();
-                self.error(start, format!("expected a number, found '{text}'"))
+        if self.dialect == Dialect::Lua && is_plain(&self.source[start..digits]) {
+            self.at = digits;
+            return Ok(TokenKind::Number);
+        }
+        let text = String::from_utf8_lossy(text).into_owned();
+        self.error(start, format!("expected a number, found '{text}'"))
+    }
+
+    /// Where a numeral ends that has such letters besides points and exponents.
+    fn number_end(&self, is_letter: fn(u8) -> bool) -> usize {
+        let rest = &self.source[self.at..];
+        let is_hex = matches!(rest, [b'0', b'x' | b'X', ..]);
+        let exponent = if is_hex { b'p' } else { b'e' };
+        let mut length = if is_hex { 2 } else { 1 };
+        loop {
+            length += match rest[length..] {
+                [mark, b'+' | b'-', ..] if mark.eq_ignore_ascii_case(&exponent) => 2,
+                [mark, ..] if mark.eq_ignore_ascii_case(&exponent) => 1,
+                [byte, ..] if byte == b'.' || is_letter(byte) => 1,
+                _ => return self.at + length,
             }
         }
     }

@@ -9,11 +9,17 @@ pub fn numeral(text: &[u8], dialect: Dialect) -> Option<TokenKind> {
         Dialect::Lua => {
             let (body, suffix) = without_suffix(text);
             let is_whole = is_numeral(body)?;
-            // LuaJIT: 64-bit integers (1LL, 1ULL) have no fraction, imaginary parts (1i) may have one.
+            // LuaJIT: 64-bit integers (1LL, 1ULL, 1LLU) have no fraction, imaginary parts (1i) may have one.
             (is_whole || suffix != Suffix::Long).then_some(TokenKind::Number)
         }
         Dialect::Luau => luau_numeral(text),
     }
+}
+
+/// Whether 5.2 and 5.3 take it: no suffix and no binary digits.
+#[must_use]
+pub fn is_plain(text: &[u8]) -> bool {
+    !matches!(text, [b'0', b'b' | b'B', ..]) && is_numeral(text).is_some()
 }
 
 /// Luau lets underscores stand between digits, and an `i` behind an integer.
@@ -37,7 +43,7 @@ fn without_suffix(text: &[u8]) -> (&[u8], Suffix) {
         let start = text.len().checked_sub(suffix.len())?;
         text[start..].eq_ignore_ascii_case(suffix).then_some(&text[..start])
     };
-    if let Some(body) = ends(b"ull").or_else(|| ends(b"ll")) {
+    if let Some(body) = ends(b"ull").or_else(|| ends(b"llu")).or_else(|| ends(b"ll")) {
         (body, Suffix::Long)
     } else if let Some(body) = ends(b"i") {
         (body, Suffix::Imaginary)
@@ -108,6 +114,8 @@ mod tests {
             "42LL",
             "42ull",
             "0x2aULL",
+            "42LLU",
+            "0x2allu",
             "12.5i",
             "0xffll",
             "0b101",
@@ -117,7 +125,7 @@ mod tests {
         }
         for bad in [
             "3x", "3..2", "3e", "3e+", "0x", "0xg", "0xp1", ".", "1.5LL", "1e2ull", "1_000", "0b",
-            "0b12", "1L", "1i2", "3.4.5", "0x1p", "LL", "1lll",
+            "0b12", "1L", "1i2", "3.4.5", "0x1p", "LL", "1lll", "1llull", "1.5LLU", "LLU",
         ] {
             assert_eq!(numeral(bad.as_bytes(), Dialect::Lua), None, "{bad}");
         }

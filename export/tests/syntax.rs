@@ -93,6 +93,10 @@ fn where_a_word_may_not_stand() {
 #[test]
 fn what_is_no_token() {
     lua("x = 3x", "1:5: expected a number, found '3x'");
+    lua("x = 3x + 1", "1:5: expected a number, found '3x'");
+    lua("f(3x)", "1:3: expected a number, found '3x'");
+    lua("x = 3e", "1:5: expected a number, found '3e'");
+    lua("f(3 x)", "1:5: expected ')' to close '(' at line 1, column 2, found 'x'");
     lua("x = 'abc\n'", "1:5: expected ' to close this string, found the end of the line");
     lua("x = \"abc", "1:5: expected \" to close this string, found the end of the file");
     lua("x = [[abc", "1:5: expected ']]' to close this long string");

@@ -108,7 +108,8 @@ impl<'source> Parser<'source> {
         opener: Token,
     ) -> Parsed<Token> {
         self.expect(kind).map_err(|mut error| {
-            if self.kind() != TokenKind::Invalid {
+            // What is said of another place than this one says enough.
+            if self.kind() != TokenKind::Invalid && error.span == self.token().span {
                 error.opened = Some((what, opener.span));
             }
             error
@@ -131,6 +132,10 @@ impl<'source> Parser<'source> {
         if let (TokenKind::Invalid, Some(error)) = (token.kind, self.lexer_error) {
             return Err(error.clone());
         }
+        if let Some(span) = self.letters_behind_a_number() {
+            let text = String::from_utf8_lossy(span.text(self.source));
+            return self.error(span, format!("expected a number, found '{text}'"));
+        }
         let found = match token.kind {
             TokenKind::Name | TokenKind::Number | TokenKind::Integer | TokenKind::CompoundEqual => {
                 format!("'{}'", String::from_utf8_lossy(self.text(token)))
@@ -138,6 +143,23 @@ impl<'source> Parser<'source> {
             kind => kind.text().to_owned(),
         };
         Err(SyntaxError::new(token.span, format!("expected {expected}, found {found}")))
+    }
+
+    /// A number and the word that touches it, here or just before. 5.2 and 5.3 take them for two
+    /// tokens; where that leads nowhere, it was meant for one.
+    fn letters_behind_a_number(&self) -> Option<Span> {
+        let around = &self.tokens[self.at.saturating_sub(2)..=self.at];
+        let is_word = |token: &Token| {
+            self.text(*token)
+                .first()
+                .is_some_and(|byte| byte.is_ascii_alphabetic() || *byte == b'_')
+        };
+        let touching = around.windows(2).find(|pair| {
+            pair[0].kind == TokenKind::Number
+                && pair[0].span.end == pair[1].span.start
+                && is_word(&pair[1])
+        });
+        touching.map(|pair| Span::new(pair[0].span.start, pair[1].span.end))
     }
 
     fn error<T>(&self, span: Span, message: impl Into<String>) -> Parsed<T> {
