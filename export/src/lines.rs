@@ -2,6 +2,10 @@
 
 use crate::token::Span;
 
+/// How much of a line is shown before a mark and from it on, in bytes. Some scripts are one line.
+const SHOWN_BEFORE: u32 = 100;
+const SHOWN_FROM: u32 = 100;
+
 pub struct Lines<'source> {
     source: &'source [u8],
     starts: Vec<u32>,
@@ -53,20 +57,54 @@ impl<'source> Lines<'source> {
     }
 
     /// The line where a span starts, and under it marks for as much of the span as stands there.
+    /// A long line is cut to what stands around the span.
     #[must_use]
     pub fn marked(&self, span: Span) -> String {
         let number = self.position(span.start).line;
         let line = self.line(number).unwrap_or_default();
-        let text = String::from_utf8_lossy(line.text(self.source));
-        let before = Span::new(line.start, span.start).text(self.source);
-        let under = Span::new(span.start, span.end.min(line.end).max(span.start)).text(self.source);
-        let pad: String = String::from_utf8_lossy(before)
+        let shown = self.around(span.start, line);
+        let before = Span::new(shown.start, span.start).text(self.source);
+        let under =
+            Span::new(span.start, span.end.min(shown.end).max(span.start)).text(self.source);
+        let mut text = printable(shown.text(self.source));
+        let mut pad: String = printable(before)
             .chars()
             .map(|letter| if letter == '\t' { '\t' } else { ' ' })
             .collect();
-        let marks = "^".repeat(String::from_utf8_lossy(under).chars().count().max(1));
+        if shown.start > line.start {
+            text.insert_str(0, ".. ");
+            pad.insert_str(0, "   ");
+        }
+        if shown.end < line.end {
+            text.push_str(" ..");
+        }
+        let marks = "^".repeat(printable(under).chars().count().max(1));
         format!("{number:>6} | {text}\n       | {pad}{marks}\n")
     }
+
+    /// As much of a line as is shown around an offset in it, with no letter cut in two.
+    fn around(&self, offset: u32, line: Span) -> Span {
+        let is_inside =
+            |at: u32| self.source.get(at as usize).is_some_and(|byte| byte >> 6 == 0b10);
+        let mut start = offset.saturating_sub(SHOWN_BEFORE).max(line.start);
+        while start > line.start && start < offset && is_inside(start) {
+            start += 1;
+        }
+        let mut end = offset.saturating_add(SHOWN_FROM).min(line.end);
+        while end < line.end && end > offset && is_inside(end) {
+            end -= 1;
+        }
+        Span::new(start, end)
+    }
+}
+
+/// Text for a terminal, which control characters would steer.
+fn printable(text: &[u8]) -> String {
+    let is_shown = |letter: char| letter == '\t' || !letter.is_control();
+    String::from_utf8_lossy(text)
+        .chars()
+        .map(|letter| if is_shown(letter) { letter } else { char::REPLACEMENT_CHARACTER })
+        .collect()
 }
 
 #[cfg(test)]
@@ -94,5 +132,33 @@ mod tests {
         let start = source.len() as u32 - 5;
         let marked = Lines::new(source).marked(Span::new(start, start + 4));
         assert_eq!(marked, "     1 | \tlocal é, name\n       | \t         ^^^^\n");
+    }
+
+    #[test]
+    fn a_long_line_is_cut_around_the_mark() {
+        let source = "é".repeat(10_000) + "name" + &"é".repeat(10_000);
+        let marked = Lines::new(source.as_bytes()).marked(Span::new(20_000, 20_004));
+        let side = |count| "é".repeat(count);
+        let blanks = " ".repeat(3 + 50);
+        assert_eq!(
+            marked,
+            format!("     1 | .. {}name{} ..\n       | {blanks}^^^^\n", side(50), side(48))
+        );
+        // A letter of two bytes on either edge is left out.
+        let marked = Lines::new(source.as_bytes()).marked(Span::new(20_001, 20_002));
+        let blanks = " ".repeat(3 + 50);
+        assert_eq!(
+            marked,
+            format!("     1 | .. {}name{} ..\n       | {blanks}^\n", side(49), side(48))
+        );
+        // Marks end where the shown text does.
+        let whole = Lines::new(source.as_bytes()).marked(Span::new(0, source.len() as u32));
+        assert_eq!(whole, format!("     1 | {} ..\n       | {}\n", side(50), "^".repeat(50)));
+    }
+
+    #[test]
+    fn marked_text_does_not_steer_a_terminal() {
+        let marked = Lines::new(b"\x1b[2J x\x00\n").marked(Span::new(5, 6));
+        assert_eq!(marked, "     1 | \u{fffd}[2J x\u{fffd}\n       |      ^\n");
     }
 }
