@@ -163,8 +163,9 @@ fn escaped(text: &str) -> String {
             '&' => "&amp;".to_owned(),
             '<' => "&lt;".to_owned(),
             '>' => "&gt;".to_owned(),
-            // XML has no other control characters.
+            // XML has no other control characters, and not these two.
             control if control < ' ' && control != '\t' => "\u{fffd}".to_owned(),
+            '\u{fffe}' | '\u{ffff}' => "\u{fffd}".to_owned(),
             other => other.to_string(),
         })
         .collect()
@@ -272,4 +273,17 @@ fn rectangle(x: i64, y: i64, width: i64, height: i64, style: &str, corner: i64) 
 fn text(x: i64, y: i64, words: &str, style: &str, anchor: &str) -> String {
     let style = if style.is_empty() { String::new() } else { format!(" class=\"{style}\"") };
     format!("<text x=\"{x}\" y=\"{y}\" text-anchor=\"{anchor}\"{style}>{}</text>\n", escaped(words))
+}
+
+#[cfg(test)]
+mod tests {
+    use super::*;
+
+    #[test]
+    fn what_xml_does_not_take_is_replaced() {
+        assert_eq!(
+            escaped("a<b>&\u{1}\u{fffe}\u{ffff}\té"),
+            "a&lt;b&gt;&amp;\u{fffd}\u{fffd}\u{fffd}\té"
+        );
+    }
 }
