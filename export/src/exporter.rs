@@ -20,8 +20,6 @@ pub struct Exported {
     pub uses: UseSheet,
     /// The symbol of each local number.
     pub symbols: Vec<SymbolId>,
-    /// The reference of each use number.
-    pub references: Vec<ReferenceId>,
 }
 
 /// What a block has too much of for the unit.
@@ -90,19 +88,15 @@ impl<'tree> Exporter<'tree> {
         if deepest > MOST_DEPTH {
             return Err(Limit::Depth(deepest));
         }
-        let (uses, references) = self.uses(&symbols, &has_value)?;
+        let uses = self.uses(&symbols, &has_value)?;
         let sheet = Sheet { outer_end: function.block.span.end, items };
-        Ok(Exported { sheet, uses, symbols, references })
+        Ok(Exported { sheet, uses, symbols })
     }
 
     /// All uses of the block's locals. Where those are too many, the uses of
     /// locals that no finding can name are left out: the lists of a local come
     /// from its own uses alone.
-    fn uses(
-        &self,
-        symbols: &[SymbolId],
-        has_value: &[bool],
-    ) -> Result<(UseSheet, Vec<ReferenceId>), Limit> {
+    fn uses(&self, symbols: &[SymbolId], has_value: &[bool]) -> Result<UseSheet, Limit> {
         let all = self.references_of(symbols.iter().copied().enumerate());
         let taken = if all.len() <= MOST_USES {
             all
@@ -116,9 +110,8 @@ impl<'tree> Exporter<'tree> {
         if taken.len() > MOST_USES {
             return Err(Limit::Uses(taken.len()));
         }
-        let uses =
-            taken.iter().map(|(id, local)| self.used(symbols[*local], *local, *id)).collect();
-        Ok((UseSheet { uses }, taken.into_iter().map(|(id, _)| id).collect()))
+        let used = taken.iter().map(|(id, local)| self.used(symbols[*local], *local, *id));
+        Ok(UseSheet { uses: used.collect() })
     }
 
     /// The references of some locals in the order of evaluation, each with its local's number.

@@ -12,12 +12,6 @@ impl Span {
         Self { start, end }
     }
 
-    /// From the start of this span to the end of another one.
-    #[must_use]
-    pub const fn to(self, last: Self) -> Self {
-        Self { start: self.start, end: last.end }
-    }
-
     #[must_use]
     pub fn text(self, source: &[u8]) -> &[u8] {
         source.get(self.start as usize..self.end as usize).unwrap_or_default()
