@@ -19,9 +19,9 @@ use waldimu::resolver::{FunctionBlock, resolve};
 use waldimu::text::{count, grouped};
 use waldimu::token::{Dialect, Span, SyntaxError};
 
-use crate::Status;
 use crate::options::Options;
 use crate::progress::Progress;
+use crate::{Status, tell};
 
 // ---- Many scripts: check and labels ----
 
@@ -159,7 +159,8 @@ fn finish(
             count(findings, what)
         );
         if unchecked > 0 {
-            line.push_str(&format!(", {} not checked", count(unchecked, "script or block")));
+            let what = if unchecked == 1 { "script or block" } else { "scripts or blocks" };
+            line.push_str(&format!(", {} {what} not checked", grouped(unchecked)));
         }
         writeln!(out, "{line}")?;
     }
@@ -178,14 +179,14 @@ fn read_one(options: &Options) -> Option<(&Path, Vec<u8>, Dialect)> {
     match files::read(path) {
         Ok(source) => Some((path, source, files::dialect(path, options.is_luau))),
         Err(error) => {
-            eprint!("{}", unreadable(path, &error.to_string(), options));
+            tell(&unreadable(path, &error.to_string(), options));
             None
         }
     }
 }
 
 fn say(path: &Path, message: &Message, lines: &Lines<'_>) {
-    eprint!("{}", report::line(&path.to_string_lossy(), message, lines));
+    tell(&report::line(&path.to_string_lossy(), message, lines));
 }
 
 /// What is written of one function: its number, itself, its sheets, and the script's lines.
@@ -210,7 +211,7 @@ fn each_function(options: &Options, write: &mut WriteFunction<'_>) -> io::Result
     let functions = &resolved.function_blocks;
     let Some(asked) = asked(options, functions.len()) else {
         let last = functions.len() - 1;
-        eprintln!("{}: the last function is number {last}", path.display());
+        tell(&format!("{}: the last function is number {last}\n", path.display()));
         return Ok(Status::Unchecked);
     };
     let mut status = Status::Clean;
@@ -290,7 +291,7 @@ pub fn run(
     };
     let lines = Lines::new(&source);
     let Some(offset) = lines.line(line).and_then(|span| offset_in(span, column, &source)) else {
-        eprintln!("{}: there is no line {line} with such a column", path.display());
+        tell(&format!("{}: there is no line {line} with such a column\n", path.display()));
         return Ok(Status::Unchecked);
     };
     let answer = match reach::can_run(&source, dialect, offset) {

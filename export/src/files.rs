@@ -70,8 +70,11 @@ fn walk(folder: &Path, found: &mut Vec<Found>) {
     }
 }
 
+/// By its ending. What cannot be looked at is one too, so that it is named and not passed over;
+/// pipes, devices and links to folders are none.
 fn is_script(path: &Path) -> bool {
-    path.extension().is_some_and(|ending| ending == "lua" || ending == "luau") && path.is_file()
+    let has_ending = path.extension().is_some_and(|ending| ending == "lua" || ending == "luau");
+    has_ending && path.metadata().map_or(true, |about| about.is_file())
 }
 
 /// # Errors

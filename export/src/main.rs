@@ -13,7 +13,7 @@ const USAGE: &str = "\
 usage: waldimu check [--json] [--marks] [--luau] FILE|FOLDER|- ..
        waldimu sheet [--text] [--function N] [--luau] FILE
        waldimu graph [--function N] [--luau] FILE
-       waldimu labels [--luau] FILE|FOLDER|- ..
+       waldimu labels [--json] [--marks] [--luau] FILE|FOLDER|- ..
        waldimu run [--luau] FILE LINE[:COLUMN]
 
 check   says which locals are read while they have no value, and which values are
@@ -43,7 +43,7 @@ fn main() -> ExitCode {
     let options = match Options::parse(std::env::args_os().skip(1)) {
         Ok(options) => options,
         Err(message) => {
-            eprintln!("waldimu: {message}\n{USAGE}");
+            tell(&format!("waldimu: {message}\n{USAGE}"));
             return ExitCode::from(Status::Unchecked as u8);
         }
     };
@@ -54,11 +54,16 @@ fn main() -> ExitCode {
         Err(error) => {
             // Who reads no further wants no message.
             if error.kind() != ErrorKind::BrokenPipe {
-                eprintln!("waldimu: {error}");
+                tell(&format!("waldimu: {error}\n"));
             }
             ExitCode::from(Status::Unchecked as u8)
         }
     }
+}
+
+/// Writes to standard error. Where that is closed or full, the status alone has to say it.
+fn tell(words: &str) {
+    let _ = io::stderr().write_all(words.as_bytes());
 }
 
 fn run(options: &Options, out: &mut impl Write) -> io::Result<Status> {

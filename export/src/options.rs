@@ -26,23 +26,44 @@ pub enum Command {
     Run((u32, Option<u32>)),
 }
 
+impl Command {
+    /// The options that make a difference to the command.
+    const fn options(self) -> &'static [&'static str] {
+        match self {
+            Self::Help => &[],
+            Self::Check | Self::Labels => &["--json", "--marks", "--luau"],
+            Self::Sheet => &["--text", "--function", "--luau"],
+            Self::Graph => &["--function", "--luau"],
+            Self::Run(_) => &["--luau"],
+        }
+    }
+}
+
 impl Options {
     pub fn parse(mut words: impl Iterator<Item = OsString>) -> Result<Self, String> {
         let mut options = Self::default();
         let command = words.next().ok_or("expected a command")?;
         let mut names = Vec::new();
+        let mut given = Vec::new();
         let mut is_name = false;
         while let Some(word) = words.next() {
             match word.to_str() {
                 Some("--") if !is_name => is_name = true,
+                Some("--help" | "-h") if !is_name => return Ok(Self::default()),
                 Some(option) if !is_name && option.starts_with('-') && option != "-" => {
                     options.option(option, &mut words)?;
+                    given.push(option.to_owned());
                 }
                 _ => names.push(word),
             }
         }
-        options.command(&command.to_string_lossy(), names)?;
-        Ok(options)
+        let command = command.to_string_lossy();
+        options.command(&command, names)?;
+        let taken = options.command.options();
+        match given.iter().find(|option| !taken.contains(&option.as_str())) {
+            Some(option) => Err(format!("{command} takes no {option}")),
+            None => Ok(options),
+        }
     }
 
     fn option(

@@ -82,13 +82,66 @@ fn statuses() {
         &["sheet", GOVERNOR, GOVERNOR],
         &["sheet", "--function", "1", GOVERNOR],
         &["sheet", "--function", GOVERNOR],
+        &["sheet", "--json", GOVERNOR],
+        &["run", "--json", GOVERNOR, "1"],
+        &["graph", "--text", GOVERNOR],
+        &["check", "--function", "0", GOVERNOR],
     ] {
         let ended = waldimu(wrong);
         assert_eq!(ended.status, 2, "{wrong:?}");
         assert!(!ended.said.is_empty(), "{wrong:?}");
     }
-    let help = waldimu(&["--help"]);
-    assert_eq!((help.status, help.out.starts_with("usage: waldimu check")), (0, true));
+    for asked in [&["--help"][..], &["help"], &["check", "--help"], &["run", GOVERNOR, "-h"]] {
+        let help = waldimu(asked);
+        assert_eq!((help.status, help.out.starts_with("usage: waldimu check")), (0, true));
+    }
+}
+
+#[test]
+fn an_option_that_a_command_does_not_take_is_named() {
+    let ended = waldimu(&["run", "--json", GOVERNOR, "1"]);
+    assert!(ended.said.starts_with("waldimu: run takes no --json\n"), "{}", ended.said);
+}
+
+/// Nothing can be said there, and the status still is.
+#[test]
+#[cfg(target_os = "linux")]
+fn a_full_standard_error_gives_no_panic() {
+    for arguments in [&["sheet", "no such file.lua"][..], &["nothing"], &["run", GOVERNOR, "999"]] {
+        let full = std::fs::OpenOptions::new().write(true).open("/dev/full").expect("the device");
+        let ended = Command::new(env!("CARGO_BIN_EXE_waldimu"))
+            .args(arguments)
+            .stdin(Stdio::null())
+            .stderr(full)
+            .status()
+            .expect("the program");
+        assert_eq!(ended.code(), Some(2), "{arguments:?}");
+    }
+}
+
+/// Silence means clean, so a link to nothing is named. Links to folders and what is no file are not scripts.
+#[test]
+#[cfg(unix)]
+fn what_cannot_be_looked_at_is_named() {
+    let room = folder("links");
+    std::fs::create_dir_all(room.join("inner")).expect("a folder");
+    let link = |to: &str, name: &str| {
+        std::os::unix::fs::symlink(to, room.join(name)).expect("a link");
+    };
+    link("nowhere.lua", "broken.lua");
+    link("..", "inner/around.lua");
+    link("/dev/null", "inner/device.lua");
+    let ended = waldimu(&["check", &room.to_string_lossy()]);
+    let broken = room.join("broken.lua").display().to_string();
+    let lines: Vec<&str> = ended.out.lines().collect();
+    assert_eq!((ended.status, lines.len()), (2, 2), "{}", ended.out);
+    assert!(lines[0].starts_with(&format!("{broken}: cannot be read: ")), "{}", ended.out);
+    assert_eq!(lines[1], "1 script, 0 blocks: 0 findings, 1 script or block not checked");
+    let ended = waldimu(&["check", &broken, &broken]);
+    assert_eq!(
+        ended.out.lines().last(),
+        Some("2 scripts, 0 blocks: 0 findings, 2 scripts or blocks not checked")
+    );
 }
 
 #[test]
