@@ -5,6 +5,8 @@ set -eu
 cd "$(dirname "$0")"
 tests=target/tests.txt
 program=target/release/waldimu
+CARGO_TARGET_DIR=$PWD/target
+export CARGO_TARGET_DIR
 
 skip() {
     echo "export: skipped, $1"
@@ -17,6 +19,7 @@ WALDIMU_ARCHIVE=${WALDIMU_ARCHIVE-$(../examples/archive.sh)}
 [ -n "$WALDIMU_ARCHIVE" ] || skip "there is no static library"
 export WALDIMU_ARCHIVE
 mkdir -p target
+rm -rf target/elsewhere
 
 echo "export: building the program waldimu"
 cargo build --release --offline --quiet
@@ -30,11 +33,16 @@ cargo test --offline --no-fail-fast -- --show-output >"$tests" 2>&1 || {
 awk '/^(lua|luck|scripts with damaged)/ && !said[$0]++' "$tests"
 awk '/^test result: ok/ { passed += $4 } END { print "export: " passed " tests passed" }' "$tests"
 
-# The example's findings, and its sheet beside the one that was written by hand.
+# The example's findings by the repository's own command, also where cargo is told to put programs elsewhere; and the example's
+# sheet beside the one that was written by hand.
 status=0
-"$program" check ../examples/governor/script.lua || status=$?
+CARGO_TARGET_DIR=$PWD/target/elsewhere ../waldimu check ../examples/governor/script.lua || status=$?
 [ "$status" -eq 1 ] || {
     echo "export: status $status where findings give 1"
+    exit 1
+}
+[ ! -e target/elsewhere ] || {
+    echo "export: ../waldimu builds where it does not look for the program"
     exit 1
 }
 "$program" sheet ../examples/governor/script.lua | cmp - ../examples/governor/sheet.bin
