@@ -132,11 +132,12 @@ fn said(path: &Path, message: &Message, lines: &Lines<'_>, options: &Options) ->
 
 fn unreadable(path: &Path, error: &str, options: &Options) -> String {
     let file = path.to_string_lossy();
+    let message = format!("cannot be read: {error}");
     if options.is_json {
-        let (file, message) = (report::quoted(&file), report::quoted(error));
+        let (file, message) = (report::quoted(&file), report::quoted(&message));
         return format!("{{\"kind\":\"unreadable\",\"file\":{file},\"message\":{message}}}\n");
     }
-    format!("{file}: cannot be read: {error}\n")
+    format!("{file}: {message}\n")
 }
 
 fn finish(

@@ -197,6 +197,26 @@ fn objects_for_tools() {
     );
 }
 
+/// Those of docs/EXPORTING.md that the test before does not have.
+#[test]
+fn objects_of_other_kinds() {
+    let ended = with_input(&["labels", "--json", "-"], "goto x");
+    let label = "{\"kind\":\"label\",\"file\":\"-\",\"line\":1,\"column\":1,\"end_line\":1,\"end_column\":7,\
+                 \"message\":\"goto 'x' finds no label in the blocks around it\"}";
+    assert_eq!(ended.out.lines().next(), Some(label));
+    let ended = with_input(&["check", "--json", "-"], &"f() ".repeat(1_025));
+    let unchecked = "{\"kind\":\"unchecked\",\"file\":\"-\",\"line\":1,\"column\":1,\"end_line\":1,\"end_column\":1,\
+                     \"message\":\"the script's own block was not checked: 1,025 items, and the unit takes 1,024\"}";
+    assert_eq!(ended.out.lines().next(), Some(unchecked));
+    let ended = waldimu(&["check", "--json", "no\tsuch\"file\".lua"]);
+    let unreadable = "{\"kind\":\"unreadable\",\"file\":\"no\\tsuch\\\"file\\\".lua\",\"message\":\"cannot be read: ";
+    assert!(ended.out.starts_with(unreadable), "{}", ended.out);
+    let ended = with_input(&["check", "--json", "-"], "local x = 1 x = 2 print(x)");
+    assert!(
+        ended.out.contains("\"kind\":\"overwritten\"") && ended.out.contains("\"initial\":true")
+    );
+}
+
 #[test]
 fn the_dialect_by_option_or_ending() {
     let source = "local x = 1\nx += 1\nprint(x)\n";
