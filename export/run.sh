@@ -33,16 +33,17 @@ cargo test --offline --no-fail-fast -- --show-output >"$tests" 2>&1 || {
 awk '/^(lua|luck|scripts with damaged)/ && !said[$0]++' "$tests"
 awk '/^test result: ok/ { passed += $4 } END { print "export: " passed " tests passed" }' "$tests"
 
-# The example's findings by the repository's own command, also where cargo is told to put programs elsewhere; and the example's
-# sheet beside the one that was written by hand.
+# The example's findings by the repository's own command, also by a link to it, and where cargo is told to put programs
+# elsewhere; and the example's sheet beside the one that was written by hand.
 status=0
-CARGO_TARGET_DIR=$PWD/target/elsewhere ../waldimu check ../examples/governor/script.lua || status=$?
+ln -sf ../../waldimu target/waldimu
+CARGO_TARGET_DIR=$PWD/target/elsewhere target/waldimu check ../examples/governor/script.lua || status=$?
 [ "$status" -eq 1 ] || {
     echo "export: status $status where findings give 1"
     exit 1
 }
 [ ! -e target/elsewhere ] || {
-    echo "export: ../waldimu builds where it does not look for the program"
+    echo "export: ./waldimu builds where it does not look for the program"
     exit 1
 }
 "$program" sheet ../examples/governor/script.lua | cmp - ../examples/governor/sheet.bin
