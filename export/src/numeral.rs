@@ -9,7 +9,8 @@ pub fn numeral(text: &[u8], dialect: Dialect) -> Option<TokenKind> {
         Dialect::Lua => {
             let (body, suffix) = without_suffix(text);
             let is_whole = is_numeral(body)?;
-            // LuaJIT: 64-bit integers (1LL, 1ULL, 1LLU) have no fraction, imaginary parts (1i) may have one.
+            // LuaJIT: 64-bit integers (1LL, 1ULL, 1LLU) have no fraction, imaginary parts (1i) may
+            // have one.
             (is_whole || suffix != Suffix::Long).then_some(TokenKind::Number)
         }
         Dialect::Luau => luau_numeral(text),

@@ -236,7 +236,7 @@ fn class(message: &str) -> Option<&'static str> {
 /// compilers only that one does not call it malformed.
 fn splits_a_numeral(said: &[&String]) -> bool {
     let is_malformed = |said: &&String| said.contains("malformed number");
-    said.iter().any(|said| is_malformed(said))
+    said.iter().any(&is_malformed)
         && said.iter().any(|said| said.starts_with("luac5.3") && !is_malformed(said))
 }
 
@@ -329,7 +329,8 @@ fn agreement(here: &[(&str, Version)], source: &str) -> &'static str {
     }
 }
 
-/// A letter right behind a numeral begins the next token for 5.2 and 5.3, and is an error for the others.
+/// A letter right behind a numeral begins the next token for 5.2 and 5.3, and is an error for the
+/// others.
 #[test]
 fn letters_behind_numerals() {
     let here = installed();

@@ -119,7 +119,8 @@ fn a_full_standard_error_gives_no_panic() {
     }
 }
 
-/// Silence means clean, so a link to nothing is named. Links to folders and what is no file are not scripts.
+/// Silence means clean, so a link to nothing is named. Links to folders and to what is no file are
+/// no scripts.
 #[test]
 #[cfg(unix)]
 fn what_cannot_be_looked_at_is_named() {
