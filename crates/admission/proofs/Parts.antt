@@ -3,7 +3,7 @@ use Prim.Native.Nat.{ℕ, _≤_}
 use mathlib.Core.List.{List}
 use mathlib.Core.Path.{_≡_, sym, ap, ap₂, _∙_}
 use lib.ListN.{length}
-use Rattle.flow.specs.Sheet.{Item, together, kindWords, spanWords, items}
+use Rattle.flow.specs.Sheet.{Item, zip, kindWords, spanWords, items}
 use Rattle.sheet_parts.specs.Parts.{Counted}
 use Rattle.sheet_parts.proofs.Parts.{firstArray, secondArray, part-lengths}
 
@@ -12,5 +12,5 @@ pub long-enough : (h : ℕ) (ws : List ℕ) {xs ys : List ℕ} → Counted h ws 
 long-enough h ws c p q = rw (p, q) (part-lengths h ws c)
 
 -- what a test says of the parts, it says of the sheet's items
-pub on-items : {B : Type 0} (f : List Item → B) (ws : List ℕ) {ks ss : List ℕ} {r : B} → ks ≡ kindWords ws → ss ≡ spanWords ws → r ≡ f (together ks ss) → f (items ws) ≡ r
-on-items f ws p q e = ap f (sym (ap₂ together p q)) ∙ sym e
+pub on-items : {B : Type 0} (f : List Item → B) (ws : List ℕ) {ks ss : List ℕ} {r : B} → ks ≡ kindWords ws → ss ≡ spanWords ws → r ≡ f (zip ks ss) → f (items ws) ≡ r
+on-items f ws p q e = ap f (sym (ap₂ zip p q)) ∙ sym e

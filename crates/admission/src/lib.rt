@@ -1,9 +1,8 @@
 // Admission: for any words the first refusal in the order of precedence, or that the sheets are admitted.
 ghost use mathlib.Core.Path.{_≡_};
 ghost use mathlib.Core.Bool.{false};
-ghost use Rattle.flow.specs.Refusals.{firstApplying, itemTests, sheetVerdict, pairVerdict, badUse};
+ghost use Rattle.flow.specs.Refusals.{leadingTests, firstApplying, itemTests, sheetVerdict, pairVerdict, badUse};
 ghost use Rattle.sheet_parts.specs.Parts.{Counted};
-ghost use Rattle.admission.specs.Leading.{leadingTests};
 use flow::Refusal;
 use flow::Verdict;
 use line_tests::off_the_line;

@@ -18,6 +18,9 @@ const END: u64 = 8;
 
 const PLAIN: u64 = 18;
 
+// What is printed for a no.
+const NO: u64 = 99;
+
 // A span's word is start + 2^32 × end.
 const HALF: u64 = 4294967296;
 
@@ -53,12 +56,12 @@ fn nested_do(sheet: &mut [u64; 2052], depth: usize)
     sheet[2 + n + depth] = HALF;
 }
 
-// A no counts as a refusal that the table has not.
+// No label stands in these pieces: a no would be printed as a number that no refusal has.
 fn label_number(answer: LabelAnswer) -> u64 {
     match answer {
         LabelAnswer::Refused(refusal) => numbers::number(refusal),
         LabelAnswer::Yes => 0,
-        LabelAnswer::No => 9,
+        LabelAnswer::No => NO,
     }
 }
 

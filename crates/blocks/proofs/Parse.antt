@@ -9,29 +9,29 @@ use native.Mathlib.Omega.{arith}
 use lib.ListN.{length, drop, drop-of-length-le}
 use lib.Dec.{eqb, lit≤}
 use borrow.Author.Tests.{ne-eqb}
-use Rattle.flow.specs.Sheet.{Item, kind, together}
+use Rattle.flow.specs.Sheet.{Item, kind, zip}
 use Rattle.flow.specs.Kinds.{closes}
 use Rattle.flow.specs.Tree.{Stmt, Arms, Open, simple, do-block, while-loop, repeat-loop, for-loop, if-stmt, no-more, elseif, otherwise, nothingRead, outer, inFront, opened, read, parse}
-use Rattle.flow.proofs.Room.{length-together}
+use Rattle.flow.proofs.Room.{length-zip}
 use Rattle.flow.proofs.Nesting.{Made, a-do, a-while, a-repeat, a-for, an-if}
 use Rattle.blocks.specs.Open.{itemAt, openAt}
 
 -- ---- the items of a sheet
 
-drop-together : (ks ss : List ℕ) (j : ℕ) → length ss ≡ length ks → j < length ks → drop j (together ks ss) ≡ itemAt ks ss j ∷ drop (suc j) (together ks ss)
-drop-together [] ss j e h = absurd (omega arith)
-drop-together (k ∷ ks) [] j e h = absurd (omega arith)
-drop-together (k ∷ ks) (s ∷ ss) zero e h = refl
-drop-together (k ∷ ks) (s ∷ ss) (suc j) e h = drop-together ks ss j (omega arith) (omega arith)
+drop-zip : (ks ss : List ℕ) (j : ℕ) → length ss ≡ length ks → j < length ks → drop j (zip ks ss) ≡ itemAt ks ss j ∷ drop (suc j) (zip ks ss)
+drop-zip [] ss j e h = absurd (omega arith)
+drop-zip (k ∷ ks) [] j e h = absurd (omega arith)
+drop-zip (k ∷ ks) (s ∷ ss) zero e h = refl
+drop-zip (k ∷ ks) (s ∷ ss) (suc j) e h = drop-zip ks ss j (omega arith) (omega arith)
 
 module _ (ks ss : List ℕ) (e : length ss ≡ length ks) (j : ℕ) where
   pub read-at : j < length ks → openAt ks ss j ≡ read (itemAt ks ss j) (openAt ks ss (j + 1))
   unfolding openAt parse
-  read-at h = rw (drop-together ks ss j e h, add-one)
+  read-at h = rw (drop-zip ks ss j e h, add-one)
 
   pub read-end : length ks ≤ j → openAt ks ss j ≡ record { top = nothingRead; below = [] }
   unfolding openAt parse
-  read-end h = rw (drop-of-length-le (together ks ss) {i = j} (omega (arith, length-together ks ss e)))
+  read-end h = rw (drop-of-length-le (zip ks ss) {i = j} (omega (arith, length-zip ks ss e)))
 
 -- ---- an item by its kind
 

@@ -13,7 +13,7 @@ use borrow.Author.Tests.{ne-eqb, eq-eqb, le-leb, lt-leb, eqb-true, leb-true}
 use Rattle.flow.specs.Sheet.{Item, kind, kindOf, argumentOf}
 use Rattle.flow.specs.Kinds.{kinds, closes, opens}
 use Rattle.flow.specs.Tree.{Stmt, Arms, Frame, Open, simple, do-block, while-loop, repeat-loop, for-loop, if-stmt, no-more, elseif, otherwise, nothingRead, outer, inFront, opened, read, labelName, labelsOf}
-use Rattle.flow.specs.Findings.{onlyIf}
+use Rattle.flow.specs.Locals.{onlyIf}
 use Rattle.blocks.specs.Open.{itemAt, openAt, labelsAt, frameAt, toCome, isLabel, labelsHere, Ender, endsAt, depthAfter, Scanned}
 use Rattle.blocks.proofs.Parse.{read-at, read-close, read-do, read-while, read-repeat, read-for, read-if, read-elseif, read-else, read-simple}
 open record kinds using (LABEL)

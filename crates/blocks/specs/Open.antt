@@ -6,10 +6,10 @@ use mathlib.Core.List.{List, [], _∷_, _++_}
 use Prim.Native.Nat.{ℕ, zero, suc, _+_, _-_, _≤_}
 use lib.ListN.{drop, getD}
 use lib.Dec.{eqb, leb}
-use Rattle.flow.specs.Sheet.{Item, together, kindOf, argumentOf}
+use Rattle.flow.specs.Sheet.{Item, zip, kindOf, argumentOf}
 use Rattle.flow.specs.Kinds.{kinds, opens, closes}
 use Rattle.flow.specs.Tree.{Frame, Open, nothingRead, parse, labelsOf}
-use Rattle.flow.specs.Findings.{onlyIf}
+use Rattle.flow.specs.Locals.{onlyIf}
 open record kinds using (LABEL)
 
 -- ---- the open blocks
@@ -19,7 +19,7 @@ abbrev pub itemAt : List ℕ → List ℕ → ℕ → Item
 itemAt ks ss j = record { word = getD ks j 0; span = getD ss j 0 }
 
 unfoldable pub openAt : List ℕ → List ℕ → ℕ → Open
-openAt ks ss j = parse (drop j (together ks ss))
+openAt ks ss j = parse (drop j (zip ks ss))
 
 -- the labels standing directly in the innermost block at an item, of what is still to come
 abbrev pub labelsAt : List ℕ → List ℕ → ℕ → List ℕ

@@ -5,7 +5,8 @@ use mathlib.Core.Path.{_≡_}
 use mathlib.Core.List.{List}
 use native.Mathlib.Omega.{arith}
 use lib.ListN.{length}
-use Rattle.flow.specs.Findings.{locals, unassignedOf, overwrittenOf, ofEach, findings}
+use Rattle.flow.specs.Locals.{locals}
+use Rattle.flow.specs.Findings.{unassignedOf, overwrittenOf, ofEach, findings}
 use Rattle.locals.specs.Entries.{Added}
 use Rattle.locals.proofs.Entries.{added-append}
 use Rattle.overwritten.specs.Pass.{Lent}

@@ -6,13 +6,13 @@ use mathlib.Core.List.{List, [], _∷_}
 use Prim.Native.Nat.{ℕ}
 use lib.ListN.{getD}
 use lib.Dec.{eqb, ltb}
-use Rattle.search.specs.Search.{closure, keep}
+use Rattle.search.specs.Search.{closure, filter}
 use Rattle.flow.specs.Sheet.{all}
 use Rattle.flow.specs.Kinds.{argumentFits, itemFits, isCode, literalTruth}
-use Rattle.flow.specs.Refusals.{one, miscount, badItem, outnumbered, tooDeep, mayStand, openAfter, pairsUp, besideEachOther, sideBySide, badNesting, inLine, scopesAfter, held, offTheLine, nameFits, namesFit, badName, firstApplying, itemTests, sheetTests, sheetVerdict}
+use Rattle.flow.specs.Refusals.{one, miscount, badItem, outnumbered, tooDeep, mayStand, openAfter, pairsUp, mayFollow, sideBySide, badNesting, inLine, scopesAfter, held, offTheLine, nameFits, namesFit, badName, firstApplying, itemTests, sheetTests, sheetVerdict}
 use Rattle.flow.specs.Answers.{Told, told, foundValues}
 use Rattle.flow.specs.Tree.{inFront, opened, read, parse, tree, labelsOf}
-use Rattle.flow.specs.Graph.{graph, newNode, connect, moveTo, advanceTo, recordCode, setStart, code, closeInto, jump, declare, labelNode, simpleStmt, newNodes, withLabels, entered, inside, inLoop, start, outside, buildStmt, buildBlock, buildArms}
+use Rattle.flow.specs.Graph.{graph, newNode, connect, setCurrent, advanceTo, recordCode, setStart, code, closeInto, jump, declare, labelNode, simpleStmt, newNodes, withLabels, entered, inside, inLoop, startGraph, outside, buildStmt, buildBlock, buildArms}
 use Rattle.flow.specs.Reachable.{reachable, nodeAmong, nodeAt, canRun, run, chart}
 use Rattle.flow.specs.Pieces.{Fact, nodes, edges, reached, offset, lists, prints, sameList, starred}
 use Rattle.chart.specs.Lent.{Columns, chartOf}
@@ -27,12 +27,12 @@ nodesTold S = getD (chart false S .values) 0 0
 -- what a piece says of the graph, its edges, reachability and offsets, over columns that held x before
 abbrev pub called : Columns → List ℕ → Fact → Bool
 called x S (nodes n) = eqb (nodesTold S) n
-called x S (edges v vs) = sameList (keep (λ u. ltb u (nodesTold S)) (getD (chartOf S x .nodes .first) v 0 ∷ getD (chartOf S x .nodes .second) v 0 ∷ [])) vs
-called x S (reached v f) = eqb (getD (chartOf S x .nodes .reachable) v 0) f
+called x S (edges v vs) = sameList (filter (λ u. ltb u (nodesTold S)) (getD (chartOf S x .nodes .first) v 0 ∷ getD (chartOf S x .nodes .second) v 0 ∷ [])) vs
+called x S (reached v f) = eqb (chart false S .number) 0 && eqb (getD (chartOf S x .nodes .reachable) v 0) f
 called x S (offset o f b) = sameTold (run S o) (told 0 (one b ∷ foundValues f))
 called x S (lists fs) = true
 called x S (prints t) = true
 
 pub pieces-called : (x : Columns) → all (λ p. all (called x (p .sheetOf)) (p .facts)) starred ≡ true
-unfolding starred closure argumentFits itemFits isCode literalTruth miscount all badItem outnumbered tooDeep mayStand openAfter pairsUp besideEachOther sideBySide badNesting inLine scopesAfter held offTheLine nameFits namesFit badName firstApplying itemTests sheetTests sheetVerdict inFront opened read parse tree labelsOf newNode connect moveTo advanceTo recordCode setStart code closeInto jump declare labelNode simpleStmt newNodes withLabels entered inside inLoop start outside graph buildStmt buildBlock buildArms reachable nodeAmong nodeAt canRun run chart chartOf
+unfolding starred closure argumentFits itemFits isCode literalTruth miscount all badItem outnumbered tooDeep mayStand openAfter pairsUp mayFollow sideBySide badNesting inLine scopesAfter held offTheLine nameFits namesFit badName firstApplying itemTests sheetTests sheetVerdict inFront opened read parse tree labelsOf newNode connect setCurrent advanceTo recordCode setStart code closeInto jump declare labelNode simpleStmt newNodes withLabels entered inside inLoop startGraph outside graph buildStmt buildBlock buildArms reachable nodeAmong nodeAt canRun run chart chartOf
 pieces-called x = refl

@@ -11,7 +11,7 @@ use Rattle.flow.specs.Sheet.{kindOf, argumentOf, scopeEndOf}
 use Rattle.flow.specs.Kinds.{closes}
 use Rattle.flow.specs.Tree.{Arms, Open, simple, do-block, no-more, elseif, otherwise, inFront, opened, outer}
 use Rattle.flow.specs.Size.{blockNodes, armNodes}
-use Rattle.flow.specs.Graph.{Graph, Settings, nodeCount, code, moveTo, connect, simpleStmt, buildStmt, buildBlock, buildArms, inside, entered, closeInto}
+use Rattle.flow.specs.Graph.{Graph, Settings, nodeCount, code, setCurrent, connect, simpleStmt, buildStmt, buildBlock, buildArms, inside, entered, closeInto}
 use Rattle.blocks.specs.Open.{itemAt, openAt, Ender}
 use Rattle.blocks.proofs.Scan.{ender-closes}
 use Rattle.blocks.proofs.Parse.{read-at, read-end, read-do, read-elseif, read-else, read-close, read-simple}
@@ -124,16 +124,16 @@ module _ (ks ss : List ℕ) (e : length ss ≡ length ks) (few : length ks ≤ 1
         inner p k w = ap (λ (m : ℕ). made m (settingsOf h y) (graphOf ks ss h y)) p ∙ ap (λ (S : Settings). made (b .item + 1) S (graphOf ks ss h y)) w ∙ ap (made (b .item + 1) (settingsOf b x)) k
 
     pub elseif-built : {h t c : GraphBuilder} {y z u : Cols} (s test join : ℕ) (falls : Bool) → kindOf word ≡ 6 → s ≡ scopeEndOf word → ArmRoom ks b
-        → Did ks (λ js g. code (getD js (b .item) 0) (moveTo test g)) 1 (withItem (b .item + 1) b) x h y → Scoped ks ss s h y t z → Did ks (λ js. closeInto join) 0 t z c u
+        → Did ks (λ js g. code (getD js (b .item) 0) (setCurrent test g)) 1 (withItem (b .item + 1) b) x h y → Scoped ks ss s h y t z → Did ks (λ js. closeInto join) 0 t z c u
         → Armed ks ss join test falls b x (b .nodes) falls c u
     unfolding buildArms
     elseif-built s test join falls k es room hd sc cl =
         arm-built (elseif word (getD ss (b .item) 0) (next .top .body) (next .top .arms)) _ 1 s test (b .nodes) join falls falls
         (read-at ks ss e (b .item) lt ∙ read-elseif (itemAt ks ss (b .item)) next k) hd sc cl (omega arith) (omega (arith, elseif-room ks ss e b lt room k))
-        (λ g c. rw es (ap (λ (n : ℕ). buildArms (next .top .arms) n join falls (settingsOf b x) (closeInto join (buildBlock (next .top .body) (inside (scopeEndOf word) (next .top .body) (settingsOf b x) (code (getD ss (b .item) 0) (moveTo test g))) (entered (next .top .body) (code (getD ss (b .item) 0) (moveTo test g)))))) (sym c)))
+        (λ g c. rw es (ap (λ (n : ℕ). buildArms (next .top .arms) n join falls (settingsOf b x) (closeInto join (buildBlock (next .top .body) (inside (scopeEndOf word) (next .top .body) (settingsOf b x) (code (getD ss (b .item) 0) (setCurrent test g))) (entered (next .top .body) (code (getD ss (b .item) 0) (setCurrent test g)))))) (sym c)))
 
     pub else-built : {h t c : GraphBuilder} {y z u : Cols} (s test join : ℕ) (falls : Bool) → kindOf word ≡ 7 → s ≡ scopeEndOf word → test < b .nodes → ArmRoom ks b
-        → Did ks (λ js. moveTo test) 0 (withItem (b .item + 1) b) x h y → Scoped ks ss s h y t z → Did ks (λ js. closeInto join) 0 t z c u
+        → Did ks (λ js. setCurrent test) 0 (withItem (b .item + 1) b) x h y → Scoped ks ss s h y t z → Did ks (λ js. closeInto join) 0 t z c u
         → Armed ks ss join test falls b x test false c u
     unfolding buildArms
     else-built s test join falls k es tl room hd sc cl =

@@ -8,7 +8,7 @@ use native.Mathlib.Omega.{arith}
 use lib.ListN.{length, getD}
 use lib.Dec.{leb, ltb}
 use borrow.Author.Tests.{leb-true, ltb-true}
-use Rattle.flow.specs.Sheet.{Item, kind, kindOf, argumentOf, scopeEndOf, together, kindWords, spanWords, items}
+use Rattle.flow.specs.Sheet.{Item, kind, kindOf, argumentOf, scopeEndOf, zip, kindWords, spanWords, items}
 use Rattle.flow.specs.Tree.{tree}
 use Rattle.flow.specs.Kinds.{itemFits, argumentFits}
 use Rattle.flow.specs.Admitted.{AdmittedSheet, anItem}
@@ -16,7 +16,7 @@ use Rattle.flow.proofs.Members.{and-both}
 use Rattle.blocks.specs.Open.{openAt}
 use Rattle.cfg.specs.Steps.{Sane, WholeRoom}
 
-word-at : (ks ss : List ℕ) → length ss ≡ length ks → (i : ℕ) → i < length ks → getD (together ks ss) i anItem .word ≡ getD ks i 0
+word-at : (ks ss : List ℕ) → length ss ≡ length ks → (i : ℕ) → i < length ks → getD (zip ks ss) i anItem .word ≡ getD ks i 0
 word-at [] ss e i h = absurd (omega arith)
 word-at (k ∷ ks) [] e i h = absurd (omega arith)
 word-at (k ∷ ks) (s ∷ ss) e zero h = refl

@@ -9,7 +9,7 @@ use lib.ListN.{length, set}
 use lib.Dec.{lit<, lit≤}
 use Rattle.flow.specs.Sheet.{kindWords, spanWords, items, outerEnd}
 use Rattle.flow.specs.Tree.{Block, tree}
-use Rattle.flow.specs.Graph.{Graph, Settings, newNode, outside, start, inside, entered, buildBlock, closeInto, graph}
+use Rattle.flow.specs.Graph.{Graph, Settings, newNode, outside, startGraph, inside, entered, buildBlock, closeInto, graph}
 use Rattle.cfg_steps.specs.declared.GraphBuilder.{GraphBuilder}
 use Rattle.blocks.specs.Open.{openAt}
 use Rattle.cfg_edges.specs.Halves.{labelList}
@@ -53,8 +53,8 @@ module _ (e c n l e' : List ℕ) (w : Wide (cols e c n l)) (s : Started e e') wh
     labelNodes = λ k h. absurd (omega arith);
   }
 
-  first-graph : (ks ss : List ℕ) → graphOf ks ss first (cols e' c n l) ≡ start
-  unfolding graphOf painted start newNode
+  first-graph : (ks ss : List ℕ) → graphOf ks ss first (cols e' c n l) ≡ startGraph
+  unfolding graphOf painted startGraph newNode
   first-graph ks ss = rw (s .nodes)
 
   first-settings : settingsOf first (cols e' c n l) ≡ outside

@@ -12,7 +12,7 @@ use Rattle.flow.specs.declared.Truth.the-variants.{Unknown}
 use Rattle.flow.specs.Sheet.{kindOf, conditionOf, scopeEndOf}
 use Rattle.flow.specs.Kinds.{literalTruth}
 use Rattle.flow.specs.Tree.{Stmt, Block, Open, while-loop, repeat-loop, for-loop, if-stmt, no-more, inFront, outer}
-use Rattle.flow.specs.Graph.{Graph, Settings, nodeCount, newNode, code, advanceTo, moveTo, connect, recordCode, enterWhen, unlessTrue, unlessFalse, buildStmt, buildBlock, buildArms, inside, inLoop, entered, closeInto}
+use Rattle.flow.specs.Graph.{Graph, Settings, nodeCount, newNode, code, advanceTo, setCurrent, connect, recordCode, enterWhen, unlessTrue, unlessFalse, buildStmt, buildBlock, buildArms, inside, inLoop, entered, closeInto}
 use Rattle.blocks.specs.Open.{itemAt, openAt}
 use Rattle.blocks.proofs.Parse.{read-at, read-while, read-repeat, read-for, read-if}
 use Rattle.cfg_steps.specs.declared.GraphBuilder.{GraphBuilder}
@@ -122,8 +122,8 @@ moved-cursor {ks} {b} {r} {x} {y} v ok m = record { good = ok; grown = regrown (
       labelsLength = g .labelsLength;
     }
 
-pub graph-cursor : (ks ss : List ℕ) (v : ℕ) (b : GraphBuilder) (x : Cols) → graphOf ks ss (withCursor v b) x ≡ moveTo v (graphOf ks ss b x)
-unfolding graphOf moveTo
+pub graph-cursor : (ks ss : List ℕ) (v : ℕ) (b : GraphBuilder) (x : Cols) → graphOf ks ss (withCursor v b) x ≡ setCurrent v (graphOf ks ss b x)
+unfolding graphOf setCurrent
 graph-cursor ks ss v b x = refl
 
 pub good-cursor : {b : GraphBuilder} {x : Cols} (v : ℕ) → v < b .nodes → Good b x → Good (withCursor v b) x
@@ -197,7 +197,7 @@ module _ (ks ss : List ℕ) (e : length ss ≡ length ks) (few : length ks ≤ 1
       → b .item ≡ i + 1 → Good b x → o .top .arms ≡ no-more
       → Did ks (λ js g. enterWhen truth (newNode (code (getD js i 0) g))) 2 b x h y → Looped ks ss s (b .nodes + 1) (b .nodes) h y t z
       → (t .item < length ks → j ≡ t .item + 1) → (length ks ≤ t .item → j ≡ t .item) → j ≤ length ks → t .item ≤ j
-      → Did ks (λ js g. moveTo (b .nodes + 1) (unlessTrue truth (connect (b .nodes) (b .nodes + 1)) g)) 0 (withItem j t) z r u → Opened ks ss i b x r u
+      → Did ks (λ js g. setCurrent (b .nodes + 1) (unlessTrue truth (connect (b .nodes) (b .nodes + 1)) g)) 0 (withItem j t) z r u → Opened ks ss i b x r u
   unfolding buildStmt
   while-opened truth s j k et es at ok a hd bd j1 j2 j3 j4 tl =
       loop-opened (while-loop word (getD ss i 0) B) _ _ 2 s _ _ j at ok a (read-at ks ss e i lt ∙ read-while (itemAt ks ss i) o k) hd bd j1 j2 j3 j4 tl
@@ -207,7 +207,7 @@ module _ (ks ss : List ℕ) (e : length ss ≡ length ks) (few : length ks ≤ 1
       → b .item ≡ i + 1 → Good b x → o .top .arms ≡ no-more
       → Did ks (λ js g. newNode (newNode (advanceTo (b .nodes) (newNode g)))) 3 b x h y → Looped ks ss s (b .nodes + 2) (b .nodes + 1) h y t z
       → (t .item < length ks → j ≡ t .item + 1) → (length ks ≤ t .item → j ≡ t .item) → j ≤ length ks → t .item ≤ j → getD ss (t .item) 0 ≡ o .top .close
-      → Did ks (λ js g. moveTo (b .nodes + 2) (unlessFalse truth (connect (b .nodes + 1) (b .nodes + 2)) (unlessTrue truth (connect (b .nodes + 1) (b .nodes)) (recordCode (getD js (t .item) 0) (b .nodes + 1) g)))) 0 (withItem j t) z r u → Opened ks ss i b x r u
+      → Did ks (λ js g. setCurrent (b .nodes + 2) (unlessFalse truth (connect (b .nodes + 1) (b .nodes + 2)) (unlessTrue truth (connect (b .nodes + 1) (b .nodes)) (recordCode (getD js (t .item) 0) (b .nodes + 1) g)))) 0 (withItem j t) z r u → Opened ks ss i b x r u
   unfolding buildStmt
   repeat-opened truth s j k et es at ok a hd bd j1 j2 j3 j4 close tl =
       loop-opened (repeat-loop word B (o .top .close)) _ _ 3 s _ _ j at ok a (read-at ks ss e i lt ∙ read-repeat (itemAt ks ss i) o k) hd bd j1 j2 j3 j4 tl
@@ -217,7 +217,7 @@ module _ (ks ss : List ℕ) (e : length ss ≡ length ks) (few : length ks ≤ 1
       → b .item ≡ i + 1 → Good b x → o .top .arms ≡ no-more
       → Did ks (λ js g. newNode (advanceTo (b .nodes + 1) (newNode (code (getD js i 0) g)))) 3 b x h y → Looped ks ss s (b .nodes + 1 + 1) (b .nodes + 1) h y t z
       → (t .item < length ks → j ≡ t .item + 1) → (length ks ≤ t .item → j ≡ t .item) → j ≤ length ks → t .item ≤ j
-      → Did ks (λ js g. moveTo (b .nodes + 1 + 1) (unlessTrue Unknown (connect (b .nodes + 1) (b .nodes + 1 + 1)) g)) 0 (withItem j t) z r u → Opened ks ss i b x r u
+      → Did ks (λ js g. setCurrent (b .nodes + 1 + 1) (unlessTrue Unknown (connect (b .nodes + 1) (b .nodes + 1 + 1)) g)) 0 (withItem j t) z r u → Opened ks ss i b x r u
   unfolding buildStmt
   for-opened {b} s j k es at ok a hd bd j1 j2 j3 j4 tl =
       let two : b .nodes + 1 + 1 ≡ b .nodes + 2 = omega arith in
@@ -244,7 +244,7 @@ module _ (ks ss : List ℕ) (e : length ss ≡ length ks) (few : length ks ≤ 1
         reads = read-at ks ss e i lt ∙ read-if (itemAt ks ss i) o k ∙ ap (inFront (if-stmt word (getD ss i 0) B (o .top .arms))) (sym out);
         built =
             graph-cursor ks ss (b .nodes + 1) r v
-            ∙ ap (moveTo (b .nodes + 1))
+            ∙ ap (setCurrent (b .nodes + 1))
             (ch .built ∙ ap (λ (w : Open). buildArms (w .top .arms) (b .nodes) (b .nodes + 1) true (settingsOf c u) (graphOf ks ss c u)) shut
             ∙ ap (λ (S : Settings). buildArms (o .top .arms) (b .nodes) (b .nodes + 1) true S (graphOf ks ss c u)) (m3 .settings)
             ∙ ap (buildArms (o .top .arms) (b .nodes) (b .nodes + 1) true (settingsOf b x)) (cl .built ss ∙ ap (closeInto (b .nodes + 1)) (sc .built ∙ inner hi' (hd .built ss) (hd .settings))))
@@ -260,6 +260,6 @@ module _ (ks ss : List ℕ) (e : length ss ≡ length ks) (few : length ks ≤ 1
       inner p q w = ap (λ (m : ℕ). made m (settingsOf h y) (graphOf ks ss h y)) p ∙ ap (λ (S : Settings). made (i + 1) S (graphOf ks ss h y)) w ∙ ap (made (i + 1) (settingsOf b x)) q
 
       done-if : (g : Graph) → nodeCount g ≡ b .nodes
-          → moveTo (b .nodes + 1) (buildArms (o .top .arms) (b .nodes) (b .nodes + 1) true (settingsOf b x) (closeInto (b .nodes + 1) (made (i + 1) (settingsOf b x) (newNode (code (getD ss i 0) g)))))
+          → setCurrent (b .nodes + 1) (buildArms (o .top .arms) (b .nodes) (b .nodes + 1) true (settingsOf b x) (closeInto (b .nodes + 1) (made (i + 1) (settingsOf b x) (newNode (code (getD ss i 0) g)))))
           ≡ buildStmt (if-stmt word (getD ss i 0) B (o .top .arms)) (settingsOf b x) g
       done-if g q = rw (es, q)

@@ -8,7 +8,7 @@ use lib.ListN.{length, getD, take, drop}
 use Rattle.flow.specs.Sheet.{kindOf, scopeEndOf}
 use Rattle.flow.specs.Tree.{Stmt, Open, done, no-more, inFront, outer, labelName, labelsOf}
 use Rattle.flow.specs.Size.{stmtNodes, blockNodes, armNodes}
-use Rattle.flow.specs.Graph.{exits, buildStmt, buildBlock, buildArms, inside, inLoop, entered, closeInto, outside, start}
+use Rattle.flow.specs.Graph.{exits, buildStmt, buildBlock, buildArms, inside, inLoop, entered, closeInto, outside, startGraph}
 use Rattle.blocks.specs.Open.{openAt, Ender}
 use Rattle.cfg_steps.specs.declared.GraphBuilder.{GraphBuilder}
 use Rattle.cfg.specs.declared.IfBuilder.{IfBuilder}
@@ -165,4 +165,4 @@ pub record Whole (ks ss : List ℕ) (e : ℕ) (x : Cols) (r : GraphBuilder) (y :
   pub namesLength : length (y .names) ≡ length (x .names)
   pub labelsLength : length (y .labels) ≡ length (x .labels)
   pub built : graphOf ks ss r y
-      ≡ closeInto End (buildBlock (openAt ks ss 0 .top .body) (inside e (openAt ks ss 0 .top .body) outside start) (entered (openAt ks ss 0 .top .body) start))
+      ≡ closeInto End (buildBlock (openAt ks ss 0 .top .body) (inside e (openAt ks ss 0 .top .body) outside startGraph) (entered (openAt ks ss 0 .top .body) startGraph))

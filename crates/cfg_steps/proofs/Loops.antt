@@ -8,7 +8,7 @@ use Prim.Native.Nat.{ℕ, _+_, _<_}
 use native.Mathlib.Omega.{arith}
 use Rattle.flow.specs.declared.Truth.{Truth}
 use Rattle.flow.specs.declared.Truth.the-variants.{False, True, Unknown}
-use Rattle.flow.specs.Graph.{Graph, absent, connect, moveTo, enterWhen, unlessTrue, unlessFalse}
+use Rattle.flow.specs.Graph.{Graph, absent, connect, setCurrent, enterWhen, unlessTrue, unlessFalse}
 use Rattle.cfg_steps.specs.declared.GraphBuilder.{GraphBuilder}
 use Rattle.cfg_edges.specs.Halves.{joined, mayFail, mayHold}
 use Rattle.cfg_steps.specs.Columns.{Cols, cols, graphOf, settingsOf, Good, Did}
@@ -16,8 +16,8 @@ use Rattle.cfg_steps.proofs.Ops.{edge-did, withCursor, did-trans, curre
 use Rattle.cfg_steps.proofs.Simple.{did-as}
 
 -- another node is current
-pub move-did : (ks : List ℕ) (b : GraphBuilder) (e c n l : List ℕ) (ok : Good b (cols e c n l)) (v : ℕ) → (v < b .nodes) ⊎ (v ≡ absent) → Did ks (λ ss. moveTo v) 0 b (cols e c n l) (withCursor ks b e c n l ok v) (cols e c n l)
-unfolding graphOf settingsOf moveTo
+pub move-did : (ks : List ℕ) (b : GraphBuilder) (e c n l : List ℕ) (ok : Good b (cols e c n l)) (v : ℕ) → (v < b .nodes) ⊎ (v ≡ absent) → Did ks (λ ss. setCurrent v) 0 b (cols e c n l) (withCursor ks b e c n l ok v) (cols e c n l)
+unfolding graphOf settingsOf setCurrent
 move-did ks b e c n l ok v hv = record {
   good = record {
     wideEdges = ok .wideEdges;
@@ -62,7 +62,7 @@ move-did ks b e c n l ok v hv = record {
 
 -- an edge where it is wanted, after which v is current
 pub if-did : (ks : List ℕ) (b : GraphBuilder) (e c n l : List ℕ) (ok : Good b (cols e c n l)) (a t v : ℕ) (wanted : Bool) (e' : List ℕ) → e' ≡ cond wanted (joined a t e) e → a < b .nodes → t < b .nodes → (v < b .nodes) ⊎ (v ≡ absent)
-    → Did ks (λ ss g. moveTo v (cond wanted (connect a t g) g)) 0 b (cols e c n l) (withCursor ks b e c n l ok v) (cols e' c n l)
+    → Did ks (λ ss g. setCurrent v (cond wanted (connect a t g) g)) 0 b (cols e c n l) (withCursor ks b e c n l ok v) (cols e' c n l)
 if-did ks b e c n l ok a t v true e' q ha ht hv = edge-did ks b e c n l ok a t v e' q (inl ha) ht hv
 if-did ks b e c n l ok a t v false e' q ha ht hv = rw q (move-did ks b e c n l ok v hv)
 
@@ -81,24 +81,24 @@ enter-held False g e = absurd (let z : _≡_ {A = ℕ} 0 1 = ap (λ (b : Bool). 
 enter-held True g e = refl
 enter-held Unknown g e = refl
 
-pub enter-never : (t : Truth) (g : Graph) → mayHold t ≡ false → moveTo absent g ≡ enterWhen t g
+pub enter-never : (t : Truth) (g : Graph) → mayHold t ≡ false → setCurrent absent g ≡ enterWhen t g
 enter-never False g e = refl
 enter-never True g e = absurd (let z : _≡_ {A = ℕ} 1 0 = ap (λ (b : Bool). cond b 1 0) e in omega arith)
 enter-never Unknown g e = absurd (let z : _≡_ {A = ℕ} 1 0 = ap (λ (b : Bool). cond b 1 0) e in omega arith)
 
 -- the current node is overwritten
-pub moved-twice : (u v : ℕ) (w : Bool) (a b : ℕ) (g : Graph) → moveTo v (cond w (connect a b (moveTo u g)) (moveTo u g)) ≡ moveTo v (cond w (connect a b g) g)
-unfolding moveTo connect
+pub moved-twice : (u v : ℕ) (w : Bool) (a b : ℕ) (g : Graph) → setCurrent v (cond w (connect a b (setCurrent u g)) (setCurrent u g)) ≡ setCurrent v (cond w (connect a b g) g)
+unfolding setCurrent connect
 moved-twice u v true a b g = refl
 moved-twice u v false a b g = refl
 
 pub repeat-did : (ks e c n l : List ℕ) {b : GraphBuilder} {x : Cols} (t : GraphBuilder) (body : ℕ) (truth : Truth) (e1 e2 : List ℕ) {f : List ℕ → Graph → Graph} {p q : Bool}
     → (d : Did ks f 0 b x t (cols e c n l)) → p ≡ mayFail truth → q ≡ mayHold truth → e1 ≡ cond p (joined (body + 1) body e) e → e2 ≡ cond q (joined (body + 1) (body + 2) e1) e1 → body + 2 < t .nodes
-    → Did ks (λ ss g. moveTo (body + 2) (unlessFalse truth (connect (body + 1) (body + 2)) (unlessTrue truth (connect (body + 1) body) (f ss g)))) 0 b x (withCursor ks t e c n l (d .good) (body + 2)) (cols e2 c n l)
+    → Did ks (λ ss g. setCurrent (body + 2) (unlessFalse truth (connect (body + 1) (body + 2)) (unlessTrue truth (connect (body + 1) body) (f ss g)))) 0 b x (withCursor ks t e c n l (d .good) (body + 2)) (cols e2 c n l)
 repeat-did ks e c n l t body truth e1 e2 {f} {p} {q} d ep eq h1 h2 hb =
     let d1 = if-did ks t e c n l (d .good) (body + 1) body (body + 2) p e1 h1 (omega arith) (omega arith) (inl hb) in
     let d2 = if-did ks _ e1 c n l (d1 .good) (body + 1) (body + 2) (body + 2) q e2 h2 (omega arith) hb (inl hb) in
-    did-as (omega arith) (λ ss g. moved-twice (body + 2) (body + 2) q (body + 1) (body + 2) _ ∙ ap (moveTo (body + 2)) (same-edges truth p q ep eq (f ss g))) (did-trans (did-trans d d1) d2)
+    did-as (omega arith) (λ ss g. moved-twice (body + 2) (body + 2) q (body + 1) (body + 2) _ ∙ ap (setCurrent (body + 2)) (same-edges truth p q ep eq (f ss g))) (did-trans (did-trans d d1) d2)
   where
     same-edges : (t : Truth) (p q : Bool) → p ≡ mayFail t → q ≡ mayHold t → (g : Graph)
         → cond q (connect (body + 1) (body + 2) (cond p (connect (body + 1) body g) g)) (cond p (connect (body + 1) body g) g)
@@ -106,8 +106,8 @@ repeat-did ks e c n l t body truth e1 e2 {f} {p} {q} d ep eq h1 h2 hb =
     same-edges t p q ep eq g = rw (ep, eq, fails-edge t (body + 1) body g) (holds-edge t (body + 1) (body + 2) _)
 
 -- where the node is current already
-stay : (v : ℕ) (g : Graph) → g .current ≡ v → moveTo v g ≡ g
-unfolding moveTo
+stay : (v : ℕ) (g : Graph) → g .current ≡ v → setCurrent v g ≡ g
+unfolding setCurrent
 stay v g e = rw (← e)
 
 connect-current : (w : Bool) (a b : ℕ) (g : Graph) → cond w (connect a b g) g .current ≡ g .current

@@ -13,7 +13,7 @@ use lib.Seq.{take-suc-set, drop-set-lt, take-set-lt, getD-take, getD-set-same, g
 use lib.Dec.{eqb}
 use borrow.Author.Tests.{eqb-false, ne-eqb}
 use Rattle.flow.specs.Sheet.{startOf}
-use Rattle.flow.specs.Graph.{Graph, Nodes, Codes, Names, absent, nodeCount, newNode, connect, moveTo, advanceTo, closeInto, recordCode, setStart, code, jump, declare}
+use Rattle.flow.specs.Graph.{Graph, Nodes, Codes, Names, absent, nodeCount, newNode, connect, setCurrent, advanceTo, closeInto, recordCode, setStart, code, jump, declare}
 use Rattle.cfg_steps.specs.declared.GraphBuilder.{GraphBuilder}
 use Rattle.cfg_edges.specs.Halves.{lo, hi, joined, labelList}
 use Rattle.cfg_edges.proofs.Lookup.{is-node}
@@ -87,8 +87,8 @@ module _ (n a b : ℕ) (es : List ℕ) (ha : (a < n) ⊎ (a ≡ absent)) (hn : n
   set-half : (f : ℕ → ℕ) (w : ℕ) → a < n → map f (take n (set es a w)) ≡ set (map f (take n es)) a (f w)
   set-half f w h = rw (take-set-lt n es a w h) (map-set f (take n es) a w)
 
-  keep-half : (f : ℕ → ℕ) (w : ℕ) → a < n → f w ≡ f (getD es a 0) → map f (take n (set es a w)) ≡ map f (take n es)
-  keep-half f w h e = rw (take-set-lt n es a w h) (map-set-same f (take n es) a w 0 (e ∙ ap f (sym (getD-take n es a 0 h))))
+  filter-half : (f : ℕ → ℕ) (w : ℕ) → a < n → f w ≡ f (getD es a 0) → map f (take n (set es a w)) ≡ map f (take n es)
+  filter-half f w h e = rw (take-set-lt n es a w h) (map-set-same f (take n es) a w 0 (e ∙ ap f (sym (getD-take n es a 0 h))))
 
   same-nodes : {f f' s s' : List ℕ} (p : List ℕ) → f ≡ f' → s ≡ s' → _≡_ {A = Nodes} (record { first = f; second = s; start = p }) (record { first = f'; second = s'; start = p })
   same-nodes p e q = cc
@@ -108,9 +108,9 @@ module _ (n a b : ℕ) (es : List ℕ) (ha : (a < n) ⊎ (a ≡ absent)) (hn : n
           (cond v (record { first = map lo (take n es); second = set (map hi (take n es)) a b; start = ps }) (nodesOf es ps))
       cases true v h =
           same-nodes ps (set-half lo (b + hi (getD es a 0) * 2 ^ 32) h ∙ ap (set (map lo (take n es)) a) (lo-of b (hi (getD es a 0)) hb))
-          (keep-half hi (b + hi (getD es a 0) * 2 ^ 32) h (hi-of b (hi (getD es a 0)) hb))
+          (filter-half hi (b + hi (getD es a 0) * 2 ^ 32) h (hi-of b (hi (getD es a 0)) hb))
       cases false true h =
-          same-nodes ps (keep-half lo (lo (getD es a 0) + b * 2 ^ 32) h (lo-of (lo (getD es a 0)) b (omega arith)))
+          same-nodes ps (filter-half lo (lo (getD es a 0) + b * 2 ^ 32) h (lo-of (lo (getD es a 0)) b (omega arith)))
           (set-half hi (lo (getD es a 0) + b * 2 ^ 32) h ∙ ap (set (map hi (take n es)) a) (hi-of (lo (getD es a 0)) b (omega arith)))
       cases false false h = refl
 
@@ -257,8 +257,8 @@ module _ (ks : List ℕ) (b : GraphBuilder) (e c n l : List ℕ) (ok : Good b (c
 
   -- an edge from a to t, after which v is current
   pub edge-did : (a t v : ℕ) (e' : List ℕ) → e' ≡ joined a t e → (a < b .nodes) ⊎ (a ≡ absent) → t < b .nodes → (v < b .nodes) ⊎ (v ≡ absent)
-      → Did ks (λ ss g. moveTo v (connect a t g)) 0 b (cols e c n l) (withCursor v) (cols e' c n l)
-  unfolding graphOf settingsOf moveTo connect
+      → Did ks (λ ss g. setCurrent v (connect a t g)) 0 b (cols e c n l) (withCursor v) (cols e' c n l)
+  unfolding graphOf settingsOf setCurrent connect
   edge-did a t v e' q ha ht hv =
       let long : b .nodes ≤ length e = omega (arith, ok .wideEdges, ok .nodes) in
       let small : t < 2 ^ 32 = omega (arith, ok .nodes) in
@@ -306,7 +306,7 @@ module _ (ks : List ℕ) (b : GraphBuilder) (e c n l : List ℕ) (ok : Good b (c
       }
 
   from-current : (t v : ℕ) (e' : List ℕ) → e' ≡ joined (b .cursor) t e → t < b .nodes → (v < b .nodes) ⊎ (v ≡ absent)
-      → Did ks (λ ss g. moveTo v (connect (g .current) t g)) 0 b (cols e c n l) (withCursor v) (cols e' c n l)
+      → Did ks (λ ss g. setCurrent v (connect (g .current) t g)) 0 b (cols e c n l) (withCursor v) (cols e' c n l)
   from-current t v e' q ht hv =
       let d = edge-did (b .cursor) t v e' q (ok .cursor) ht hv in
       record {
@@ -316,7 +316,7 @@ module _ (ks : List ℕ) (b : GraphBuilder) (e c n l : List ℕ) (ok : Good b (c
         nodes = d .nodes;
         labels = d .labels;
         settings = d .settings;
-        built = λ ss. d .built ss ∙ ap (λ (a : ℕ). moveTo v (connect a t (graphOf ks ss b (cols e c n l)))) (sym (current-of ks ss b (cols e c n l)));
+        built = λ ss. d .built ss ∙ ap (λ (a : ℕ). setCurrent v (connect a t (graphOf ks ss b (cols e c n l)))) (sym (current-of ks ss b (cols e c n l)));
       }
 
   pub advance-did : (t : ℕ) (e' : List ℕ) → e' ≡ joined (b .cursor) t e → t < b .nodes → Did ks (λ ss. advanceTo t) 0 b (cols e c n l) (withCursor t) (cols e' c n l)

@@ -9,9 +9,9 @@ use lib.ListN.{length, take, drop, getD, set, replicate}
 use lib.Dec.{eqb}
 use Rattle.search.specs.Lent.{Column, held, left}
 use Rattle.flow.specs.declared.Truth.{Truth}
-use Rattle.flow.specs.Sheet.{kindOf, argumentOf, startOf, oneOf}
+use Rattle.flow.specs.Sheet.{kindOf, argumentOf, startOf, member}
 use Rattle.flow.specs.Kinds.{kinds, raises}
-use Rattle.flow.specs.Graph.{exits, newNodes, withLabels, standAt, labelNode, orBreak, jump, code, connect, moveTo, recordCode, unlessTrue, unlessFalse, simpleStmt, Graph, Settings, Label, absent}
+use Rattle.flow.specs.Graph.{exits, newNodes, withLabels, standAt, labelNode, orBreak, jump, code, connect, setCurrent, recordCode, unlessTrue, unlessFalse, simpleStmt, Graph, Settings, Label, absent}
 use Rattle.blocks.specs.Open.{Scanned}
 use Rattle.cfg_edges.specs.Halves.{lo, hi, labelList}
 use Rattle.cfg_steps.specs.declared.GraphBuilder.{GraphBuilder}
@@ -37,7 +37,7 @@ Lent = (Column → List ℕ) → Cols
 
 -- "LABEL .. (code start remains 0)", and UNTIL's "code start remains 0": an item that closes or is a label gives its node none
 abbrev pub hasStart : ℕ → Bool
-hasStart w = not (oneOf (kindOf w) (END ∷ UNTIL ∷ LABEL ∷ []))
+hasStart w = not (member (kindOf w) (END ∷ UNTIL ∷ LABEL ∷ []))
 
 -- the code starts that code words give, by the sheet's kinds and spans
 unfoldable pub painted : List ℕ → List ℕ → List ℕ → List ℕ → List ℕ
@@ -149,7 +149,7 @@ DoesCode ks i starts f n b r x = Good b (x held) → hasStart (getD ks i 0) ≡ 
 
 -- "UNTIL records its span at condition"; "then condition to body unless true, to after unless false": the three nodes stand in a row
 abbrev pub repeatEnd : Truth → ℕ → ℕ → Graph → Graph
-repeatEnd t body s g = moveTo (body + 2) (unlessFalse t (connect (body + 1) (body + 2)) (unlessTrue t (connect (body + 1) body) (recordCode s (body + 1) g)))
+repeatEnd t body s g = setCurrent (body + 2) (unlessFalse t (connect (body + 1) (body + 2)) (unlessTrue t (connect (body + 1) body) (recordCode s (body + 1) g)))
 
 -- ---- the labels standing directly in a block
 
@@ -203,7 +203,7 @@ coded k a breakTo continueTo s g =
 
 -- how many nodes a statement of one item makes; a label's node is made as its block is entered
 abbrev pub simpleMade : ℕ → ℕ
-simpleMade k = cond (oneOf k (NAME ∷ LABEL ∷ EMPTY ∷ [])) 0 1
+simpleMade k = cond (member k (NAME ∷ LABEL ∷ EMPTY ∷ [])) 0 1
 
 -- a call from b to r does the statement of the one item i, whose word is w
 abbrev pub DoesSimple : List ℕ → ℕ → ℕ → GraphBuilder → GraphBuilder → Lent → Type 0

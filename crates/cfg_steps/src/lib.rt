@@ -7,7 +7,7 @@ ghost use mathlib.Core.List.{List, [], _∷_};
 ghost use Prim.Native.Nat.{ℕ, _+_, _≤_, _<_, _^_};
 ghost use lib.ListN.{length, getD};
 ghost use Rattle.flow.specs.Sheet.{kindOf, argumentOf};
-ghost use Rattle.flow.specs.Graph.{newNode, advanceTo, code, closeInto, jump, recordCode, declare, connect, moveTo, enterWhen, unlessTrue};
+ghost use Rattle.flow.specs.Graph.{newNode, advanceTo, code, closeInto, jump, recordCode, declare, connect, setCurrent, enterWhen, unlessTrue};
 ghost use Rattle.blocks.specs.Open.{labelsAt, labelsHere};
 ghost use Rattle.cfg_edges.specs.Halves.{labelList};
 ghost use Rattle.search.specs.Lent.{held, left};
@@ -382,7 +382,7 @@ impl GraphBuilder {
     pub fn loop_end(mut self, edges: &mut [u64], head: usize, truth: Truth) -> GraphBuilder
         requires { ⌜ ((c n l : List ℕ) × Good self (cols (now edges) c n l)) ⌝ }
         requires { ⌜ head + 1 < self .nodes ⌝ }
-        ensures { λ r. ⌜ ((ks c n l : List ℕ) → Does ks (λ ss g. moveTo (head + 1) (unlessTrue truth (connect head (head + 1)) g)) 0 self r (λ at. cols (at edges) c n l)) ⌝ }
+        ensures { λ r. ⌜ ((ks c n l : List ℕ) → Does ks (λ ss g. setCurrent (head + 1) (unlessTrue truth (connect head (head + 1)) g)) 0 self r (λ at. cols (at edges) c n l)) ⌝ }
     {
         let fails = may_fail(truth);
         connect_if(edges, head, head + 1, fails);
@@ -422,7 +422,7 @@ impl GraphBuilder {
     ) -> GraphBuilder
         requires { ⌜ ((n l : List ℕ) × Good self (cols (now edges) (now codes) n l)) ⌝ }
         requires { ⌜ (self .nodes < 1600) × (self .codes < self .item) × (i < self .item) × (test < self .nodes) ⌝ }
-        ensures { λ r. ⌜ ((ks n l : List ℕ) → DoesCode ks i true (λ s g. code s (moveTo test g)) 1 self r (λ at. cols (at edges) (at codes) n l)) ⌝ }
+        ensures { λ r. ⌜ ((ks n l : List ℕ) → DoesCode ks i true (λ s g. code s (setCurrent test g)) 1 self r (λ at. cols (at edges) (at codes) n l)) ⌝ }
     {
         self.cursor = test;
         self.code(edges, codes, i)

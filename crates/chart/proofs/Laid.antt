@@ -8,7 +8,7 @@ use lib.ListN.{length, getD, take, drop, replicate, length-map, length-replicate
 use lib.Seq.{length-take-le, take-at, getD-take}
 use Rattle.flow.specs.declared.Counts.{Counts}
 use Rattle.flow.specs.Sheet.{kindWords, spanWords}
-use Rattle.flow.specs.Graph.{Graph, nodeCount, entry, graph}
+use Rattle.flow.specs.Graph.{Graph, nodeCount, entryNode, graph}
 use Rattle.flow.specs.Reachable.{reachable, countsOf}
 use Rattle.flow.specs.Admitted.{AdmittedSheet}
 use Rattle.flow.proofs.Flags.{reachable-length}
@@ -20,14 +20,14 @@ use Rattle.cfg.specs.Steps.{Sane, Wide as WideWords, WholeRoom, Whole}
 use Rattle.cfg.proofs.Sanity.{sane, whole-room}
 use Rattle.cfg.proofs.Sheets.{is-graph}
 use Rattle.code_columns.specs.Words.{CodeWithin}
-use Rattle.chart.specs.Lent.{over, PartsOf, columns, Wide, chartOf, Charted}
+use Rattle.chart.specs.Lent.{overlay, PartsOf, columns, Wide, chartOf, Charted}
 
 -- the first n cells of a column that begins with f of n words
 pub front : (f : ℕ → ℕ) (n : ℕ) (ws rest : List ℕ) → n ≤ length ws → take n (map f (take n ws) ++ rest) ≡ map f (take n ws)
 front f n ws rest h = take-at (map f (take n ws)) rest n (length-map (take n ws) f ∙ length-take-le n ws h)
 
 -- a column that begins with n entries and is past them as it was
-pub laid : {n : ℕ} {entries entries' col : List ℕ} (old mid : List ℕ) → entries ≡ entries' → length entries ≡ n → drop n mid ≡ drop n old → col ≡ entries' ++ drop n mid → col ≡ over entries old
+pub laid : {n : ℕ} {entries entries' col : List ℕ} (old mid : List ℕ) → entries ≡ entries' → length entries ≡ n → drop n mid ≡ drop n old → col ≡ entries' ++ drop n mid → col ≡ overlay entries old
 laid {n} {entries} {entries'} {col} old mid e l d q = q ∙ ap (λ (t : List ℕ). entries' ++ t) d ∙ ap (λ (t : List ℕ). t ++ drop n old) (sym e) ∙ ap (λ (k : ℕ). entries ++ drop k old) (sym l)
 
 -- the parts of a sheet
@@ -83,7 +83,7 @@ module _ {S ks ss : List ℕ} {e : ℕ} (p : PartsOf S ks ss e) {f cn nn r f' cn
 
   -- what the callees ask for
   module _ {s t cs ns ne : List ℕ} (x : Wide (columns f s t r cs cn ns nn ne)) where
-    pub nodes-ask : (entry < b .nodes) × (b .nodes ≤ length f') × (b .nodes ≤ length s) × (b .nodes ≤ length t) × (b .nodes ≤ length r')
+    pub nodes-ask : (entryNode < b .nodes) × (b .nodes ≤ length f') × (b .nodes ≤ length s) × (b .nodes ≤ length t) × (b .nodes ≤ length r')
     nodes-ask =
         let few = w .good .nodes in
         (omega (arith, w .good .exits), nodes-long, omega (arith, x .second), omega (arith, x .start), omega (arith, w .good .wideLabels))

@@ -12,7 +12,7 @@ use Rattle.flow.specs.Reachable.{reachable}
 use Rattle.flow.specs.Admitted.{AdmittedSheet}
 use Rattle.flow.proofs.Flags.{reachable-length, reachable-flagged}
 use Rattle.offsets.specs.Codes.{Rising}
-use Rattle.chart.specs.Lent.{over, Columns, Lent, chartOf, Charted, Shown}
+use Rattle.chart.specs.Lent.{overlay, Columns, Lent, chartOf, Charted, Shown}
 
 -- a column that begins with n entries
 pub record Begins (n : ℕ) (entries col : List ℕ) : Type 0 where
@@ -20,7 +20,7 @@ pub record Begins (n : ℕ) (entries col : List ℕ) : Type 0 where
   pub long : n ≤ length col
   pub cell : (i : ℕ) → i < n → getD col i 0 ≡ getD entries i 0
 
-begins : {n : ℕ} (entries old : List ℕ) {col : List ℕ} → length entries ≡ n → col ≡ over entries old → Begins n entries col
+begins : {n : ℕ} (entries old : List ℕ) {col : List ℕ} → length entries ≡ n → col ≡ overlay entries old → Begins n entries col
 begins {n} entries old e q = record {
   cells = rw q (take-at entries (drop (length entries) old) n e);
   long = rw q (simp length-append (omega arith));
@@ -89,6 +89,7 @@ module _ {S : List ℕ} {r : Counts} {l : Lent} (a : AdmittedSheet S) (h : Chart
   pub shown : Shown S y
   shown = record {
     parallel = h .parallel;
+    localNames = sym (a .allNames);
     flagged = record {
       bit = λ v q. rw (flags-read .cell v (omega (arith, nodes-are))) (reachable-flagged S .bit v q);
       exactly = λ v q. rw (flags-read .cell v (omega (arith, nodes-are))) (reachable-flagged S .exactly v q);

@@ -11,13 +11,14 @@ use Rattle.flow.specs.declared.Counts.{Counts}
 use Rattle.flow.specs.declared.Verdict.{Verdict}
 use Rattle.flow.specs.declared.Verdict.the-variants.{Admitted, Refused}
 use Rattle.flow.specs.Sheet.{kindWords, spanWords, outerEnd}
+use Rattle.flow.specs.Locals.{locals}
 use Rattle.flow.specs.Admitted.{AdmittedSheet}
 use Rattle.flow.specs.Graph.{graph}
 use Rattle.flow.specs.Reachable.{reachable, countsOf, Parallel, Flagged}
 
 -- "cells past the written entries keep their content"
-abbrev pub over : List ℕ → List ℕ → List ℕ
-over written old = written ++ drop (length written) old
+abbrev pub overlay : List ℕ → List ℕ → List ℕ
+overlay written old = written ++ drop (length written) old
 
 -- the parts of an admitted sheet
 pub record PartsOf (S ks ss : List ℕ) (e : ℕ) : Type 0 where
@@ -87,9 +88,9 @@ pub record Wide (x : Columns) : Type 0 where
 -- what "Chart writes", over what stood there
 unfoldable pub chartOf : List ℕ → Columns → Columns
 chartOf S x =
-    columns (over (graph S .nodes .first) (x .nodes .first)) (over (graph S .nodes .second) (x .nodes .second)) (over (graph S .nodes .start) (x .nodes .start)) (over (reachable (graph S)) (x .nodes .reachable))
-    (over (graph S .codes .span) (x .codes .span)) (over (graph S .codes .node) (x .codes .node))
-    (over (graph S .names .span) (x .names .span)) (over (graph S .names .node) (x .names .node)) (over (graph S .names .scopeEnd) (x .names .scopeEnd))
+    columns (overlay (graph S .nodes .first) (x .nodes .first)) (overlay (graph S .nodes .second) (x .nodes .second)) (overlay (graph S .nodes .start) (x .nodes .start)) (overlay (reachable (graph S)) (x .nodes .reachable))
+    (overlay (graph S .codes .span) (x .codes .span)) (overlay (graph S .codes .node) (x .codes .node))
+    (overlay (graph S .names .span) (x .names .span)) (overlay (graph S .names .node) (x .names .node)) (overlay (graph S .names .scopeEnd) (x .names .scopeEnd))
 
 -- "and returns the three counts"; parallel columns are equally long, and codes are at nodes
 pub record Charted (S : List ℕ) (r : Counts) (l : Lent) : Type 0 where
@@ -107,7 +108,8 @@ ChartedOf kinds spans e r l = (S : List ℕ) → PartsOf S kinds spans e → Cha
 abbrev pub chartLeaves : Verdict → List ℕ → Columns → Columns
 chartLeaves v S x = elim v [ Refused r ↦ x | Admitted ↦ chartOf S x ]
 
--- what the columns of an accepted call show: those of one count are equally long, and each node's flag is 1 exactly where a path from the entry leads
+-- what the columns of an accepted call show: those of one count are equally long, there is one local a name, and each node's flag is 1 exactly where a path from the entry leads
 pub record Shown (S : List ℕ) (y : Columns) : Type 0 where
   pub parallel : Parallel (graph S)
+  pub localNames : length (locals S) ≡ length (graph S .names .span)
   pub flagged : Flagged (graph S) (y .nodes .reachable)

@@ -3,7 +3,7 @@ ghost use mathlib.Core.Path.{_≡_};
 ghost use mathlib.Core.List.{List, _++_, map};
 ghost use Prim.Native.Nat.{ℕ, _<_, _≤_};
 ghost use lib.ListN.{length, take, drop};
-ghost use Rattle.flow.specs.Graph.{entry};
+ghost use Rattle.flow.specs.Graph.{entryNode};
 ghost use Rattle.flow.specs.Admitted.{AdmittedSheet};
 ghost use Rattle.cfg_edges.specs.Halves.{lo, hi};
 ghost use Rattle.reach.specs.Columns.{FlagsOver};
@@ -24,7 +24,7 @@ fn split_nodes(
     reachable: &mut [u64],
     n: usize,
 )
-    requires { ⌜ (entry < n) × (n ≤ length (now first)) × (n ≤ length (now second)) × (n ≤ length (now start)) × (n ≤ length (now reachable)) ⌝ }
+    requires { ⌜ (entryNode < n) × (n ≤ length (now first)) × (n ≤ length (now second)) × (n ≤ length (now start)) × (n ≤ length (now reachable)) ⌝ }
     ensures { λ _. ⌜ now (first .exit) ≡ map lo (take n (now (first .entry))) ++ drop n (now (first .entry)) ⌝ }
     ensures { λ _. ⌜ now (second .exit) ≡ map hi (take n (now (first .entry))) ++ drop n (now (second .entry)) ⌝ }
     ensures { λ _. ⌜ (drop n (now (start .exit)) ≡ drop n (now (start .entry))) × (length (now (start .exit)) ≡ length (now (start .entry))) ⌝ }

@@ -3,7 +3,7 @@
 use mathlib.Core.Path.{_≡_, refl, sym, _∙_}
 use mathlib.Core.Logic.{_↔_}
 use mathlib.Core.Bool.{Bool, true, false, _&&_, and-true, and-false}
-use Rattle.flow.specs.Findings.{Local, noValue, tracked}
+use Rattle.flow.specs.Locals.{Local, noValue, tracked}
 use Rattle.declarations.specs.Due.{isDue}
 
 module _ (l : Local) where

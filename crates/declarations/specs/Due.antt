@@ -2,7 +2,7 @@
 -- Assumes nothing: these are definitions.
 use mathlib.Core.Path.{_≡_}
 use mathlib.Core.Bool.{Bool, _&&_}
-use Rattle.flow.specs.Findings.{Local, noValue, tracked, captured}
+use Rattle.flow.specs.Locals.{Local, noValue, tracked, captured}
 use Rattle.declarations.specs.declared.Declared.{Declared}
 
 -- a local's walk is due: it is tracked, its uses are found, and it has no value

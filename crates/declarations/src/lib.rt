@@ -4,7 +4,7 @@ ghost use mathlib.Core.Logic.{_↔_};
 ghost use mathlib.Core.Bool.{Bool, true};
 ghost use Prim.Native.Nat.{_<_};
 ghost use lib.ListN.{length, getD};
-ghost use Rattle.flow.specs.Findings.{Local};
+ghost use Rattle.flow.specs.Locals.{Local};
 ghost use Rattle.locals.specs.Facts.{factsOf};
 ghost use Rattle.declarations.specs.Due.{isDue, Tells};
 use locals::has_value;

@@ -12,9 +12,10 @@ use borrow.Author.Tests.{ne-eqb}
 use lib.Dec.{eqb}
 use lib.ListN.{length, getD, set, take, drop, length-map, drop-of-length-le}
 use lib.Seq.{getD-set-same, getD-set-other}
-use Rattle.flow.specs.Sheet.{oneOf, useKindOf}
-use Rattle.flow.specs.Findings.{Use, node, isRead, isWrite, onlyIf, isEmptyRead, firstEmptyRead}
-use Rattle.flow.proofs.Members.{in-append, in-oneOf}
+use Rattle.flow.specs.Sheet.{member, useKindOf}
+use Rattle.flow.specs.Locals.{onlyIf}
+use Rattle.flow.specs.Findings.{Use, node, isRead, isWrite, isEmptyRead, firstEmptyRead}
+use Rattle.flow.proofs.Members.{in-append, in-member}
 use Rattle.live_steps.specs.Stamps.{flagsOf, Fresh}
 use Rattle.live_steps.specs.Walk.{inClosureOf, useAt, Spells, OfLocal}
 use Rattle.live_steps.proofs.Stamps.{flags-set, flagged, flag-at, fresh-set}
@@ -23,7 +24,7 @@ use Rattle.empty_read.specs.FirstRead.{markIf}
 
 -- ---- a node that is marked, and one that is written, are the same to a read
 
-other-of : (x v : ℕ) (w : List ℕ) → (x ≡ v → ⊥) → oneOf x (w ++ (v ∷ [])) ≡ oneOf x w
+other-of : (x v : ℕ) (w : List ℕ) → (x ≡ v → ⊥) → member x (w ++ (v ∷ [])) ≡ member x w
 other-of x v [] q = rw (ne-eqb x v q)
 other-of x v (y ∷ w) q = ap (λ (b : Bool). eqb x y || b) (other-of x v w q)
 
@@ -33,7 +34,7 @@ module _ (live : List ℕ) (v : ℕ) (h : v < length live) where
   marked-read w u =
       let b : Bool = isRead u && not (u .inClosure) in
       elim (ℕ-discrete (node u) v) [
-        | yes p ↦ ap (λ (c : Bool). (b && not (eqb (getD live (node u) 0) 1)) && not c) (in-oneOf (node u) (w ++ (v ∷ [])) (in-append w (v ∷ []) (node u) (inr (inl p)))) ∙ and-false (b && not (eqb (getD live (node u) 0) 1)) ∙ sym (ap (λ (x : ℕ). (b && not (eqb x 1)) && not (oneOf (node u) w)) (ap (λ (x : ℕ). getD (set live v 1) x 0) p ∙ getD-set-same live v 1 0 h) ∙ ap (λ (c : Bool). c && not (oneOf (node u) w)) (and-false b))
+        | yes p ↦ ap (λ (c : Bool). (b && not (eqb (getD live (node u) 0) 1)) && not c) (in-member (node u) (w ++ (v ∷ [])) (in-append w (v ∷ []) (node u) (inr (inl p)))) ∙ and-false (b && not (eqb (getD live (node u) 0) 1)) ∙ sym (ap (λ (x : ℕ). (b && not (eqb x 1)) && not (member (node u) w)) (ap (λ (x : ℕ). getD (set live v 1) x 0) p ∙ getD-set-same live v 1 0 h) ∙ ap (λ (c : Bool). c && not (member (node u) w)) (and-false b))
         | no q ↦ (λ i. (b && not (eqb (sym (getD-set-other live v (node u) 1 0 q) i) 1)) && not (other-of (node u) v w q i))
       ]
 
@@ -93,7 +94,7 @@ module _ (captured : Bool) (words nodes : List ℕ) where
 
 same-test : (live : List ℕ) (u v : Use) → u .kind ≡ v .kind → node u ≡ node v → u .inClosure ≡ v .inClosure → isEmptyRead live [] u ≡ isEmptyRead live [] v
 unfolding isEmptyRead
-same-test live u v k p c = λ i. not (eqb (k i) 1) && not (c i) && not (eqb (getD live (p i) 0) 1) && not (oneOf (p i) [])
+same-test live u v k p c = λ i. not (eqb (k i) 1) && not (c i) && not (eqb (getD live (p i) 0) 1) && not (member (p i) [])
 
 flags-if : (stamp n : ℕ) (m : List ℕ) (b : Bool) (v : ℕ) → v < n → flagsOf stamp n (markIf b v stamp m) ≡ markIf b v 1 (flagsOf stamp n m)
 flags-if stamp n m true v h = flags-set stamp n m v h

@@ -20,9 +20,9 @@ use Rattle.flow.specs.declared.Refusal.the-variants.{Miscount}
 use Rattle.flow.specs.Sheet.{count}
 use Rattle.flow.specs.Refusals.{number, miscount, firstApplying, pairTests, pairVerdict}
 use Rattle.flow.specs.Findings.{judge}
-use Rattle.flow.specs.Listing.{refused, fileWords, printedWords, printed}
+use Rattle.flow.specs.Listing.{refused, fileWords, printedWords, printed, sheetsPrint}
 use Rattle.flow.proofs.Tests.{neither, counted}
-use Rattle.file_words.specs.Input.{lostOrSpare, sheetsPrint}
+use Rattle.file_words.specs.Input.{lostOrSpare}
 
 -- ---- the sheets of a file's words
 

@@ -12,16 +12,17 @@ use Rattle.flow.specs.declared.JudgeAnswer.the-variants.{Judged}
 use Rattle.flow.specs.Sheet.{kindWords, useWords, useSpans}
 use Rattle.flow.specs.Refusals.{sheetVerdict}
 use Rattle.flow.specs.Graph.{graph}
-use Rattle.flow.specs.Findings.{locals, findings, wordsOf, spansOf}
+use Rattle.flow.specs.Locals.{locals}
+use Rattle.flow.specs.Findings.{findings, wordsOf, spansOf}
 use Rattle.flow.specs.Admitted.{AdmittedSheet, AdmittedUses}
 use Rattle.flow.proofs.Flags.{node-count}
 use Rattle.flow.proofs.NameNodes.{name-node}
 use Rattle.locals.specs.Entries.{Put, Added}
 use Rattle.unassigned.specs.Pass.{Marked}
 use Rattle.local_flow.specs.Sheets.{Sheets}
-use Rattle.chart.specs.Lent.{over, Columns, Lent, Charted}
+use Rattle.chart.specs.Lent.{overlay, Columns, Lent, Charted}
 use Rattle.chart.proofs.Read.{Begins, nodes-are, names-are, first-read, second-read, start-read, spans-read, code-nodes-read, ends-rise, code-nodes-in, name-spans-read, name-nodes-read, name-ends-read, shown}
-use Rattle.findings.specs.Accepted.{FindingsLent, Tables, Found, Accepted}
+use Rattle.findings.specs.Accepted.{FindingsLent, Tables, FindingsWritten, Accepted}
 
 module _ {S U : List ℕ} {r : Counts} {l : Lent} (v : sheetVerdict false S ≡ Admitted) (a : AdmittedSheet S) (u : AdmittedUses S U) (h : Charted S r l) where
   abbrev y : Columns
@@ -85,15 +86,15 @@ in-parts {S} {U} c {f} {s} {t} {cs} {cn} {ns} {nn} {ne} a b d q =
 
 -- ---- what is left
 
-from-first : {new : List ℕ} (xs old : List ℕ) → Put xs 0 old new → new ≡ over xs old
+from-first : {new : List ℕ} (xs old : List ℕ) → Put xs 0 old new → new ≡ overlay xs old
 from-first xs old e = let z : 0 + length xs ≡ length xs = omega arith in e ∙ ap (λ (k : ℕ). xs ++ drop k old) z
 
 pub found : {S U : List ℕ} {n r : ℕ} {w s m w' s' m' : List ℕ} → Added (findings S U) 0 w s r w' s' → Marked n (length (locals S)) m m'
-    → Found S U n r (record { before = record { word = w; span = s; mark = m }; after = record { word = w'; span = s'; mark = m' } })
+    → FindingsWritten S U n r (record { before = record { word = w; span = s; mark = m }; after = record { word = w'; span = s'; mark = m' } })
 found {S} {U} {w = w} {s = s} d k =
     record { count = omega (arith, d .counted); words = from-first (wordsOf (findings S U)) w (d .entered .words-are); spans = from-first (spansOf (findings S U)) s (d .entered .spans-are); marks = k }
 
-pub accepted : {S U : List ℕ} {l : Lent} {f : FindingsLent} {c : Counts} {r : ℕ} → AdmittedSheet S → Charted S c l → Found S U (c .nodes) r f → Accepted S U (Judged c r) l f
+pub accepted : {S U : List ℕ} {l : Lent} {f : FindingsLent} {c : Counts} {r : ℕ} → AdmittedSheet S → Charted S c l → FindingsWritten S U (c .nodes) r f → Accepted S U (Judged c r) l f
 accepted {S} {U} {f = f} a h g = record {
   answer = ap₂ Judged (h .counts) (g .count);
   columns = h .written;

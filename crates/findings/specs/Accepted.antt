@@ -10,11 +10,12 @@ use Rattle.flow.specs.declared.JudgeAnswer.the-variants.{Judged}
 use Rattle.flow.specs.Sheet.{kindWords, useWords, useSpans}
 use Rattle.flow.specs.Graph.{nodeCount, graph}
 use Rattle.flow.specs.Reachable.{countsOf}
-use Rattle.flow.specs.Findings.{locals, findings, wordsOf, spansOf}
+use Rattle.flow.specs.Locals.{locals}
+use Rattle.flow.specs.Findings.{findings, wordsOf, spansOf}
 use Rattle.unassigned.specs.Pass.{Marked}
 use Rattle.local_flow.specs.Sheets.{Sheets}
 use Rattle.search.specs.Lent.{Column, held, left}
-use Rattle.chart.specs.Lent.{over, Lent, chartOf, Shown}
+use Rattle.chart.specs.Lent.{overlay, Lent, chartOf, Shown}
 
 -- judge's columns beside chart's: the words and spans of findings, and the mark figures
 abbrev pub FindingColumns : Type 0
@@ -23,8 +24,8 @@ FindingColumns = record { word : List ℕ; span : List ℕ; mark : List ℕ }
 abbrev pub FindingsLent : Type 0
 FindingsLent = record { before : FindingColumns; after : FindingColumns }
 
-abbrev pub listed : Column → Column → Column → FindingsLent
-listed w s m = record { before = record { word = held w; span = held s; mark = held m }; after = record { word = left w; span = left s; mark = left m } }
+abbrev pub findingsLent : Column → Column → Column → FindingsLent
+findingsLent w s m = record { before = record { word = held w; span = held s; mark = held m }; after = record { word = left w; span = left s; mark = left m } }
 
 -- long enough for all findings, and for a figure a local
 abbrev pub Long : FindingColumns → Type 0
@@ -36,10 +37,10 @@ Tables S U c first second start codeSpan codeNode nameSpan nameNode nameEnd =
     Sheets S U (c .nodes) (c .codes) (kindWords S) first second start codeSpan codeNode nameSpan nameNode nameEnd (useWords U) (useSpans U)
 
 -- r findings over what stood in their columns, and the mark figures of a graph of n nodes
-pub record Found (S U : List ℕ) (n r : ℕ) (f : FindingsLent) : Type 0 where
+pub record FindingsWritten (S U : List ℕ) (n r : ℕ) (f : FindingsLent) : Type 0 where
   pub count : r ≡ length (findings S U)
-  pub words : f .after .word ≡ over (wordsOf (findings S U)) (f .before .word)
-  pub spans : f .after .span ≡ over (spansOf (findings S U)) (f .before .span)
+  pub words : f .after .word ≡ overlay (wordsOf (findings S U)) (f .before .word)
+  pub spans : f .after .span ≡ overlay (spansOf (findings S U)) (f .before .span)
   pub marks : Marked n (length (locals S)) (f .before .mark) (f .after .mark)
 
 -- the same with the chart
@@ -47,4 +48,4 @@ pub record Accepted (S U : List ℕ) (r : JudgeAnswer) (l : Lent) (f : FindingsL
   pub answer : r ≡ Judged (countsOf (graph S)) (length (findings S U))
   pub columns : l .after ≡ chartOf S (l .before)
   pub shown : Shown S (l .after)
-  pub found : Found S U (nodeCount (graph S)) (length (findings S U)) f
+  pub found : FindingsWritten S U (nodeCount (graph S)) (length (findings S U)) f

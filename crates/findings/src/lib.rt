@@ -6,7 +6,7 @@ ghost use Rattle.flow.specs.Refusals.{sheetVerdict};
 ghost use Rattle.flow.specs.Admitted.{AdmittedSheet, AdmittedUses};
 ghost use Rattle.search.specs.Lent.{held};
 ghost use Rattle.chart.specs.Lent.{columns, lent, Wide};
-ghost use Rattle.findings.specs.Accepted.{listed, Long, Tables, Found, Accepted};
+ghost use Rattle.findings.specs.Accepted.{findingsLent, Long, Tables, FindingsWritten, Accepted};
 use flow::Counts;
 use flow::JudgeAnswer;
 
@@ -30,7 +30,7 @@ fn find_all(
     requires { ⌜ AdmittedSheet (now sheet) × AdmittedUses (now sheet) (now uses) ⌝ }
     requires { ⌜ Tables (now sheet) (now uses) counts (now first) (now second) (now start) (now «code_span») (now «code_node») (now «name_span») (now «name_node») (now «name_end») ⌝ }
     requires { ⌜ Long (record { word = now «finding_word»; span = now «finding_span»; mark = now mark }) ⌝ }
-    ensures { λ r. ⌜ Found (now (sheet .entry)) (now (uses .entry)) (counts .nodes) r (listed «finding_word» «finding_span» mark) ⌝ }
+    ensures { λ r. ⌜ FindingsWritten (now (sheet .entry)) (now (uses .entry)) (counts .nodes) r (findingsLent «finding_word» «finding_span» mark) ⌝ }
 {
     let kinds = sheet_parts::kinds(sheet);
     let use_words = sheet_parts::use_words(uses);
@@ -75,7 +75,7 @@ pub fn of_sheets(
     requires { ⌜ AdmittedSheet (now sheet) × AdmittedUses (now sheet) (now uses) × (sheetVerdict false (now sheet) ≡ Admitted) ⌝ }
     requires { ⌜ Wide (columns (now first) (now second) (now start) (now reachable) (now «code_span») (now «code_node») (now «name_span») (now «name_node») (now «name_end»)) ⌝ }
     requires { ⌜ Long (record { word = now «finding_word»; span = now «finding_span»; mark = now mark }) ⌝ }
-    ensures { λ r. ⌜ Accepted (held sheet) (held uses) r (lent first second start reachable «code_span» «code_node» «name_span» «name_node» «name_end») (listed «finding_word» «finding_span» mark) ⌝ }
+    ensures { λ r. ⌜ Accepted (held sheet) (held uses) r (lent first second start reachable «code_span» «code_node» «name_span» «name_node» «name_end») (findingsLent «finding_word» «finding_span» mark) ⌝ }
 {
     let counts = chart::of_sheet(
         sheet,

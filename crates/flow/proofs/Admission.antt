@@ -9,15 +9,15 @@ use borrow.Author.Tests.{ltb-true, leb-true, not-false}
 use lib.Dec.{leb, ltb}
 use lib.ListN.{length, getD, length-take, length-drop}
 use Rattle.flow.specs.declared.Verdict.the-variants.{Admitted}
-use Rattle.flow.specs.Sheet.{count, kindWords, spanWords, items, oneOf, useWords, useSpans, localOf, useKindOf}
+use Rattle.flow.specs.Sheet.{count, kindWords, spanWords, items, member, useWords, useSpans, localOf, useKindOf}
 use Rattle.flow.specs.Kinds.{isCode}
 use Rattle.flow.specs.Refusals.{miscount, badItem, tooDeep, badNesting, offTheLine, badName, nameCount, useFits, usesFit, badUse, firstApplying, itemTests, sheetTests, pairTests, sheetVerdict, pairVerdict}
 use Rattle.flow.specs.Graph.{graph}
 use Rattle.flow.specs.Admitted.{spansWhere, isName, AdmittedSheet, AdmittedUses, AdmittedPair}
-use Rattle.flow.proofs.Members.{and-both, oneOf-in}
+use Rattle.flow.proofs.Members.{and-both, member-in}
 use Rattle.flow.proofs.Tests.{neither, every, applies, passed, counted, Passed, sheet-passed, fits-at}
 use Rattle.flow.proofs.Nesting.{tidy, closed}
-use Rattle.flow.proofs.Room.{length-together, roomy}
+use Rattle.flow.proofs.Room.{length-zip, roomy}
 use Rattle.flow.proofs.Written.{written}
 use Rattle.flow.proofs.Sources.{graph-columns}
 use Rattle.flow.proofs.Spans.{tree-codes, tree-names, name-count, names-spans, few-spans, ends-rise}
@@ -36,7 +36,7 @@ module _ (S : List ℕ) (e : sheetVerdict false S ≡ Admitted) where
   as-many = omega (arith, kinds, spans)
 
   all-items : length (items S) ≡ count S
-  all-items = length-together (kindWords S) (spanWords S) as-many ∙ kinds
+  all-items = length-zip (kindWords S) (spanWords S) as-many ∙ kinds
 
   codes : graph S .codes .span ≡ spansWhere isCode (items S)
   unfolding written
@@ -92,9 +92,9 @@ uses-at : (n : ℕ) (ws ss : List ℕ) → usesFit n ws ss ≡ true → (u : ℕ
 unfolding usesFit useFits
 uses-at n [] ss e u h = absurd (omega arith)
 uses-at n (w ∷ ws) ss e zero h =
-    let f = and-both (ltb (localOf w) n && oneOf (w / 65536) highParts) _ (and-both (useFits n w (getD ss 0 0)) _ e .0) .0 in
+    let f = and-both (ltb (localOf w) n && member (w / 65536) highParts) _ (and-both (useFits n w (getD ss 0 0)) _ e .0) .0 in
     let g = and-both (ltb (localOf w) n) _ f in
-    (ltb-true _ _ (g .0), leb-true _ _ (every (λ x. leb (x % 4) 2) highParts (w / 65536) refl (oneOf-in _ highParts (g .1))))
+    (ltb-true _ _ (g .0), leb-true _ _ (every (λ x. leb (x % 4) 2) highParts (w / 65536) refl (member-in _ highParts (g .1))))
 uses-at n (w ∷ ws) ss e (suc u) h = uses-at n ws (tail ss) (and-both (useFits n w (getD ss 0 0)) _ e .1) u (omega arith)
 
 module _ (short : Bool) (S U : List ℕ) (e : pairVerdict short S U ≡ Admitted) where

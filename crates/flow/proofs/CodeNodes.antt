@@ -14,7 +14,7 @@ use Rattle.flow.specs.declared.Found.the-variants.{At, Nothing}
 use Rattle.flow.specs.Sheet.{items, outerEnd, kindOf, argumentOf, scopeEndOf, conditionOf, endOf, startOf}
 use Rattle.flow.specs.Kinds.{kinds, literalTruth, raises}
 use Rattle.flow.specs.Tree.{Stmt, Block, Arms, simple, do-block, while-loop, repeat-loop, for-loop, if-stmt, done, then, no-more, elseif, otherwise, tree, labelsOf}
-use Rattle.flow.specs.Graph.{exits, Graph, Nodes, Label, Settings, nodeCount, absent, orBreak, newNode, connect, moveTo, advanceTo, recordCode, setStart, code, closeInto, jump, declare, labelNode, standAt, simpleStmt, newNodes, withLabels, entered, inside, inLoop, unlessTrue, unlessFalse, enterWhen, buildStmt, buildBlock, buildArms, start, outside, graph}
+use Rattle.flow.specs.Graph.{exits, Graph, Nodes, Label, Settings, nodeCount, absent, orBreak, newNode, connect, setCurrent, advanceTo, recordCode, setStart, code, closeInto, jump, declare, labelNode, standAt, simpleStmt, newNodes, withLabels, entered, inside, inLoop, unlessTrue, unlessFalse, enterWhen, buildStmt, buildBlock, buildArms, startGraph, outside, graph}
 use Rattle.flow.specs.Reachable.{nodeAmong, nodeAt}
 use Rattle.flow.proofs.Laws.{either}
 open record exits using (End, ReturnValue, ReturnEmpty, Error)
@@ -40,8 +40,8 @@ fine-more g f = less (omega arith) (fine-new g f)
 all : {n : ℕ} {g : Graph} → Fine n g → Fine (nodeCount g) g
 all f = record { many = omega arith; codes = f .codes }
 
-fine-move : {n : ℕ} (v : ℕ) {g : Graph} → Fine n g → Fine n (moveTo v g)
-unfolding moveTo
+fine-move : {n : ℕ} (v : ℕ) {g : Graph} → Fine n g → Fine n (setCurrent v g)
+unfolding setCurrent
 fine-move v f = record { many = f .many; codes = f .codes }
 
 fine-connect : {n : ℕ} (a b : ℕ) (g : Graph) → Fine n g → Fine n (connect a b g)
@@ -204,13 +204,13 @@ unfolding nodeAmong
 among [] vs o n h = tt
 among (s ∷ ss) vs o n h = either (Within n) (ltb o (endOf s)) (h 0) (among ss (tail vs) o n (tail-below vs n h))
 
-fine-first : Fine 0 start
-unfolding start newNode
+fine-first : Fine 0 startGraph
+unfolding startGraph newNode
 fine-first = record { many = omega arith; codes = λ i. omega arith }
 
 fine-graph : (S : List ℕ) → Fine 0 (graph S)
 unfolding graph outside
-fine-graph S = let b : Block = tree (items S) in fine-close End _ (fine-body (outerEnd S) b (fine-block b) 0 outside start tt fine-first)
+fine-graph S = let b : Block = tree (items S) in fine-close End _ (fine-body (outerEnd S) b (fine-block b) 0 outside startGraph tt fine-first)
 
 -- the node of an offset is a node
 pub code-node : (S : List ℕ) (o v : ℕ) → nodeAt (graph S) o ≡ At v → v < nodeCount (graph S)

@@ -9,9 +9,11 @@ use native.Mathlib.Omega.{arith}
 use native.Mathlib.Decide.{ℕ-discrete, decLt}
 use lib.Dec.{eqb}
 use lib.ListN.{getD}
-use Rattle.flow.specs.Sheet.{oneOf}
+use Rattle.flow.specs.Sheet.{member}
 use Rattle.flow.specs.Graph.{Graph, graph}
-use Rattle.flow.specs.Findings.{Use, Declaration, declaration, nodeOf, onlyIf, isWrite, usesOf, node, liveAfterWrites, isEmptyRead, firstEmptyRead}
+use Rattle.flow.specs.Reachable.{nodeOf}
+use Rattle.flow.specs.Locals.{Declaration, declaration, onlyIf}
+use Rattle.flow.specs.Findings.{Use, isWrite, usesOf, node, liveAfterWrites, isEmptyRead, firstEmptyRead}
 use Rattle.flow.specs.Paths.{After}
 use Rattle.flow.specs.Demand.{Own, OwnAt, AtNode, AllFound, IsRead, IsWrite, InClosure, EmptyRead}
 use Rattle.flow.proofs.Flags.{live-decides}
@@ -51,7 +53,7 @@ module _ (S U : List ℕ) (ℓ : ℕ) (kinds : Kinds U) (all : AllFound S U ℓ)
 
   -- the nodes of the writes before k
   abbrev WrittenAre : ℕ → List ℕ → Type 0
-  WrittenAre k written = (v : ℕ) → (oneOf v written ≡ true) ↔ Written S U ℓ k v
+  WrittenAre k written = (v : ℕ) → (member v written ≡ true) ↔ Written S U ℓ k v
 
   written-up : (written : List ℕ) {k u : ℕ} → Next (Own U ℓ) k u → WrittenAre k written → WrittenAre u written
   written-up written {k} {u} n w v = Iff·trans (w v) (λ q. (q .0, omega (arith, n .from, q .1), q .2, q .3), λ q. (q .0, below (q .0) (q .1) (q .2 .own), q .2, q .3))
@@ -59,7 +61,7 @@ module _ (S U : List ℕ) (ℓ : ℕ) (kinds : Kinds U) (all : AllFound S U ℓ)
       below : (x : ℕ) → x < u → Own U ℓ x → x < k
       below x h o = elim (decLt x k) [ yes l ↦ l | no l ↦ absurd (n .first x (omega arith) h o) ]
 
-  one-law : {b : Bool} {B : Type 0} → (b ≡ true) ↔ B → (v x : ℕ) (ws : List ℕ) → (oneOf v (onlyIf b (x ∷ []) ++ ws) ≡ true) ↔ ((B × (x ≡ v)) ⊎ (oneOf v ws ≡ true))
+  one-law : {b : Bool} {B : Type 0} → (b ≡ true) ↔ B → (v x : ℕ) (ws : List ℕ) → (member v (onlyIf b (x ∷ []) ++ ws) ≡ true) ↔ ((B × (x ≡ v)) ⊎ (member v ws ≡ true))
   one-law {b = true} f v x ws =
       Iff·trans (or-law (eqb-law v x) Iff·rfl) (λ q. ⊎-elim (λ e. inl (f .0 refl, sym e)) inr q, λ q. ⊎-elim (λ p. inl (sym (p .1))) inr q)
   one-law {b = false} f v x ws = (inr, λ q. ⊎-elim (λ p. absurd (false≢true (f .1 (p .0)))) (λ e. e) q)
@@ -67,11 +69,11 @@ module _ (S U : List ℕ) (ℓ : ℕ) (kinds : Kinds U) (all : AllFound S U ℓ)
   written-on : (written : List ℕ) {u : ℕ} → Own U ℓ u → WrittenAre u written → WrittenAre (suc u) (onlyIf (isWrite (entry S U ℓ u)) (nodeNum S U u ∷ []) ++ written)
   written-on written {u} o w v = Iff·trans (one-law (write-law S U ℓ kinds u o) v (nodeNum S U u) written) (there, back)
     where
-      there : (IsWrite U u × (nodeNum S U u ≡ v)) ⊎ (oneOf v written ≡ true) → Written S U ℓ (suc u) v
+      there : (IsWrite U u × (nodeNum S U u ≡ v)) ⊎ (member v written ≡ true) → Written S U ℓ (suc u) v
       there (inl q) = (u, omega arith, own-at S U ℓ all u v o (q .1), q .0)
       there (inr e) = let q = w v .0 e in (q .0, omega (arith, q .1), q .2, q .3)
 
-      back : Written S U ℓ (suc u) v → (IsWrite U u × (nodeNum S U u ≡ v)) ⊎ (oneOf v written ≡ true)
+      back : Written S U ℓ (suc u) v → (IsWrite U u × (nodeNum S U u ≡ v)) ⊎ (member v written ≡ true)
       back q = elim (ℕ-discrete (q .0) u) [
         | yes e ↦ inl (subst (λ (x : ℕ). IsWrite U x × (nodeNum S U x ≡ v)) e (q .3, ap nodeOf (q .2 .atNode)))
         | no e ↦ inr (w v .1 (q .0, omega (arith, q .1), q .2, q .3))

@@ -9,7 +9,9 @@ use native.Mathlib.Omega.{arith}
 use native.Mathlib.Numerals.{add-one}
 use lib.ListN.{getD}
 use Rattle.flow.specs.Graph.{Graph, graph, nodeCount}
-use Rattle.flow.specs.Findings.{Use, Declaration, declaration, localAt, tracked, noValue, writesJudged, Finding, findingWord, liveAfterWrites, ofUse, ofInitial, nodeOf, usesOf, allFound, ahead, firstUnassignedUse, initialOverwritten, writesOverwritten, unassignedOf, overwrittenOf, overwrittenAt, overwrittenBelow, isEmptyRead, firstEmptyRead}
+use Rattle.flow.specs.Reachable.{nodeOf}
+use Rattle.flow.specs.Locals.{Declaration, declaration, localAt, tracked, noValue, writesJudged, Finding, findingWord}
+use Rattle.flow.specs.Findings.{Use, liveAfterWrites, ofUse, ofInitial, usesOf, allFound, ahead, firstUnassignedUse, initialOverwritten, writesOverwritten, unassignedOf, overwrittenOf, overwrittenAt, overwrittenBelow, isEmptyRead, firstEmptyRead}
 use Rattle.flow.specs.Demand.{useSpan, AllFound, Judgeable, Unassigned, Overwritten, OverwrittenInitial, Before}
 use Rattle.flow.proofs.Laws.{either, and-then, and-law, not-law, or-map, mem-append, mem-one, mem-only, mem-map}
 use Rattle.flow.proofs.Uses.{nodeNum, entry, all-found, From, end, one, from-all, Kinds, Is, Among}

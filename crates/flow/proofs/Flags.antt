@@ -9,17 +9,18 @@ use native.Mathlib.Omega.{arith}
 use borrow.Author.Tests.{ltb-true, eqb-true}
 use lib.Dec.{ltb}
 use lib.ListN.{length, getD}
-use Rattle.search.specs.Search.{In, Reach, here, on, closure, keep}
+use Rattle.search.specs.Search.{In, Reach, here, on, closure, filter}
 use Rattle.search.proofs.Closure.{Nodes, closure-length, closure-bits, closure-sound, closure-complete}
 use Rattle.flow.specs.declared.Found.{Found}
 use Rattle.flow.specs.declared.Found.the-variants.{At, Nothing}
-use Rattle.flow.specs.Sheet.{oneOf}
-use Rattle.flow.specs.Graph.{Graph, nodeCount, entry, graph}
+use Rattle.flow.specs.Sheet.{member}
+use Rattle.flow.specs.Graph.{Graph, nodeCount, entryNode, graph}
 use Rattle.flow.specs.Reachable.{successors, Reachable, Flagged, reachable, CanRun, canRun}
-use Rattle.flow.specs.Findings.{Declaration, Use, node, isWrite, onlyIf, isAliveAt, liveSuccessors, afterWrites, liveAfterWrites, Meeting, noUse, aRead, aPureWrite, isNoUse, firstAt, below, meetsHere, comesFrom, meets}
+use Rattle.flow.specs.Locals.{Declaration, onlyIf}
+use Rattle.flow.specs.Findings.{Use, node, isWrite, isAliveAt, liveSuccessors, afterWrites, liveAfterWrites, Meeting, noUse, aRead, aPureWrite, isNoUse, firstAt, below, meetsHere, comesFrom, meets}
 use Rattle.flow.specs.Paths.{Edge, Alive, Live, last, more, After, Meets, met, past}
-use Rattle.search.proofs.Worklist.{keep-in}
-use Rattle.flow.proofs.Members.{and-both, both-and, append-in, in-append, in-keep, below-in, in-below, oneOf-in, in-oneOf, true-alive, alive-true}
+use Rattle.search.proofs.Worklist.{filter-in}
+use Rattle.flow.proofs.Members.{and-both, both-and, append-in, in-append, in-filter, below-in, in-below, member-in, in-member, true-alive, alive-true}
 use Rattle.flow.proofs.NodeCount.{graph-count}
 
 -- a flag 0 or 1 for each of n nodes, 1 exactly where P holds
@@ -40,7 +41,7 @@ closure-decides n starts next hs hn =
 
 -- an edge leads to a node
 pub edge-node : (g : Graph) (u v : ℕ) → Edge g u v → v < nodeCount g
-edge-node g u v i = ltb-true v (nodeCount g) (keep-in (λ x. ltb x (nodeCount g)) (getD (g .nodes .first) u 0 ∷ getD (g .nodes .second) u 0 ∷ []) v i .1)
+edge-node g u v i = ltb-true v (nodeCount g) (filter-in (λ x. ltb x (nodeCount g)) (getD (g .nodes .first) u 0 ∷ getD (g .nodes .second) u 0 ∷ []) v i .1)
 
 -- ---- reachability
 
@@ -51,7 +52,7 @@ module _ (ws : List ℕ) where
   reachable-flags : Decides (nodeCount (graph ws)) (reachable (graph ws)) (Reachable (graph ws))
   unfolding reachable
   reachable-flags =
-      closure-decides (nodeCount (graph ws)) (entry ∷ []) (successors (graph ws))
+      closure-decides (nodeCount (graph ws)) (entryNode ∷ []) (successors (graph ws))
       (λ v. ⊎-elim (λ e. omega (arith, node-count)) (λ b. absurd b)) (edge-node (graph ws))
 
   pub reachable-decides : (v : ℕ) → (getD (reachable (graph ws)) v 0 ≡ 1) ↔ Reachable (graph ws) v
@@ -80,10 +81,10 @@ only-in v false xs i = absurd i
 
 module _ (g : Graph) (d : Declaration) where
   live-step : (u v : ℕ) → In v (liveSuccessors g d u) → Edge g u v × Alive g d v
-  live-step u v i = let k = keep-in (isAliveAt g d) (successors g u) v i in (k .0, true-alive g d v (k .1))
+  live-step u v i = let k = filter-in (isAliveAt g d) (successors g u) v i in (k .0, true-alive g d v (k .1))
 
   step-live : (u v : ℕ) → Edge g u v → Alive g d v → In v (liveSuccessors g d u)
-  step-live u v e a = in-keep (isAliveAt g d) (successors g u) v e (alive-true g d v a)
+  step-live u v e a = in-filter (isAliveAt g d) (successors g u) v e (alive-true g d v a)
 
   first-alive : {u v : ℕ} → Live g d u v → Alive g d u
   first-alive (last a) = a
@@ -175,30 +176,30 @@ module _ (g : Graph) (d : Declaration) (us : List Use) where
   in-here m v a e = both-and (alive-true g d v a) e
 
   abbrev before : ℕ → ℕ → Bool
-  before v u = oneOf v (successors g u) && meetsHere g d us isNoUse u
+  before v u = member v (successors g u) && meetsHere g d us isNoUse u
 
   from-in : (u v : ℕ) → In u (comesFrom g d us v) → (u < nodeCount g) × Edge g u v × Alive g d u × (isNoUse (firstAt u us) ≡ true)
   unfolding comesFrom
   from-in u v i =
-      let k = keep-in (before v) (below (nodeCount g)) u i in
-      let b = and-both (oneOf v (successors g u)) (meetsHere g d us isNoUse u) (k .1) in
+      let k = filter-in (before v) (below (nodeCount g)) u i in
+      let b = and-both (member v (successors g u)) (meetsHere g d us isNoUse u) (k .1) in
       let h = here-in isNoUse u (b .1) in
-      (in-below (nodeCount g) u (k .0), oneOf-in v (successors g u) (b .0), h .0, h .1)
+      (in-below (nodeCount g) u (k .0), member-in v (successors g u) (b .0), h .0, h .1)
 
   in-from : (u v : ℕ) → u < nodeCount g → Edge g u v → Alive g d u → isNoUse (firstAt u us) ≡ true → In u (comesFrom g d us v)
   unfolding comesFrom
   in-from u v l e a z =
-      in-keep (before v) (below (nodeCount g)) u (below-in (nodeCount g) u l) (both-and (in-oneOf v (successors g u) e) (in-here isNoUse u a z))
+      in-filter (before v) (below (nodeCount g)) u (below-in (nodeCount g) u l) (both-and (in-member v (successors g u) e) (in-here isNoUse u a z))
 
   module _ (m : Meeting → Bool) where
     abbrev ends : List ℕ
-    ends = keep (meetsHere g d us m) (below (nodeCount g))
+    ends = filter (meetsHere g d us m) (below (nodeCount g))
 
     meets-flags : Decides (nodeCount g) (meets g d us m) (Reach ends (comesFrom g d us))
     unfolding meets
     meets-flags =
         closure-decides (nodeCount g) ends (comesFrom g d us)
-        (λ v i. in-below (nodeCount g) v (keep-in (meetsHere g d us m) (below (nodeCount g)) v i .0)) (λ v u i. from-in u v i .0)
+        (λ v i. in-below (nodeCount g) v (filter-in (meetsHere g d us m) (below (nodeCount g)) v i .0)) (λ v u i. from-in u v i .0)
 
     pub meets-length : length (meets g d us m) ≡ nodeCount g
     meets-length = meets-flags .size
@@ -214,7 +215,7 @@ module _ (g : Graph) (d : Declaration) (us : List Use) where
 
       reach-meets : {a : ℕ} → Reach ends (comesFrom g d us) a → (b : ℕ) × Meets g d (HoldsIn us) a b × (m (firstAt b us) ≡ true)
       reach-meets (here {v = v} i) =
-          let h = here-in m v (keep-in (meetsHere g d us m) (below (nodeCount g)) v i .1) in
+          let h = here-in m v (filter-in (meetsHere g d us m) (below (nodeCount g)) v i .1) in
           (v, met (h .0) (is-use (firstAt v us) (h .1)), h .1)
       reach-meets (on {u = u} {v = v} r i) =
           let k = reach-meets r in
@@ -223,7 +224,7 @@ module _ (g : Graph) (d : Declaration) (us : List Use) where
 
     meets-reach : {a b : ℕ} → Meets g d (HoldsIn us) a b → a < nodeCount g → m (firstAt b us) ≡ true → Reach ends (comesFrom g d us) a
     meets-reach (met {v = v} a h) l e =
-        here (in-keep (meetsHere g d us m) (below (nodeCount g)) v (below-in (nodeCount g) v l) (in-here m v a e))
+        here (in-filter (meetsHere g d us m) (below (nodeCount g)) v (below-in (nodeCount g) v l) (in-here m v a e))
     meets-reach (past {u = u} {v = v} a z i r) l e =
         on (meets-reach r (edge-node g u v i) e) (in-from u v l i a (not-false-true (isNoUse (firstAt u us)) z))
 

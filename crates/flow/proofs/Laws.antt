@@ -10,7 +10,7 @@ use native.Mathlib.Decide.{ℕ-discrete, decLt}
 use borrow.Author.Tests.{eqb-true, eq-eqb}
 use lib.Dec.{eqb}
 use lib.ListN.{length, getD}
-use Rattle.flow.specs.Findings.{onlyIf}
+use Rattle.flow.specs.Locals.{onlyIf}
 
 -- ---- tests
 

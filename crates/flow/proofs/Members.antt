@@ -9,10 +9,11 @@ use native.Mathlib.Omega.{arith}
 use native.Mathlib.Decide.{ℕ-discrete}
 use borrow.Author.Tests.{ltb-true, lt-ltb, eqb-true, eqb-false, eq-eqb, ne-eqb, not-true}
 use lib.Dec.{eqb}
-use Rattle.search.specs.Search.{In, cons-if, keep}
-use Rattle.flow.specs.Sheet.{oneOf}
+use Rattle.search.specs.Search.{In, cons-if, filter}
+use Rattle.flow.specs.Sheet.{member}
 use Rattle.flow.specs.Graph.{Graph}
-use Rattle.flow.specs.Findings.{Declaration, isAliveAt, below}
+use Rattle.flow.specs.Locals.{Declaration}
+use Rattle.flow.specs.Findings.{isAliveAt, below}
 use Rattle.flow.specs.Paths.{Alive}
 
 -- ---- tests joined
@@ -46,10 +47,10 @@ in-cons-if true x vs v (inr i) = inr i
 in-cons-if false x vs v (inl q) = absurd (false≢true (q .1))
 in-cons-if false x vs v (inr i) = i
 
-pub in-keep : (p : ℕ → Bool) (vs : List ℕ) (v : ℕ) → In v vs → p v ≡ true → In v (keep p vs)
-in-keep p [] v i e = absurd i
-in-keep p (x ∷ vs) v (inl q) e = in-cons-if (p x) x (keep p vs) v (inl (q, rw (← q) e))
-in-keep p (x ∷ vs) v (inr i) e = in-cons-if (p x) x (keep p vs) v (inr (in-keep p vs v i e))
+pub in-filter : (p : ℕ → Bool) (vs : List ℕ) (v : ℕ) → In v vs → p v ≡ true → In v (filter p vs)
+in-filter p [] v i e = absurd i
+in-filter p (x ∷ vs) v (inl q) e = in-cons-if (p x) x (filter p vs) v (inl (q, rw (← q) e))
+in-filter p (x ∷ vs) v (inr i) e = in-cons-if (p x) x (filter p vs) v (inr (in-filter p vs v i e))
 
 -- ---- the numbers below n
 
@@ -74,14 +75,14 @@ in-or true c e = refl
 in-or false c (inl e) = absurd (false≢true e)
 in-or false c (inr e) = e
 
-pub oneOf-in : (v : ℕ) (vs : List ℕ) → oneOf v vs ≡ true → In v vs
-oneOf-in v [] e = absurd (false≢true e)
-oneOf-in v (x ∷ vs) e = ⊎-elim (λ p. inl (eqb-true v x p)) (λ q. inr (oneOf-in v vs q)) (or-in (eqb v x) (oneOf v vs) e)
+pub member-in : (v : ℕ) (vs : List ℕ) → member v vs ≡ true → In v vs
+member-in v [] e = absurd (false≢true e)
+member-in v (x ∷ vs) e = ⊎-elim (λ p. inl (eqb-true v x p)) (λ q. inr (member-in v vs q)) (or-in (eqb v x) (member v vs) e)
 
-pub in-oneOf : (v : ℕ) (vs : List ℕ) → In v vs → oneOf v vs ≡ true
-in-oneOf v [] i = absurd i
-in-oneOf v (x ∷ vs) (inl e) = in-or (eqb v x) (oneOf v vs) (inl (eq-eqb v x e))
-in-oneOf v (x ∷ vs) (inr i) = in-or (eqb v x) (oneOf v vs) (inr (in-oneOf v vs i))
+pub in-member : (v : ℕ) (vs : List ℕ) → In v vs → member v vs ≡ true
+in-member v [] i = absurd i
+in-member v (x ∷ vs) (inl e) = in-or (eqb v x) (member v vs) (inl (eq-eqb v x e))
+in-member v (x ∷ vs) (inr i) = in-or (eqb v x) (member v vs) (inr (in-member v vs i))
 
 -- ---- a live node
 

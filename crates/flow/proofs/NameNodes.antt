@@ -12,11 +12,11 @@ use lib.ListN.{length, getD}
 use Rattle.flow.specs.declared.Found.{Found}
 use Rattle.flow.specs.declared.Found.the-variants.{At, Nothing}
 use Rattle.flow.specs.declared.Verdict.the-variants.{Admitted}
-use Rattle.flow.specs.Sheet.{Item, items, kind, kindOf, argumentOf, oneOf}
+use Rattle.flow.specs.Sheet.{Item, items, kind, kindOf, argumentOf, member}
 use Rattle.flow.specs.Kinds.{kinds, raises}
-use Rattle.flow.specs.Refusals.{besideEachOther, sideBySide, sheetVerdict}
+use Rattle.flow.specs.Refusals.{mayFollow, sideBySide, sheetVerdict}
 use Rattle.flow.specs.Tree.{Stmt, Block, Arms, simple, do-block, while-loop, repeat-loop, for-loop, if-stmt, done, then, no-more, elseif, otherwise, Frame, Open, outer, inFront, opened, tree}
-use Rattle.flow.specs.Graph.{Names, Graph, Settings, nodeCount, newNode, moveTo, advanceTo, code, jump, declare, labelNode, standAt, simpleStmt, entered, buildStmt, buildBlock, buildArms, start, graph}
+use Rattle.flow.specs.Graph.{Names, Graph, Settings, nodeCount, newNode, setCurrent, advanceTo, code, jump, declare, labelNode, standAt, simpleStmt, entered, buildStmt, buildBlock, buildArms, startGraph, graph}
 use Rattle.flow.proofs.Members.{and-both}
 use Rattle.flow.proofs.Laws.{either}
 use Rattle.flow.proofs.Tests.{sheet-passed}
@@ -30,7 +30,7 @@ open record kinds using (LOCAL, NAME, LABEL, GOTO, BREAK, CONTINUE, RETURN, CALL
 
 -- a NAME may stand behind these kinds
 abbrev names : ℕ → Bool
-names k = oneOf k (LOCAL ∷ NAME ∷ [])
+names k = member k (LOCAL ∷ NAME ∷ [])
 
 abbrev leads : Stmt → Bool
 leads (simple w s) = names (kindOf w)
@@ -89,9 +89,9 @@ follow-made (a-for e) q b r h = ((rw e at r) .0, h)
 follow-made (an-if e) q b r h = (rw e at r, h)
 
 beside : (k : ℕ) (i : Item) (is : List Item) → sideBySide k (i ∷ is) ≡ true → ((not (eqb (kind i) NAME) || names k) ≡ true) × (sideBySide (kind i) is ≡ true)
-unfolding sideBySide besideEachOther
+unfolding sideBySide mayFollow
 beside k i is e =
-    let l = and-both (besideEachOther k (kind i)) _ e in
+    let l = and-both (mayFollow k (kind i)) _ e in
     let n = not (eqb k LOCAL) || eqb (kind i) NAME in
     (and-both n _ (and-both (n && (not (eqb (kind i) NAME) || names k)) _ (l .0) .0) .1, l .1)
 
@@ -178,7 +178,7 @@ good-simple k a s q st g f h r =
 
 -- behind a LOCAL its node is current, and a NAME leaves it so
 current-code : (s : ℕ) (g : Graph) → code s g .current < nodeCount (code s g)
-unfolding code advanceTo moveTo
+unfolding code advanceTo setCurrent
 current-code s g = omega (arith, coded s g)
 
 current-declare : (s : ℕ) (st : Settings) (g : Graph) → g .current < nodeCount g → declare s st g .current < nodeCount (declare s st g)
@@ -235,8 +235,8 @@ mutual
   good-arms (otherwise w b as') f test join falls st g r =
       good-arms as' (f .1) _ _ _ _ _ (simp (step, same) (inner b (good-block b false (f .0)) _ _ (grown r (simp step (omega arith)) (simp same))))
 
-good-start : Good start
-unfolding start newNode written
+good-start : Good startGraph
+unfolding startGraph newNode written
 good-start = record { each = λ i. omega arith }
 
 module _ (S : List ℕ) (e : sheetVerdict false S ≡ Admitted) where
@@ -246,7 +246,7 @@ module _ (S : List ℕ) (e : sheetVerdict false S ≡ Admitted) where
 
   good-graph : Good (graph S)
   unfolding graph
-  good-graph = simp (step, same) (inner (tree (items S)) (good-block (tree (items S)) false follow-tree) _ start good-start)
+  good-graph = simp (step, same) (inner (tree (items S)) (good-block (tree (items S)) false follow-tree) _ startGraph good-start)
 
   pub name-node : (ℓ : ℕ) → ℓ < length (graph S .names .node) → getD (graph S .names .node) ℓ 0 < nodeCount (graph S)
   unfolding written

@@ -10,7 +10,7 @@ use native.Mathlib.Numerals.{add-one}
 use borrow.Author.Tests.{eqb-true, leb-true, ne-eqb, le-leb, lt-leb}
 use lib.Dec.{eqb, leb}
 use lib.ListN.{length, getD, drop}
-use Rattle.flow.specs.Sheet.{Item, kind, kindOf, oneOf, together}
+use Rattle.flow.specs.Sheet.{Item, kind, kindOf, member, zip}
 use Rattle.flow.specs.Kinds.{kinds, opens, closes}
 use Rattle.flow.specs.Refusals.{innermost, mayStand, openAfter, pairsUp}
 use Rattle.flow.specs.Tree.{Stmt, simple, do-block, while-loop, repeat-loop, for-loop, if-stmt, no-more, elseif, otherwise, Frame, Open, nothingRead, outer, inFront, opened, read, parse}
@@ -82,7 +82,7 @@ read-plain i o h =
     rw (n 8 refl, n 9 refl, n 1 refl, n 2 refl, n 3 refl, n 4 refl, n 5 refl, n 6 refl, n 7 refl)
 
 module _ (i : Item) (is : List Item) (o : Open) where
-  end-step : (os : List ℕ) → kind i ≡ END → not (oneOf (innermost os) (0 ∷ REPEAT ∷ [])) ≡ true → Parsed (tail os) is o → Parsed os (i ∷ is) (opened no-more (i .span) o)
+  end-step : (os : List ℕ) → kind i ≡ END → not (member (innermost os) (0 ∷ REPEAT ∷ [])) ≡ true → Parsed (tail os) is o → Parsed os (i ∷ is) (opened no-more (i .span) o)
   end-step [] e m p = absurd (false≢true m)
   end-step (k ∷ os) e m p = ending e (ne-eqb k REPEAT (λ q. false≢true (rw q at m))) p
 
@@ -138,7 +138,7 @@ bare (plain {os = os} {o = o} {i = i} h p) = bare-front os (simple (i .word) (i 
 -- ---- whatever the spans
 
 -- the test goes by the kinds alone
-pub pairs-kinds : (ks ss ts os : List ℕ) → length ss ≡ length ks → length ts ≡ length ks → pairsUp os (together ks ss) ≡ pairsUp os (together ks ts)
+pub pairs-kinds : (ks ss ts os : List ℕ) → length ss ≡ length ks → length ts ≡ length ks → pairsUp os (zip ks ss) ≡ pairsUp os (zip ks ts)
 unfolding pairsUp
 pairs-kinds [] ss ts os e f = refl
 pairs-kinds (k ∷ ks) [] ts os e f = absurd (omega arith)
@@ -150,23 +150,23 @@ unfolding openAfter
 open-opener k os l h = rw (le-leb 1 k l, le-leb k 5 (omega arith))
 
 -- what holds of the block that the item n opens
-bare-at : (ks ss os : List ℕ) → length ss ≡ length ks → Positive os → pairsUp os (together ks ss) ≡ true
-    → (n : ℕ) → n < length ks → 1 ≤ kindOf (getD ks n 0) → kindOf (getD ks n 0) ≤ 4 → Bare (kindOf (getD ks n 0) ∷ []) (parse (drop (suc n) (together ks ss)))
+bare-at : (ks ss os : List ℕ) → length ss ≡ length ks → Positive os → pairsUp os (zip ks ss) ≡ true
+    → (n : ℕ) → n < length ks → 1 ≤ kindOf (getD ks n 0) → kindOf (getD ks n 0) ≤ 4 → Bare (kindOf (getD ks n 0) ∷ []) (parse (drop (suc n) (zip ks ss)))
 unfolding pairsUp Bare
 bare-at [] ss os e p u n h l m = absurd (omega arith)
 bare-at (k ∷ ks) [] os e p u n h l m = absurd (omega arith)
 bare-at (k ∷ ks) (s ∷ ss) os e p u zero h l m =
-    let b = bare (parsed (openAfter (kindOf k) os) (together ks ss) (positive-after (kindOf k) os p) (and-both (mayStand (kindOf k) os) _ u .1)) in
+    let b = bare (parsed (openAfter (kindOf k) os) (zip ks ss) (positive-after (kindOf k) os p) (and-both (mayStand (kindOf k) os) _ u .1)) in
     let q = rw (open-opener (kindOf k) os l) at b in
     (q .0, q .1, tt)
 bare-at (k ∷ ks) (s ∷ ss) os e p u (suc n) h l m =
     bare-at ks ss (openAfter (kindOf k) os) (omega arith) (positive-after (kindOf k) os p) (and-both (mayStand (kindOf k) os) _ u .1) n (omega arith) l m
 
-pub tidy : (ks ss : List ℕ) → length ss ≡ length ks → pairsUp [] (together ks ss) ≡ true → Tidy ks
+pub tidy : (ks ss : List ℕ) → length ss ≡ length ks → pairsUp [] (zip ks ss) ≡ true → Tidy ks
 unfolding Bare
 tidy ks ss e u ts f i h l m =
     rw add-one (bare-at ks ts [] f tt (pairs-kinds ks ts ss [] f e ∙ u) i h l m .0 (λ q. omega arith))
 
-pub closed : (ks ss : List ℕ) → length ss ≡ length ks → pairsUp [] (together ks ss) ≡ true → Closed ks
+pub closed : (ks ss : List ℕ) → length ss ≡ length ks → pairsUp [] (zip ks ss) ≡ true → Closed ks
 unfolding Bare
 closed ks ss e u ts f i h l m = rw add-one (bare-at ks ts [] f tt (pairs-kinds ks ts ss [] f e ∙ u) i h l m .1)

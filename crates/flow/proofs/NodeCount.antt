@@ -16,7 +16,7 @@ use Rattle.flow.specs.declared.Found.the-variants.{At, Nothing}
 use Rattle.flow.specs.Sheet.{items, kindOf, argumentOf}
 use Rattle.flow.specs.Kinds.{kinds}
 use Rattle.flow.specs.Tree.{Stmt, Block, Arms, simple, do-block, while-loop, repeat-loop, for-loop, if-stmt, done, then, no-more, elseif, otherwise, tree, labelName, labelsOf}
-use Rattle.flow.specs.Graph.{absent, Nodes, Graph, Settings, nodeCount, newNode, connect, moveTo, advanceTo, recordCode, setStart, code, closeInto, jump, declare, labelNode, standAt, simpleStmt, newNodes, entered, unlessTrue, unlessFalse, enterWhen, buildStmt, buildBlock, buildArms, start, graph}
+use Rattle.flow.specs.Graph.{absent, Nodes, Graph, Settings, nodeCount, newNode, connect, setCurrent, advanceTo, recordCode, setStart, code, closeInto, jump, declare, labelNode, standAt, simpleStmt, newNodes, entered, unlessTrue, unlessFalse, enterWhen, buildStmt, buildBlock, buildArms, startGraph, graph}
 use Rattle.flow.specs.Size.{simpleNodes, stmtNodes, blockNodes, armNodes}
 open record kinds using (NAME, LABEL, EMPTY)
 
@@ -39,8 +39,8 @@ pub connected : (a b : ℕ) (g : Graph) → nodeCount (connect a b g) ≡ nodeCo
 unfolding connect
 connected a b g = simp (split (λ (n : Nodes). length (n .first)), length-set, same)
 
-pub moved : (v : ℕ) (g : Graph) → nodeCount (moveTo v g) ≡ nodeCount g
-unfolding moveTo
+pub moved : (v : ℕ) (g : Graph) → nodeCount (setCurrent v g) ≡ nodeCount g
+unfolding setCurrent
 moved v g = refl
 
 pub advanced : (v : ℕ) (g : Graph) → nodeCount (advanceTo v g) ≡ nodeCount g
@@ -161,5 +161,5 @@ pub built-count : (b : Block) (st : Settings) (g : Graph) → nodeCount (buildBl
 built-count b = inner b (block-count b)
 
 pub graph-count : (ws : List ℕ) → nodeCount (graph ws) ≡ 6 + blockNodes (tree (items ws))
-unfolding graph start newNode
+unfolding graph startGraph newNode
 graph-count ws = simp (closed, built-count)

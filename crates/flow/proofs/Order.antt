@@ -8,7 +8,8 @@ use mathlib.Core.List.{List, [], _∷_, _++_, map, List·Memᴰ, List·Memᴰ·h
 use native.Mathlib.Omega.{arith}
 use native.Mathlib.Decide.{ℕ-discrete}
 use lib.ListN.{length, getD}
-use Rattle.flow.specs.Findings.{Finding, findingWord, Use, Ahead, onlyIf, ofEach, overwrittenAt, overwrittenBelow}
+use Rattle.flow.specs.Locals.{Finding, findingWord, onlyIf}
+use Rattle.flow.specs.Findings.{Use, Ahead, ofEach, overwrittenAt, overwrittenBelow}
 use Rattle.flow.specs.Graph.{Graph}
 use Rattle.flow.specs.Demand.{order, Before}
 use Rattle.flow.proofs.Laws.{mem-append, mem-map, mem-at}

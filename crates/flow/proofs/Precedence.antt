@@ -10,8 +10,12 @@ use lib.ListN.{length, getD, length-append}
 use Rattle.flow.specs.declared.Refusal.{Refusal}
 use Rattle.flow.specs.declared.Verdict.{Verdict}
 use Rattle.flow.specs.declared.Verdict.the-variants.{Admitted, Refused}
-use Rattle.flow.specs.Refusals.{number, Test, firstApplying, itemTests, sheetTests, pairTests}
-use Rattle.flow.specs.Answers.{tells}
+use Rattle.flow.specs.Refusals.{one, number, Test, firstApplying, itemTests, sheetTests, pairTests, sheetVerdict, pairVerdict}
+use Rattle.flow.specs.Answers.{tells, foundValues, countValues}
+use Rattle.flow.specs.Graph.{graph}
+use Rattle.flow.specs.Reachable.{nodeAt, canRun, run, countsOf, chart}
+use Rattle.flow.specs.Findings.{findings, judge}
+use Rattle.flow.specs.Labels.{labelsFine, labelCheck}
 use Rattle.flow.proofs.Tests.{passed-one}
 use Rattle.flow.proofs.Answers.{refuses}
 
@@ -73,7 +77,7 @@ behind r (x ∷ xs) ys n = rw (n .0) (behind r xs ys (n .1))
 pub foremost-refused : (ts : List Test) (k : ℕ) (f : Foremost ts k) → firstApplying ts ≡ Refused (f .refusal)
 foremost-refused ts k f = ap firstApplying (f .order) ∙ behind (f .refusal) (f .before) (f .after) (f .none)
 
--- ---- by number: k - 1 tests stand before the one with the number k, so none with a lower number applies
+-- ---- by number: k - 1 tests stand before the one with the number k
 
 abbrev upFrom : ℕ → ℕ → List ℕ
 upFrom a zero = []
@@ -119,3 +123,21 @@ module _ (ts : List Test) (values : List ℕ) where
 
   pub zero-admits : tells (firstApplying ts) values .number ≡ 0 → NoneApplies ts
   zero-admits = none-by (firstApplying ts) refl
+
+-- so it is of each call
+
+pub chart-number : (short : Bool) (S : List ℕ) (k : ℕ) → chart short S .number ≡ suc k → Foremost (sheetTests short S) (suc k)
+unfolding chart sheetVerdict
+chart-number short S = number-applies (sheetTests short S) (countValues (countsOf (graph S)))
+
+pub run-number : (S : List ℕ) (o k : ℕ) → run S o .number ≡ suc k → Foremost (sheetTests false S) (suc k)
+unfolding run sheetVerdict
+run-number S o = number-applies (sheetTests false S) (one (canRun (graph S) (nodeAt (graph S) o)) ∷ foundValues (nodeAt (graph S) o))
+
+pub judge-number : (short : Bool) (S U : List ℕ) (k : ℕ) → judge short S U .number ≡ suc k → Foremost (pairTests short S U) (suc k)
+unfolding judge pairVerdict
+judge-number short S U = number-applies (pairTests short S U) (countValues (countsOf (graph S)) ++ (length (findings S U) ∷ []))
+
+pub label-number : (S : List ℕ) (k : ℕ) → labelCheck S .number ≡ suc k → Foremost (sheetTests false S) (suc k)
+unfolding labelCheck sheetVerdict
+label-number S = number-applies (sheetTests false S) (one (labelsFine S) ∷ [])

@@ -7,7 +7,7 @@ use mathlib.Core.List.{List, [], _∷_}
 use native.Mathlib.Omega.{arith}
 use lib.Dec.{eqb}
 use lib.ListN.{length}
-use Rattle.flow.specs.Sheet.{Item, oneOf, kindOf, argumentOf, together}
+use Rattle.flow.specs.Sheet.{Item, member, kindOf, argumentOf, zip}
 use Rattle.flow.specs.Kinds.{kinds}
 use Rattle.flow.specs.Refusals.{pairsUp}
 use Rattle.flow.specs.Tree.{Stmt, Frame, Open, outer, inFront, opened, tree}
@@ -39,7 +39,7 @@ made-nodes (a-for e) = omega arith
 made-nodes (an-if e) = omega arith
 
 simple-nodes : (k a : ℕ) → simpleNodes k a ≤ 1
-simple-nodes k a = go (oneOf k (NAME ∷ EMPTY ∷ [])) (eqb k LABEL && eqb a 0)
+simple-nodes k a = go (member k (NAME ∷ EMPTY ∷ [])) (eqb k LABEL && eqb a 0)
   where
     go : (b c : Bool) → cond b 0 (cond c 0 1) ≤ 1
     go true c = omega arith
@@ -56,11 +56,11 @@ parsed-nodes (an-elseif {o = o} e p) = omega (arith, outer-nodes (o .top) (o .be
 parsed-nodes (an-else {o = o} e p) = omega (arith, outer-nodes (o .top) (o .below), parsed-nodes p)
 parsed-nodes (plain {i = i} h p) = omega (arith, simple-nodes (kindOf (i .word)) (argumentOf (i .word)), parsed-nodes p)
 
-pub length-together : (ks ss : List ℕ) → length ss ≡ length ks → length (together ks ss) ≡ length ks
-length-together [] ss e = refl
-length-together (k ∷ ks) [] e = absurd (omega arith)
-length-together (k ∷ ks) (s ∷ ss) e = omega (arith, length-together ks ss (omega arith))
+pub length-zip : (ks ss : List ℕ) → length ss ≡ length ks → length (zip ks ss) ≡ length ks
+length-zip [] ss e = refl
+length-zip (k ∷ ks) [] e = absurd (omega arith)
+length-zip (k ∷ ks) (s ∷ ss) e = omega (arith, length-zip ks ss (omega arith))
 
-pub roomy : (ks ss : List ℕ) → length ss ≡ length ks → length ks ≤ 1024 → pairsUp [] (together ks ss) ≡ true → Roomy ks
+pub roomy : (ks ss : List ℕ) → length ss ≡ length ks → length ks ≤ 1024 → pairsUp [] (zip ks ss) ≡ true → Roomy ks
 unfolding tree
-roomy ks ss e l u ts f = omega (arith, parsed-nodes (parsed [] (together ks ts) tt (pairs-kinds ks ts ss [] f e ∙ u)), length-together ks ts f)
+roomy ks ss e l u ts f = omega (arith, parsed-nodes (parsed [] (zip ks ts) tt (pairs-kinds ks ts ss [] f e ∙ u)), length-zip ks ts f)

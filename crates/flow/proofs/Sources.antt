@@ -11,10 +11,10 @@ use lib.Dec.{eqb}
 use Rattle.search.specs.Search.{In}
 use Rattle.flow.specs.declared.Found.{Found}
 use Rattle.flow.specs.declared.Found.the-variants.{At}
-use Rattle.flow.specs.Sheet.{items, oneOf, kindOf, argumentOf}
+use Rattle.flow.specs.Sheet.{items, member, kindOf, argumentOf}
 use Rattle.flow.specs.Kinds.{kinds}
 use Rattle.flow.specs.Tree.{Stmt, Block, Arms, simple, do-block, while-loop, repeat-loop, for-loop, if-stmt, done, then, no-more, elseif, otherwise, tree, labelName, labelsOf}
-use Rattle.flow.specs.Graph.{Graph, Label, Settings, nodeCount, code, jump, closeInto, labelNode, standAt, simpleStmt, withLabels, entered, inside, buildStmt, buildBlock, buildArms, newNode, start, graph}
+use Rattle.flow.specs.Graph.{Graph, Label, Settings, nodeCount, code, jump, closeInto, labelNode, standAt, simpleStmt, withLabels, entered, inside, buildStmt, buildBlock, buildArms, newNode, startGraph, graph}
 use Rattle.flow.proofs.Members.{in-append}
 use Rattle.flow.proofs.Tests.{split, same}
 use Rattle.flow.proofs.Written.{Columns, written, Records, kept, more-code, more-name, keeps, new, moved, closed}
@@ -47,7 +47,7 @@ module _ (h : Bool) (p : ℕ → Bool) where
 
 -- a statement of one item is code, or is a name
 abbrev pub makesCode : ℕ → Bool → Bool
-makesCode k nameless = not (oneOf k (NAME ∷ EMPTY ∷ [])) && not (eqb k LABEL && nameless)
+makesCode k nameless = not (member k (NAME ∷ EMPTY ∷ [])) && not (eqb k LABEL && nameless)
 
 abbrev pub codeWord : ℕ → Bool
 codeWord w = makesCode (kindOf w) (eqb (argumentOf w) 0)
@@ -148,8 +148,8 @@ mutual
   arms-record (elseif w s b as') test join falls st g r = arms-record as' _ _ _ _ _ (arm b (block-records b) _ _ _ _ (coded s _ (kept r (moved _ _))))
   arms-record (otherwise w b as') test join falls st g r = arms-record as' _ _ _ _ _ (arm b (block-records b) _ _ _ _ (kept r (moved _ _)))
 
-begun : Records start [] []
-unfolding start newNode written
+begun : Records startGraph [] []
+unfolding startGraph newNode written
 begun = record { codes = refl; codeNodes = refl; names = refl; nameNodes = refl; nameEnds = refl }
 
 pub graph-columns : (ws : List ℕ) → Columns (written (graph ws)) (ofBlock true codeWord (tree (items ws)) []) (ofBlock false nameWord (tree (items ws)) [])

@@ -9,12 +9,13 @@ use native.Mathlib.Nat.{le-trans}
 use borrow.Author.Tests.{ne-eqb, leb-true}
 use lib.Dec.{eqb, leb}
 use lib.ListN.{length, getD, length-append}
-use Rattle.search.specs.Search.{keep}
-use Rattle.flow.specs.Sheet.{Item, items, kind, argumentOf, oneOf, all, startOf, endOf}
+use Rattle.search.specs.Search.{filter}
+use Rattle.flow.specs.Sheet.{Item, items, kind, argumentOf, member, all, startOf, endOf}
 use Rattle.flow.specs.Kinds.{kinds, itemFits, isCode}
 use Rattle.flow.specs.Refusals.{one, pairsUp, inLine, nameCount}
 use Rattle.flow.specs.Tree.{Stmt, Frame, Open, outer, inFront, opened, simple, tree}
-use Rattle.flow.specs.Findings.{onlyIf, below, localsFrom, locals}
+use Rattle.flow.specs.Locals.{onlyIf, localsFrom, locals}
+use Rattle.flow.specs.Findings.{below}
 use Rattle.flow.specs.Admitted.{spansWhere, isName}
 use Rattle.flow.proofs.Members.{and-both, below-in}
 use Rattle.flow.proofs.Tests.{same, every, Fitting, fitting}
@@ -30,7 +31,7 @@ put-append false s cs xs = refl
 
 -- whether an item's span is held, by its kind: of a statement of one item, if b
 abbrev heldBy : Bool → ℕ → Bool → Bool
-heldBy h k b = cond (nests k) (oneOf k (WHILE ∷ FOR ∷ IF ∷ ELSEIF ∷ UNTIL ∷ []) && h) b
+heldBy h k b = cond (nests k) (member k (WHILE ∷ FOR ∷ IF ∷ ELSEIF ∷ UNTIL ∷ []) && h) b
 
 module _ (h : Bool) (p : ℕ → Bool) where
   abbrev isHeld : Item → Bool
@@ -39,7 +40,7 @@ module _ (h : Bool) (p : ℕ → Bool) where
   -- the spans of an open block that an item of kind k opened, and of all the open blocks, behind those that came before
   ofFrame : ℕ → Frame → List ℕ → List ℕ
   ofFrame k f cs =
-      cond (oneOf k (IF ∷ ELSE ∷ [])) (ofArms h p (f .arms) (ofBlock h p (f .body) cs))
+      cond (member k (IF ∷ ELSE ∷ [])) (ofArms h p (f .arms) (ofBlock h p (f .body) cs))
       (cond (eqb k REPEAT) (put h (f .close) (ofBlock h p (f .body) cs)) (ofBlock h p (f .body) cs))
 
   ofOpen : List ℕ → Open → List ℕ → List ℕ
@@ -83,7 +84,7 @@ beq-eq false true e = absurd (false≢true e)
 beq-eq false false e = refl
 
 -- two tests of a kind agree if they agree at each of the 19
-agree : (f g : ℕ → Bool) → keep (λ k. eqb k 0 || Bool·beq (f k) (g k)) (below 20) ≡ below 20 → (i : Item) → itemFits i ≡ true → f (kind i) ≡ g (kind i)
+agree : (f g : ℕ → Bool) → filter (λ k. eqb k 0 || Bool·beq (f k) (g k)) (below 20) ≡ below 20 → (i : Item) → itemFits i ≡ true → f (kind i) ≡ g (kind i)
 agree f g e i a =
     let t = fitting i a in
     let b = every (λ k. eqb k 0 || Bool·beq (f k) (g k)) (below 20) (kind i) e (below-in 20 (kind i) (omega arith)) in
@@ -91,7 +92,7 @@ agree f g e i a =
 
 -- `isCode`, by an item's kind and whether its argument is 0
 abbrev codeBy : ℕ → Bool → Bool
-codeBy k nameless = oneOf k (WHILE ∷ FOR ∷ IF ∷ ELSEIF ∷ UNTIL ∷ LOCAL ∷ []) || (leb GOTO k && leb k PLAIN) || (eqb k LABEL && not nameless)
+codeBy k nameless = member k (WHILE ∷ FOR ∷ IF ∷ ELSEIF ∷ UNTIL ∷ LOCAL ∷ []) || (leb GOTO k && leb k PLAIN) || (eqb k LABEL && not nameless)
 
 code-held : (z : Bool) (i : Item) → itemFits i ≡ true → codeBy (kind i) z ≡ heldBy true (kind i) (makesCode (kind i) z)
 code-held true = agree (λ k. codeBy k true) (λ k. heldBy true k (makesCode k true)) refl

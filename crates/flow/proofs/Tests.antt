@@ -8,7 +8,7 @@ use native.Mathlib.Omega.{arith}
 use borrow.Author.Tests.{ltb-true, ltb-false, leb-true, eqb-true, not-false}
 use lib.Dec.{eqb, leb, ltb}
 use lib.ListN.{length, getD}
-use Rattle.search.specs.Search.{In, keep}
+use Rattle.search.specs.Search.{In, filter}
 use Rattle.flow.specs.declared.Refusal.{Refusal}
 use Rattle.flow.specs.declared.Verdict.{Verdict}
 use Rattle.flow.specs.declared.Verdict.the-variants.{Admitted, Refused}
@@ -16,7 +16,7 @@ use Rattle.flow.specs.Sheet.{Item, all, kind, count, outerEnd, items, st
 use Rattle.flow.specs.Kinds.{argumentFits, itemFits}
 use Rattle.flow.specs.Refusals.{number, Test, firstApplying, miscount, badItem, pairsUp, badNesting, inLine, offTheLine, itemTests, sheetTests, sheetVerdict, outnumbered, tooDeep, sideBySide, held, namesFit, badName}
 use Rattle.flow.specs.Admitted.{anItem}
-use Rattle.search.proofs.Worklist.{keep-in}
+use Rattle.search.proofs.Worklist.{filter-in}
 use Rattle.flow.proofs.Members.{and-both}
 
 pub neither : (a b : Bool) → (a || b) ≡ false → (a ≡ false) × (b ≡ false)
@@ -33,8 +33,8 @@ same true x = refl
 same false x = refl
 
 -- what holds of each of a list by one evaluation
-pub every : (t : ℕ → Bool) (xs : List ℕ) (x : ℕ) → keep t xs ≡ xs → In x xs → t x ≡ true
-every t xs x e i = keep-in t xs x (rw e i) .1
+pub every : (t : ℕ → Bool) (xs : List ℕ) (x : ℕ) → filter t xs ≡ xs → In x xs → t x ≡ true
+every t xs x e i = filter-in t xs x (rw e i) .1
 
 -- ---- the verdict
 

@@ -7,7 +7,7 @@ use native.Mathlib.Omega.{arith}
 use lib.ListN.{length, length-append}
 use Rattle.flow.specs.declared.Truth.{Truth}
 use Rattle.flow.specs.declared.Truth.the-variants.{False, True, Unknown}
-use Rattle.flow.specs.Graph.{absent, Codes, Names, Graph, Settings, newNode, connect, moveTo, advanceTo, recordCode, setStart, closeInto, declare, newNodes, unlessTrue, unlessFalse, enterWhen}
+use Rattle.flow.specs.Graph.{absent, Codes, Names, Graph, Settings, newNode, connect, setCurrent, advanceTo, recordCode, setStart, closeInto, declare, newNodes, unlessTrue, unlessFalse, enterWhen}
 
 pub record Written : Type 0 where
   pub codes : Codes
@@ -86,12 +86,12 @@ pub connected : (a b : ℕ) (g : Graph) → written (connect a b g) ≡ written 
 unfolding written connect
 connected a b g = refl
 
-pub moved : (v : ℕ) (g : Graph) → written (moveTo v g) ≡ written g
-unfolding written moveTo
+pub moved : (v : ℕ) (g : Graph) → written (setCurrent v g) ≡ written g
+unfolding written setCurrent
 moved v g = refl
 
 pub advanced : (v : ℕ) (g : Graph) → written (advanceTo v g) ≡ written g
-unfolding written advanceTo moveTo connect
+unfolding written advanceTo setCurrent connect
 advanced v g = refl
 
 pub started : (v p : ℕ) (g : Graph) → written (setStart v p g) ≡ written g
@@ -99,7 +99,7 @@ unfolding written setStart
 started v p g = refl
 
 pub closed : (b : ℕ) (g : Graph) → written (closeInto b g) ≡ written g
-unfolding written closeInto moveTo connect
+unfolding written closeInto setCurrent connect
 closed b g = refl
 
 pub unless-true : (t : Truth) (a b : ℕ) (g : Graph) → written (unlessTrue t (connect a b) g) ≡ written g

@@ -7,13 +7,13 @@ use Prim.Native.Nat.{ℕ, _+_, _*_, _^_, _≤_, _<_}
 use lib.ListN.{length, getD, drop}
 use lib.Dec.{eqb}
 use Rattle.flow.specs.declared.Verdict.the-variants.{Admitted}
-use Rattle.flow.specs.Sheet.{Item, kind, count, outerEnd, items, kindWords, spanWords, together, kindOf, endOf, useWords, useSpans, localOf, useKindOf}
+use Rattle.flow.specs.Sheet.{Item, kind, count, outerEnd, items, kindWords, spanWords, zip, kindOf, endOf, useWords, useSpans, localOf, useKindOf}
 use Rattle.flow.specs.Kinds.{kinds, itemFits, isCode}
 use Rattle.flow.specs.Refusals.{nameCount, sheetVerdict, outnumbered, pairsUp, sideBySide, inLine, held, namesFit}
 use Rattle.flow.specs.Tree.{parse, tree, no-more}
 use Rattle.flow.specs.Size.{blockNodes}
 use Rattle.flow.specs.Graph.{graph}
-use Rattle.flow.specs.Findings.{onlyIf, locals}
+use Rattle.flow.specs.Locals.{onlyIf, locals}
 open record kinds using (NAME)
 
 -- the spans of those items that pass a test, in order
@@ -29,16 +29,16 @@ anItem = record { word = 0; span = 0 }
 
 -- a block that DO, WHILE, REPEAT or FOR opens is followed by no arm; this is a fact of the kinds alone, whatever the spans
 abbrev pub Tidy : List ℕ → Type 0
-Tidy ks = (ss : List ℕ) → length ss ≡ length ks → (i : ℕ) → i < length ks → 1 ≤ kindOf (getD ks i 0) → kindOf (getD ks i 0) ≤ 4 → parse (drop (i + 1) (together ks ss)) .top .arms ≡ no-more
+Tidy ks = (ss : List ℕ) → length ss ≡ length ks → (i : ℕ) → i < length ks → 1 ≤ kindOf (getD ks i 0) → kindOf (getD ks i 0) ≤ 4 → parse (drop (i + 1) (zip ks ss)) .top .arms ≡ no-more
 
 -- and it stands in another block
 abbrev pub Closed : List ℕ → Type 0
 Closed ks =
-    (ss : List ℕ) → length ss ≡ length ks → (i : ℕ) → i < length ks → 1 ≤ kindOf (getD ks i 0) → kindOf (getD ks i 0) ≤ 4 → parse (drop (i + 1) (together ks ss)) .below ≡ [] → ⊥
+    (ss : List ℕ) → length ss ≡ length ks → (i : ℕ) → i < length ks → 1 ≤ kindOf (getD ks i 0) → kindOf (getD ks i 0) ≤ 4 → parse (drop (i + 1) (zip ks ss)) .below ≡ [] → ⊥
 
 -- a tree of these kinds has room for 1,600 nodes, whatever the spans
 abbrev pub Roomy : List ℕ → Type 0
-Roomy ks = (ss : List ℕ) → length ss ≡ length ks → 6 + blockNodes (tree (together ks ss)) ≤ 1542
+Roomy ks = (ss : List ℕ) → length ss ≡ length ks → 6 + blockNodes (tree (zip ks ss)) ≤ 1542
 
 pub record AdmittedSheet (S : List ℕ) : Type 0 where
   pub words : length S ≡ 2 * count S + 2

@@ -3,6 +3,7 @@
 -- Assumes nothing: these are definitions.
 use mathlib.Core.List.{List, [], _∷_, _++_}
 use Prim.Native.Nat.{ℕ}
+use lib.ListN.{getD}
 use Rattle.flow.specs.declared.Found.{Found}
 use Rattle.flow.specs.declared.Found.the-variants.{At, Nothing}
 use Rattle.flow.specs.declared.Verdict.{Verdict}
@@ -48,6 +49,10 @@ runTold a = elim a [ RunRefused r ↦ told (number r) [] | Ran f can ↦ told 0 
 -- "Judge writes and returns the same, then the findings and their count."
 abbrev pub judgeTold : JudgeAnswer → Told
 judgeTold a = elim a [ JudgeRefused r ↦ told (number r) [] | Judged c n ↦ told 0 (countValues c ++ (n ∷ [])) ]
+
+-- how many findings judge tells: its fourth value
+abbrev pub findingsTold : Told → ℕ
+findingsTold t = getD (t .values) 3 0
 
 -- the label check says yes, 1, or no, 0
 abbrev pub labelTold : LabelAnswer → Told

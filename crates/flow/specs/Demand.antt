@@ -9,8 +9,8 @@ use lib.ListN.{length, getD}
 use Rattle.flow.specs.declared.Found.the-variants.{At}
 use Rattle.flow.specs.Sheet.{useWords, useSpans, localOf, useKindOf, startOf}
 use Rattle.flow.specs.Graph.{graph}
-use Rattle.flow.specs.Reachable.{nodeAt}
-use Rattle.flow.specs.Findings.{declaration, locals, localAt, tracked, noValue, writesJudged, isInClosure, nodeOf, findingWord}
+use Rattle.flow.specs.Reachable.{nodeAt, nodeOf}
+use Rattle.flow.specs.Locals.{declaration, locals, localAt, tracked, noValue, writesJudged, isInClosure, findingWord}
 use Rattle.flow.specs.Paths.{Edge, After, Meets}
 
 abbrev pub useWord : List ℕ → ℕ → ℕ

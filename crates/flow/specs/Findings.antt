@@ -1,70 +1,23 @@
--- 01, "From uses to findings (local_flow.rs)": the findings, computed. `Demand.antt` states the same over paths, and `proofs/Demand3.antt` shows that they agree.
+-- The findings, computed. Nobody has to believe this file: judge's promise fixes the same list over paths (`Demand.antt`), and `proofs/Demand3.antt` shows that they agree.
 -- Assumes nothing: these are definitions.
 use mathlib.Core.Bool.{Bool, true, false, cond, _&&_, _||_, not}
 use mathlib.Core.List.{List, [], _∷_, _++_, tail, map}
-use Prim.Native.Nat.{ℕ, zero, suc, _+_, _*_, _/_, _%_, _^_}
+use Prim.Native.Nat.{ℕ, zero, suc, _+_}
 use lib.ListN.{length, getD}
-use lib.Dec.{eqb, leb, ltb}
-use Rattle.search.specs.Search.{closure, keep}
+use lib.Dec.{eqb, ltb}
+use Rattle.search.specs.Search.{closure, filter}
 use Rattle.flow.specs.declared.Found.{Found}
 use Rattle.flow.specs.declared.Found.the-variants.{At, Nothing}
-use Rattle.flow.specs.Sheet.{Item, kind, oneOf, all, items, argumentOf, startOf, useWords, useSpans, localOf, useKindOf, crossingOf}
-use Rattle.flow.specs.Kinds.{kinds}
+use Rattle.flow.specs.Sheet.{member, all, startOf, useWords, useSpans, localOf, useKindOf}
 use Rattle.flow.specs.Refusals.{pairVerdict}
 use Rattle.flow.specs.Answers.{Told, tells, countValues}
 use Rattle.flow.specs.Graph.{Graph, nodeCount, graph}
-use Rattle.flow.specs.Reachable.{successors, nodeAt, countsOf}
-open record kinds using (LOCAL, NAME)
-
-abbrev pub onlyIf : {A : Type 0} → Bool → List A → List A
-onlyIf b l = cond b l []
-
--- a NAME: its argument, the values of its LOCAL, and how many names of its LOCAL stand before it
-abbrev pub Local : Type 0
-Local = record { flags : ℕ; values : ℕ; before : ℕ }
-
--- the names of a sheet, in order; v and b are of the LOCAL that was met last
-unfoldable pub localsFrom : ℕ → ℕ → List Item → List Local
-localsFrom v b [] = []
-localsFrom v b (i ∷ is) =
-    onlyIf (eqb (kind i) NAME) (record { flags = argumentOf (i .word); values = v; before = b } ∷ [])
-    ++ localsFrom (cond (eqb (kind i) LOCAL) (argumentOf (i .word)) v) (cond (eqb (kind i) NAME) (b + 1) 0) is
-
-unfoldable pub locals : List ℕ → List Local
-locals ws = localsFrom 0 0 (items ws)
-
-abbrev pub noLocal : Local
-noLocal = record { flags = 0; values = 0; before = 0 }
-
--- "NAME, argument 0 to 7: 1 begins with underscore, 2 modified, 4 captured"
-abbrev pub underscore : Local → Bool
-underscore l = eqb (l .flags % 2) 1
-
-abbrev pub modified : Local → Bool
-modified l = eqb (l .flags / 2 % 2) 1
-
-abbrev pub captured : Local → Bool
-captured l = eqb (l .flags / 4 % 2) 1
-
--- "A NAME has no value when at least as many names of its LOCAL stand before it as there are values, 65,535 meaning none lacks one"
-unfoldable pub noValue : Local → Bool
-noValue l = leb (l .values) (l .before) && not (eqb (l .values) 65535)
-
--- "If it is modified and not captured": its writes are judged
-unfoldable pub writesJudged : Local → Bool
-writesJudged l = modified l && not (captured l)
-
--- "It is tracked when it lacks the underscore and either has no value or is modified and not captured."
-unfoldable pub tracked : Local → Bool
-tracked l = not (underscore l) && (noValue l || writesJudged l)
+use Rattle.flow.specs.Reachable.{successors, nodeAt, nodeOf, countsOf}
+use Rattle.flow.specs.Locals.{onlyIf, Local, locals, noValue, writesJudged, tracked, isInClosure, Declaration, declaration, localAt, Finding, findingWord}
 
 -- a use of a local, with its number and the node of its span's start
 abbrev pub Use : Type 0
 Use = record { number : ℕ; span : ℕ; kind : ℕ; inClosure : Bool; place : Found }
-
--- 0 where there is none, which `allFound` rules out
-abbrev pub nodeOf : Found → ℕ
-nodeOf f = elim f [ At v ↦ v | Nothing ↦ 0 ]
 
 abbrev pub isFound : Found → Bool
 isFound f = elim f [ At v ↦ true | Nothing ↦ false ]
@@ -79,10 +32,6 @@ isRead u = not (eqb (u .kind) 1)
 abbrev pub isWrite : Use → Bool
 isWrite u = not (eqb (u .kind) 0)
 
--- "A use is in a closure when the local is captured and crossing is 1."
-unfoldable pub isInClosure : Local → ℕ → Bool
-isInClosure l w = captured l && eqb (crossingOf w) 1
-
 -- the uses of the local ℓ in use order, from use number k on
 unfoldable pub usesFrom : Graph → Local → ℕ → ℕ → List ℕ → List ℕ → List Use
 usesFrom g l ℓ k [] ss = []
@@ -95,17 +44,13 @@ usesFrom g l ℓ k (w ∷ ws) ss =
 unfoldable pub allFound : List Use → Bool
 allFound us = all (λ u. isFound (u .place)) us
 
--- a local's declaration: "A local's declaration is its LOCAL", at its node; and its scope end
-abbrev pub Declaration : Type 0
-Declaration = record { node : ℕ; scopeEnd : ℕ }
-
 -- "none the LOCAL's node, none with code start at or past the scope end"
 unfoldable pub isAliveAt : Graph → Declaration → ℕ → Bool
 isAliveAt g d v = not (eqb v (d .node)) && ltb (getD (g .nodes .start) v 0) (d .scopeEnd)
 
 -- where a live path goes on from u
 abbrev pub liveSuccessors : Graph → Declaration → ℕ → List ℕ
-liveSuccessors g d u = keep (isAliveAt g d) (successors g u)
+liveSuccessors g d u = filter (isAliveAt g d) (successors g u)
 
 unfoldable pub afterWrites : Graph → Declaration → List Use → List ℕ
 afterWrites g d [] = []
@@ -118,7 +63,7 @@ liveAfterWrites g d us = closure (afterWrites g d us) (liveSuccessors g d) (node
 -- "the first of the reads outside closures that no live path from after a write reaches and no earlier write shares a node with":
 -- the first among us, as a list of at most one, where `live` are those flags and `written` the nodes of the writes before us
 unfoldable pub isEmptyRead : List ℕ → List ℕ → Use → Bool
-isEmptyRead live written u = isRead u && not (u .inClosure) && not (eqb (getD live (node u) 0) 1) && not (oneOf (node u) written)
+isEmptyRead live written u = isRead u && not (u .inClosure) && not (eqb (getD live (node u) 0) 1) && not (member (node u) written)
 
 unfoldable pub firstEmptyRead : List ℕ → List ℕ → List Use → List Use
 firstEmptyRead live written [] = []
@@ -156,10 +101,10 @@ unfoldable pub meetsHere : Graph → Declaration → List Use → (Meeting → B
 meetsHere g d us m v = isAliveAt g d v && m (firstAt v us)
 
 unfoldable pub comesFrom : Graph → Declaration → List Use → ℕ → List ℕ
-comesFrom g d us v = keep (λ u. oneOf v (successors g u) && meetsHere g d us isNoUse u) (below (nodeCount g))
+comesFrom g d us v = filter (λ u. member v (successors g u) && meetsHere g d us isNoUse u) (below (nodeCount g))
 
 unfoldable pub meets : Graph → Declaration → List Use → (Meeting → Bool) → List ℕ
-meets g d us m = closure (keep (meetsHere g d us m) (below (nodeCount g))) (comesFrom g d us) (nodeCount g)
+meets g d us m = closure (filter (meetsHere g d us m) (below (nodeCount g))) (comesFrom g d us) (nodeCount g)
 
 -- the two ways a value's path can end
 abbrev pub Ahead : Type 0
@@ -202,24 +147,11 @@ initialOverwritten g l d us = tracked l && allFound us && not (noValue l) && isO
 unfoldable pub writesOverwritten : Graph → Local → Declaration → List Use → List Use
 writesOverwritten g l d us = onlyIf (tracked l && allFound us && writesJudged l) (overwrittenBelow g (ahead g d us) (nodeCount g) us)
 
--- "A finding is list (0 unassigned, 1 overwritten) + 2 × local + 2^32 × (use number + 1, or 0 for an initial value), and beside it the span, the name's span for an initial value."
-abbrev pub Finding : Type 0
-Finding = record { word : ℕ; span : ℕ }
-
-abbrev pub findingWord : ℕ → ℕ → ℕ → ℕ
-findingWord list ℓ k = list + 2 * ℓ + 2 ^ 32 * k
-
 abbrev pub ofUse : ℕ → ℕ → Use → Finding
 ofUse list ℓ u = record { word = findingWord list ℓ (u .number + 1); span = u .span }
 
 abbrev pub ofInitial : ℕ → ℕ → Finding
 ofInitial ℓ s = record { word = findingWord 1 ℓ 0; span = s }
-
-abbrev pub declaration : Graph → ℕ → Declaration
-declaration g ℓ = record { node = getD (g .names .node) ℓ 0; scopeEnd = getD (g .names .scopeEnd) ℓ 0 }
-
-abbrev pub localAt : List ℕ → ℕ → Local
-localAt ws ℓ = getD (locals ws) ℓ noLocal
 
 -- the uses of the local ℓ in a sheet and a use sheet
 unfoldable pub usesOf : List ℕ → List ℕ → ℕ → List Use

@@ -24,8 +24,8 @@ exits = record { End = 0; Break = 1; ReturnValue = 2; ReturnEmpty = 3; Error = 4
 
 open record exits using (End, Break, ReturnValue, ReturnEmpty, Error)
 
-abbrev pub entry : ℕ
-entry = 5
+abbrev pub entryNode : ℕ
+entryNode = 5
 
 -- "per node, both successors, code start"
 abbrev pub Nodes : Type 0
@@ -68,12 +68,12 @@ connect a b g =
     (cond (eqb (getD (n .second) a 0) absent) (record { first = n .first; second = set (n .second) a b; start = n .start }) n))) g
 
 -- another node is current, with no edge to it; 01's "moves there" is `advanceTo`
-unfoldable pub moveTo : ℕ → Graph → Graph
-moveTo v g = record { nodes = g .nodes; codes = g .codes; names = g .names; current = v }
+unfoldable pub setCurrent : ℕ → Graph → Graph
+setCurrent v g = record { nodes = g .nodes; codes = g .codes; names = g .names; current = v }
 
 -- "takes an edge from the current node if there is one, and becomes current"
 unfoldable pub advanceTo : ℕ → Graph → Graph
-advanceTo v g = moveTo v (connect (g .current) v g)
+advanceTo v g = setCurrent v (connect (g .current) v g)
 
 -- a span recorded at a node
 unfoldable pub recordCode : ℕ → ℕ → Graph → Graph
@@ -88,7 +88,7 @@ code s g = advanceTo (nodeCount g) (recordCode s (nodeCount g) (setStart (nodeCo
 
 -- an edge from the current node, after which nothing is current
 unfoldable pub closeInto : ℕ → Graph → Graph
-closeInto b g = moveTo absent (connect (g .current) b g)
+closeInto b g = setCurrent absent (connect (g .current) b g)
 
 -- "After a jump nothing is current."
 unfoldable pub jump : ℕ → ℕ → Graph → Graph
@@ -153,33 +153,50 @@ unlessFalse t f g = elim t [ False ↦ g | True ↦ f g | Unknown ↦ f g ]
 
 -- "A false condition enters the body with nothing current."
 abbrev pub enterWhen : Truth → Graph → Graph
-enterWhen t g = elim t [ False ↦ moveTo absent g | True ↦ g | Unknown ↦ g ]
+enterWhen t g = elim t [ False ↦ setCurrent absent g | True ↦ g | Unknown ↦ g ]
+
+-- the steps of a rule, in the order of its sentence: a graph, and what is done to it next
+infixl 1 _▷_
+abbrev pub _▷_ : Graph → (Graph → Graph) → Graph
+g ▷ f = f g
 
 unfoldable mutual
   pub buildStmt : Stmt → Settings → Graph → Graph
   buildStmt (simple w s) st g = simpleStmt (kindOf w) (argumentOf w) s st g
-  buildStmt (do-block w b) st g = buildBlock b (inside (scopeEndOf w) b st g) (entered b g)
+  buildStmt (do-block w b) st g = buildBlock b (inside (scopeEndOf w) b st g) (g ▷ entered b)
   -- "WHILE: code node head, node after, body, edge body end to head, then head to after unless the condition is true."
   buildStmt (while-loop w s b) st g =
       let head = nodeCount g in let after = nodeCount g + 1 in let t = literalTruth (conditionOf w) in
-      let h : Graph = enterWhen t (newNode (code s g)) in
-      moveTo after (unlessTrue t (connect head after) (closeInto head (buildBlock b (inside (scopeEndOf w) b (inLoop after head st) h) (entered b h))))
+      let h : Graph = g ▷ code s ▷ newNode ▷ enterWhen t in
+      buildBlock b (inside (scopeEndOf w) b (inLoop after head st) h) (h ▷ entered b)
+      ▷ closeInto head
+      ▷ unlessTrue t (connect head after)
+      ▷ setCurrent after
   -- "REPEAT: nodes body, condition, after; move to body; body end to condition; then condition to body unless true, to after unless false. UNTIL records its span at condition, whose code start remains 0."
   buildStmt (repeat-loop w b u) st g =
       let body = nodeCount g in let condition = nodeCount g + 1 in let after = nodeCount g + 2 in let t = literalTruth (conditionOf w) in
-      let h : Graph = newNode (newNode (advanceTo body (newNode g))) in
-      moveTo after (unlessFalse t (connect condition after) (unlessTrue t (connect condition body)
-      (recordCode u condition (closeInto condition (buildBlock b (inside (scopeEndOf w) b (inLoop after condition st) h) (entered b h))))))
+      let h : Graph = g ▷ newNode ▷ advanceTo body ▷ newNode ▷ newNode in
+      buildBlock b (inside (scopeEndOf w) b (inLoop after condition st) h) (h ▷ entered b)
+      ▷ closeInto condition
+      ▷ recordCode u condition
+      ▷ unlessTrue t (connect condition body)
+      ▷ unlessFalse t (connect condition after)
+      ▷ setCurrent after
   -- "FOR: code node; node head, moved to; node after; body end to head; then head to after."
   buildStmt (for-loop w s b) st g =
       let head = nodeCount g + 1 in let after = nodeCount g + 2 in
-      let h : Graph = newNode (advanceTo head (newNode (code s g))) in
-      moveTo after (connect head after (closeInto head (buildBlock b (inside (scopeEndOf w) b (inLoop after head st) h) (entered b h))))
+      let h : Graph = g ▷ code s ▷ newNode ▷ advanceTo head ▷ newNode in
+      buildBlock b (inside (scopeEndOf w) b (inLoop after head st) h) (h ▷ entered b)
+      ▷ closeInto head
+      ▷ connect head after
+      ▷ setCurrent after
   -- "IF: code node test, node join; each arm ends in join"; "past an IF its join" is current
   buildStmt (if-stmt w s b as') st g =
       let test = nodeCount g in let join = nodeCount g + 1 in
-      let h : Graph = newNode (code s g) in
-      moveTo join (buildArms as' test join true st (closeInto join (buildBlock b (inside (scopeEndOf w) b st h) (entered b h))))
+      let h : Graph = g ▷ code s ▷ newNode in
+      let arm : Graph = buildBlock b (inside (scopeEndOf w) b st h) (h ▷ entered b) ▷ closeInto join in
+      buildArms as' test join true st arm
+      ▷ setCurrent join
 
   pub buildBlock : Block → Settings → Graph → Graph
   buildBlock done st g = g
@@ -189,17 +206,19 @@ unfoldable mutual
   pub buildArms : Arms → ℕ → ℕ → Bool → Settings → Graph → Graph
   buildArms no-more test join falls st g = cond falls (connect test join g) g
   buildArms (elseif w s b as') test join falls st g =
-      let h : Graph = code s (moveTo test g) in
-      buildArms as' (nodeCount g) join falls st (closeInto join (buildBlock b (inside (scopeEndOf w) b st h) (entered b h)))
+      let h : Graph = g ▷ setCurrent test ▷ code s in
+      let arm : Graph = buildBlock b (inside (scopeEndOf w) b st h) (h ▷ entered b) ▷ closeInto join in
+      buildArms as' (nodeCount g) join falls st arm
   buildArms (otherwise w b as') test join falls st g =
-      let h : Graph = moveTo test g in
-      buildArms as' test join false st (closeInto join (buildBlock b (inside (scopeEndOf w) b st h) (entered b h)))
+      let h : Graph = g ▷ setCurrent test in
+      let arm : Graph = buildBlock b (inside (scopeEndOf w) b st h) (h ▷ entered b) ▷ closeInto join in
+      buildArms as' test join false st arm
 
 -- five exits and the entry, which is current; "Outside a loop BREAK goes to Break, CONTINUE to End."
-unfoldable pub start : Graph
-start =
+unfoldable pub startGraph : Graph
+startGraph =
     let n : Nodes = record { first = []; second = []; start = [] } in
-    let none : Graph = record { nodes = n; codes = record { span = []; node = [] }; names = record { span = []; node = []; scopeEnd = [] }; current = entry } in
+    let none : Graph = record { nodes = n; codes = record { span = []; node = [] }; names = record { span = []; node = []; scopeEnd = [] }; current = entryNode } in
     newNode (newNode (newNode (newNode (newNode (newNode none)))))
 
 unfoldable pub outside : Settings
@@ -209,4 +228,4 @@ outside = record { breakTo = Break; continueTo = End; scopeEnd = 0; labels = [] 
 unfoldable pub graph : List ℕ → Graph
 graph ws =
     let b : Block = tree (items ws) in
-    closeInto End (buildBlock b (inside (outerEnd ws) b outside start) (entered b start))
+    buildBlock b (inside (outerEnd ws) b outside startGraph) (startGraph ▷ entered b) ▷ closeInto End

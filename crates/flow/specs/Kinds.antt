@@ -6,7 +6,7 @@ use Prim.Native.Nat.{ℕ, _/_, _%_, _^_}
 use lib.Dec.{eqb, leb, ltb}
 use Rattle.flow.specs.declared.Truth.{Truth}
 use Rattle.flow.specs.declared.Truth.the-variants.{False, True, Unknown}
-use Rattle.flow.specs.Sheet.{Item, kind, oneOf, argumentOf, startOf, endOf}
+use Rattle.flow.specs.Sheet.{Item, kind, member, argumentOf, startOf, endOf}
 
 -- The table's column of kinds
 abbrev pub kinds : record { DO : ℕ; WHILE : ℕ; REPEAT : ℕ; FOR : ℕ; IF : ℕ; ELSEIF : ℕ; ELSE : ℕ; END : ℕ; UNTIL : ℕ; LOCAL : ℕ; NAME : ℕ; LABEL : ℕ; GOTO : ℕ; BREAK : ℕ; CONTINUE : ℕ; RETURN : ℕ; CALL : ℕ; PLAIN : ℕ; EMPTY : ℕ }
@@ -21,9 +21,9 @@ scoped c a = ltb (a % 32) (cond c 19 1) && ltb (a / 32) (2 ^ 32)
 -- The table's column of arguments. "Kinds 8, 9, 14, 15 have argument 0", and so have 18 and 19.
 unfoldable pub argumentFits : ℕ → ℕ → Bool
 argumentFits k a =
-    cond (oneOf k (WHILE ∷ REPEAT ∷ [])) (scoped true a)
-    (cond (oneOf k (DO ∷ FOR ∷ IF ∷ ELSEIF ∷ ELSE ∷ [])) (scoped false a)
-    (cond (oneOf k (LOCAL ∷ LABEL ∷ GOTO ∷ [])) (leb a 65535)
+    cond (member k (WHILE ∷ REPEAT ∷ [])) (scoped true a)
+    (cond (member k (DO ∷ FOR ∷ IF ∷ ELSEIF ∷ ELSE ∷ [])) (scoped false a)
+    (cond (member k (LOCAL ∷ LABEL ∷ GOTO ∷ [])) (leb a 65535)
     (cond (eqb k NAME) (leb a 7)
     (cond (eqb k RETURN) (leb a 1)
     (cond (eqb k CALL) (leb a 127)
@@ -31,7 +31,7 @@ argumentFits k a =
 
 -- "kinds without a stated span (1, 3, 7, 8, 19) have span word 0"
 abbrev pub spanless : ℕ → Bool
-spanless k = oneOf k (DO ∷ REPEAT ∷ ELSE ∷ END ∷ EMPTY ∷ [])
+spanless k = member k (DO ∷ REPEAT ∷ ELSE ∷ END ∷ EMPTY ∷ [])
 
 -- "kind, argument, word 1 or span not as above, or start past end", of an item: word 1 is tested with the sheet
 unfoldable pub itemFits : Item → Bool
@@ -49,7 +49,7 @@ closes k = eqb k END || eqb k UNTIL
 -- "Code spans are those of kinds 2, 4, 5, 6, 9, 10, 12 (named), 13 to 18."
 unfoldable pub isCode : Item → Bool
 isCode i =
-    oneOf (kind i) (WHILE ∷ FOR ∷ IF ∷ ELSEIF ∷ UNTIL ∷ LOCAL ∷ []) || (leb GOTO (kind i) && leb (kind i) PLAIN)
+    member (kind i) (WHILE ∷ FOR ∷ IF ∷ ELSEIF ∷ UNTIL ∷ LOCAL ∷ []) || (leb GOTO (kind i) && leb (kind i) PLAIN)
     || (eqb (kind i) LABEL && not (eqb (argumentOf (i .word)) 0))
 
 -- "Nil 0, False 1 are false; True 2 .. FunctionDef 8 are true; 9 to 18 are unknown."

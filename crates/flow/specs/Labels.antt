@@ -7,7 +7,7 @@ use mathlib.Core.Bool.{Bool, true, false, _&&_, _||_, not}
 use mathlib.Core.List.{List, [], _∷_, _++_}
 use Prim.Native.Nat.{ℕ}
 use lib.Dec.{eqb}
-use Rattle.flow.specs.Sheet.{items, oneOf, kindOf, argumentOf}
+use Rattle.flow.specs.Sheet.{items, member, kindOf, argumentOf}
 use Rattle.flow.specs.Kinds.{kinds}
 use Rattle.flow.specs.Refusals.{one, sheetVerdict}
 use Rattle.flow.specs.Answers.{Told, tells}
@@ -17,12 +17,12 @@ open record kinds using (GOTO)
 -- "no two labels with the same name number" in a block
 unfoldable pub distinct : List ℕ → Bool
 distinct [] = true
-distinct (a ∷ as') = not (oneOf a as') && distinct as'
+distinct (a ∷ as') = not (member a as') && distinct as'
 
 -- the statements of a block, with the labels that are visible there
 unfoldable mutual
   pub labelsFineIn : Stmt → List ℕ → Bool
-  labelsFineIn (simple w s) visible = not (eqb (kindOf w) GOTO) || oneOf (argumentOf w) visible
+  labelsFineIn (simple w s) visible = not (eqb (kindOf w) GOTO) || member (argumentOf w) visible
   labelsFineIn (do-block w b) visible = distinct (labelsOf b) && blockFine b (labelsOf b ++ visible)
   labelsFineIn (while-loop w s b) visible = distinct (labelsOf b) && blockFine b (labelsOf b ++ visible)
   labelsFineIn (repeat-loop w b u) visible = distinct (labelsOf b) && blockFine b (labelsOf b ++ visible)

@@ -6,6 +6,7 @@ pub mod Tree
 pub mod Graph
 pub mod Size
 pub mod Reachable
+pub mod Locals
 pub mod Findings
 pub mod Paths
 pub mod Demand

@@ -13,7 +13,8 @@ use Rattle.flow.specs.Refusals.{number}
 use Rattle.flow.specs.Answers.{Told}
 use Rattle.flow.specs.Graph.{graph}
 use Rattle.flow.specs.Reachable.{reachable}
-use Rattle.flow.specs.Findings.{Finding, findings, judge}
+use Rattle.flow.specs.Locals.{Finding}
+use Rattle.flow.specs.Findings.{findings, judge}
 
 -- the bytes of a text, of which the first k
 abbrev pub firstBytes : ℕ → String → List ℕ
@@ -73,12 +74,13 @@ unfoldable pub fileWords : ℕ → List ℕ → List ℕ
 fileWords zero bs = []
 fileWords (suc k) bs = littleEndian 8 bs ∷ fileWords k (drop 8 bs)
 
--- a sheet of 2n + 2 words, and a use sheet of all others; the program's own columns are long enough, so that 1 is never printed
+-- what a sheet and a use sheet print; the program's own columns are long enough, so that 1 is never printed
+abbrev pub sheetsPrint : List ℕ → List ℕ → List ℕ
+sheetsPrint S U = printedFor (judge false S U) (reachable (graph S)) (findings S U)
+
+-- a sheet of 2n + 2 words, and a use sheet of all others
 unfoldable pub printedWords : List ℕ → List ℕ
-printedWords ws =
-    let S : List ℕ = take (2 * count ws + 2) ws in
-    let U : List ℕ = drop (2 * count ws + 2) ws in
-    printedFor (judge false S U) (reachable (graph S)) (findings S U)
+printedWords ws = sheetsPrint (take (2 * count ws + 2) ws) (drop (2 * count ws + 2) ws)
 
 -- "K is 2 for lost or spare bytes"
 unfoldable pub printed : List ℕ → List ℕ

@@ -6,7 +6,7 @@ use lib.ListN.{getD}
 use Rattle.search.specs.Search.{In}
 use Rattle.flow.specs.Graph.{Graph}
 use Rattle.flow.specs.Reachable.{successors}
-use Rattle.flow.specs.Findings.{Declaration}
+use Rattle.flow.specs.Locals.{Declaration}
 
 -- "nodes joined by edges"
 abbrev pub Edge : Graph → ℕ → ℕ → Type 0

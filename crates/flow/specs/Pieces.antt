@@ -14,10 +14,11 @@ use Rattle.flow.specs.declared.Verdict.the-variants.{Admitted, Refused}
 use Rattle.search.specs.Search.{closure}
 use Rattle.flow.specs.Sheet.{all, Item}
 use Rattle.flow.specs.Kinds.{kinds, argumentFits, itemFits, isCode, literalTruth}
-use Rattle.flow.specs.Refusals.{pairVerdict, miscount, badItem, outnumbered, tooDeep, mayStand, openAfter, pairsUp, besideEachOther, sideBySide, badNesting, inLine, scopesAfter, held, offTheLine, nameFits, namesFit, badName, nameCount, useFits, usesFit, badUse, firstApplying, itemTests, pairTests}
-use Rattle.flow.specs.Graph.{nodeCount, graph, newNode, connect, moveTo, advanceTo, recordCode, setStart, code, closeInto, jump, declare, labelNode, simpleStmt, newNodes, withLabels, entered, inside, inLoop, start, outside, buildStmt, buildBlock, buildArms}
+use Rattle.flow.specs.Refusals.{pairVerdict, miscount, badItem, outnumbered, tooDeep, mayStand, openAfter, pairsUp, mayFollow, sideBySide, badNesting, inLine, scopesAfter, held, offTheLine, nameFits, namesFit, badName, nameCount, useFits, usesFit, badUse, firstApplying, itemTests, pairTests}
+use Rattle.flow.specs.Graph.{nodeCount, graph, newNode, connect, setCurrent, advanceTo, recordCode, setStart, code, closeInto, jump, declare, labelNode, simpleStmt, newNodes, withLabels, entered, inside, inLoop, startGraph, outside, buildStmt, buildBlock, buildArms}
 use Rattle.flow.specs.Reachable.{successors, reachable, nodeAt, canRun, nodeAmong}
-use Rattle.flow.specs.Findings.{Finding, findings, localsFrom, locals, noValue, writesJudged, tracked, isInClosure, usesFrom, allFound, isAliveAt, afterWrites, liveAfterWrites, isEmptyRead, firstEmptyRead, firstAt, meetsHere, comesFrom, meets, ahead, anyFlag, isOverwrittenUnread, isOverwritten, overwrittenAt, overwrittenBelow, firstUnassignedUse, initialOverwritten, writesOverwritten, usesOf, unassignedOf, overwrittenOf, ofEach, judge}
+use Rattle.flow.specs.Locals.{Finding, localsFrom, locals, noValue, writesJudged, tracked, isInClosure}
+use Rattle.flow.specs.Findings.{findings, usesFrom, allFound, isAliveAt, afterWrites, liveAfterWrites, isEmptyRead, firstEmptyRead, firstAt, meetsHere, comesFrom, meets, ahead, anyFlag, isOverwrittenUnread, isOverwritten, overwrittenAt, overwrittenBelow, firstUnassignedUse, initialOverwritten, writesOverwritten, usesOf, unassignedOf, overwrittenOf, ofEach, judge}
 use Rattle.flow.specs.Tree.{inFront, opened, read, parse, tree, labelsOf}
 use Rattle.flow.specs.Listing.{bytes, printedWords, digits, numbers, findingLine, findingLines, report}
 open record kinds using (WHILE, REPEAT, IF, END, UNTIL, LOCAL, NAME, LABEL, GOTO, DO, CALL, PLAIN)
@@ -26,8 +27,8 @@ open record kinds using (WHILE, REPEAT, IF, END, UNTIL, LOCAL, NAME, LABEL, GOTO
 abbrev pub item : ℕ → ℕ → ℕ → ℕ → Item
 item k a s e = record { word = k + 256 * a; span = s + 2 ^ 32 * e }
 
-abbrev pub scoped : ℕ → ℕ → ℕ
-scoped c e = c + 32 * e
+abbrev pub withScope : ℕ → ℕ → ℕ
+withScope c e = c + 32 * e
 
 abbrev pub sheet : ℕ → List Item → List ℕ
 sheet end is = length is ∷ end ∷ map (λ i. i .word) is ++ map (λ i. i .span) is
@@ -118,17 +119,17 @@ starred =
       facts = prints "graph 9 3 1\nexits 1 0 0 0 0\noverwritten 0 6 7\n" ∷ lists (record { word = 1; span = 6 + 2 ^ 32 * 7 } ∷ []) ∷ offset 8 (At 6) true ∷ offset 9 (At 7) true ∷ offset 22 Nothing true ∷ [];
     }
     ∷ record {
-      sheetOf = sheet 30 (item WHILE (scoped 1 20) 0 11 ∷ item PLAIN 0 12 15 ∷ item END 0 0 0 ∷ []);
+      sheetOf = sheet 30 (item WHILE (withScope 1 20) 0 11 ∷ item PLAIN 0 12 15 ∷ item END 0 0 0 ∷ []);
       usesOf = uses [];
       facts = edges 8 (6 ∷ []) ∷ edges 6 (7 ∷ []) ∷ reached 8 0 ∷ [];
     }
     ∷ record {
-      sheetOf = sheet 30 (item WHILE (scoped 2 20) 0 11 ∷ item END 0 0 0 ∷ []);
+      sheetOf = sheet 30 (item WHILE (withScope 2 20) 0 11 ∷ item END 0 0 0 ∷ []);
       usesOf = uses [];
       facts = edges 6 (6 ∷ []) ∷ reached 0 0 ∷ [];
     }
-    ∷ record { sheetOf = sheet 30 (item REPEAT (scoped 1 20) 0 0 ∷ item UNTIL 0 15 20 ∷ []); usesOf = uses []; facts = edges 7 (6 ∷ []) ∷ [] }
-    ∷ record { sheetOf = sheet 30 (item IF (scoped 0 20) 0 9 ∷ item END 0 0 0 ∷ []); usesOf = uses []; facts = edges 6 (7 ∷ 7 ∷ []) ∷ [] }
+    ∷ record { sheetOf = sheet 30 (item REPEAT (withScope 1 20) 0 0 ∷ item UNTIL 0 15 20 ∷ []); usesOf = uses []; facts = edges 7 (6 ∷ []) ∷ [] }
+    ∷ record { sheetOf = sheet 30 (item IF (withScope 0 20) 0 9 ∷ item END 0 0 0 ∷ []); usesOf = uses []; facts = edges 6 (7 ∷ 7 ∷ []) ∷ [] }
     ∷ record { sheetOf = sheet 30 (item LABEL 1 0 5 ∷ item LABEL 1 6 11 ∷ []); usesOf = uses []; facts = edges 7 (7 ∷ 0 ∷ []) ∷ [] }
     ∷ record {
       sheetOf = sheet 30 (item LABEL 1 0 5 ∷ item LABEL 1 6 11 ∷ item LABEL 1 12 17 ∷ []);
@@ -148,7 +149,7 @@ starred =
 abbrev pub loopWith : Item → List ℕ
 loopWith i =
     sheet 60
-    (item WHILE (scoped 10 60) 0 2 ∷ item PLAIN 0 3 5 ∷ item DO (scoped 0 20) 0 0 ∷ item LOCAL 0 6 12 ∷ item NAME 2 8 9 ∷ item PLAIN 0 14 18 ∷ item END 0 0 0
+    (item WHILE (withScope 10 60) 0 2 ∷ item PLAIN 0 3 5 ∷ item DO (withScope 0 20) 0 0 ∷ item LOCAL 0 6 12 ∷ item NAME 2 8 9 ∷ item PLAIN 0 14 18 ∷ item END 0 0 0
     ∷ i ∷ item END 0 0 0 ∷ [])
 
 -- "sorting uses of a node by offset": the read that comes first in use order is listed, though another starts before it
@@ -168,5 +169,5 @@ slips =
     ∷ []
 
 pub pieces-hold : allHold (starred ++ slips) ≡ true
-unfolding starred slips closure argumentFits itemFits isCode literalTruth miscount all badItem outnumbered tooDeep mayStand openAfter pairsUp besideEachOther sideBySide badNesting inLine scopesAfter held offTheLine nameFits namesFit badName nameCount useFits usesFit badUse firstApplying itemTests pairTests pairVerdict inFront opened read parse tree labelsOf newNode connect moveTo advanceTo recordCode setStart code closeInto jump declare labelNode simpleStmt newNodes withLabels entered inside inLoop start outside graph buildStmt buildBlock buildArms reachable nodeAmong nodeAt canRun localsFrom locals noValue writesJudged tracked isInClosure usesFrom allFound isAliveAt afterWrites liveAfterWrites isEmptyRead firstEmptyRead firstAt meetsHere comesFrom meets ahead anyFlag isOverwrittenUnread isOverwritten overwrittenAt overwrittenBelow firstUnassignedUse initialOverwritten writesOverwritten usesOf unassignedOf overwrittenOf ofEach findings judge digits numbers findingLine findingLines report printedWords
+unfolding starred slips closure argumentFits itemFits isCode literalTruth miscount all badItem outnumbered tooDeep mayStand openAfter pairsUp mayFollow sideBySide badNesting inLine scopesAfter held offTheLine nameFits namesFit badName nameCount useFits usesFit badUse firstApplying itemTests pairTests pairVerdict inFront opened read parse tree labelsOf newNode connect setCurrent advanceTo recordCode setStart code closeInto jump declare labelNode simpleStmt newNodes withLabels entered inside inLoop startGraph outside graph buildStmt buildBlock buildArms reachable nodeAmong nodeAt canRun localsFrom locals noValue writesJudged tracked isInClosure usesFrom allFound isAliveAt afterWrites liveAfterWrites isEmptyRead firstEmptyRead firstAt meetsHere comesFrom meets ahead anyFlag isOverwrittenUnread isOverwritten overwrittenAt overwrittenBelow firstUnassignedUse initialOverwritten writesOverwritten usesOf unassignedOf overwrittenOf ofEach findings judge digits numbers findingLine findingLines report printedWords
 pieces-hold = refl

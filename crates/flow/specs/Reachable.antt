@@ -7,22 +7,22 @@ use mathlib.Core.List.{List, [], _∷_, tail}
 use Prim.Native.Nat.{ℕ, _≤_, _<_}
 use lib.ListN.{length, getD}
 use lib.Dec.{eqb, ltb}
-use Rattle.search.specs.Search.{Reach, closure, keep}
+use Rattle.search.specs.Search.{Reach, closure, filter}
 use Rattle.flow.specs.declared.Found.{Found}
 use Rattle.flow.specs.declared.Found.the-variants.{At, Nothing}
 use Rattle.flow.specs.declared.Counts.{Counts}
 use Rattle.flow.specs.Sheet.{endOf}
 use Rattle.flow.specs.Refusals.{one, sheetVerdict}
 use Rattle.flow.specs.Answers.{Told, tells, foundValues, countValues}
-use Rattle.flow.specs.Graph.{Graph, nodeCount, entry, graph}
+use Rattle.flow.specs.Graph.{Graph, nodeCount, entryNode, graph}
 
 -- the edges of a node: its successors that are nodes, which `absent` is not
 abbrev pub successors : Graph → ℕ → List ℕ
-successors g u = keep (λ v. ltb v (nodeCount g)) (getD (g .nodes .first) u 0 ∷ getD (g .nodes .second) u 0 ∷ [])
+successors g u = filter (λ v. ltb v (nodeCount g)) (getD (g .nodes .first) u 0 ∷ getD (g .nodes .second) u 0 ∷ [])
 
 -- "Reachable: from node 5 along edges."
 abbrev pub Reachable : Graph → ℕ → Type 0
-Reachable g = Reach (entry ∷ []) (successors g)
+Reachable g = Reach (entryNode ∷ []) (successors g)
 
 -- "a reachable flag 0 or 1", of each node: 1 exactly where a path from the entry leads
 pub record Flagged (g : Graph) (flags : List ℕ) : Type 0 where
@@ -31,7 +31,7 @@ pub record Flagged (g : Graph) (flags : List ℕ) : Type 0 where
 
 -- the flags, computed; `proofs/Flags.antt` shows that they are `Flagged`
 unfoldable pub reachable : Graph → List ℕ
-reachable g = closure (entry ∷ []) (successors g) (nodeCount g)
+reachable g = closure (entryNode ∷ []) (successors g) (nodeCount g)
 
 -- "The node of an offset is that of the first code whose end is greater than the offset."
 unfoldable pub nodeAmong : List ℕ → List ℕ → ℕ → Found
@@ -40,6 +40,10 @@ nodeAmong (s ∷ ss) vs o = cond (ltb o (endOf s)) (At (getD vs 0 0)) (nodeAmong
 
 unfoldable pub nodeAt : Graph → ℕ → Found
 nodeAt g o = nodeAmong (g .codes .span) (g .codes .node) o
+
+-- its number, 0 where there is none
+abbrev pub nodeOf : Found → ℕ
+nodeOf f = elim f [ At v ↦ v | Nothing ↦ 0 ]
 
 -- "yes exactly when there is none or the node is reachable": over paths, and computed
 abbrev pub CanRun : Graph → Found → Type 0

@@ -9,7 +9,7 @@ use Rattle.flow.specs.declared.Refusal.{Refusal}
 use Rattle.flow.specs.declared.Refusal.the-variants.{BenchTooSmall, Miscount, BadItem, TooDeep, BadNesting, OffTheLine, BadName, BadUse}
 use Rattle.flow.specs.declared.Verdict.{Verdict}
 use Rattle.flow.specs.declared.Verdict.the-variants.{Admitted, Refused}
-use Rattle.flow.specs.Sheet.{Item, kind, oneOf, all, count, outerEnd, items, startOf, endOf, scopeEndOf, useWords, useSpans, localOf}
+use Rattle.flow.specs.Sheet.{Item, kind, member, all, count, outerEnd, items, startOf, endOf, scopeEndOf, useWords, useSpans, localOf}
 use Rattle.flow.specs.Kinds.{kinds, itemFits, opens, closes, isCode}
 open record kinds using (REPEAT, IF, ELSEIF, ELSE, END, UNTIL, LOCAL, NAME, CONTINUE, RETURN)
 
@@ -43,9 +43,9 @@ innermost os = getD os 0 0
 
 unfoldable pub mayStand : ℕ → List ℕ → Bool
 mayStand k os =
-    cond (eqb k END) (not (oneOf (innermost os) (0 ∷ REPEAT ∷ [])))
+    cond (eqb k END) (not (member (innermost os) (0 ∷ REPEAT ∷ [])))
     (cond (eqb k UNTIL) (eqb (innermost os) REPEAT)
-    (cond (oneOf k (ELSEIF ∷ ELSE ∷ [])) (eqb (innermost os) IF) true))
+    (cond (member k (ELSEIF ∷ ELSE ∷ [])) (eqb (innermost os) IF) true))
 
 unfoldable pub openAfter : ℕ → List ℕ → List ℕ
 openAfter k os = cond (opens k) (k ∷ os) (cond (closes k) (tail os) (cond (eqb k ELSE) (ELSE ∷ tail os) os))
@@ -55,14 +55,14 @@ pairsUp os [] = eqb (innermost os) 0
 pairsUp os (i ∷ is) = mayStand (kind i) os && pairsUp (openAfter (kind i) os) is
 
 -- "a LOCAL without a NAME next; a NAME not after LOCAL or NAME; RETURN or CONTINUE not last in its block": of two kinds side by side, 0 at the sheet's ends
-unfoldable pub besideEachOther : ℕ → ℕ → Bool
-besideEachOther k l =
-    (not (eqb k LOCAL) || eqb l NAME) && (not (eqb l NAME) || oneOf k (LOCAL ∷ NAME ∷ []))
-    && (not (oneOf k (RETURN ∷ CONTINUE ∷ [])) || oneOf l (0 ∷ END ∷ UNTIL ∷ ELSEIF ∷ ELSE ∷ []))
+unfoldable pub mayFollow : ℕ → ℕ → Bool
+mayFollow k l =
+    (not (eqb k LOCAL) || eqb l NAME) && (not (eqb l NAME) || member k (LOCAL ∷ NAME ∷ []))
+    && (not (member k (RETURN ∷ CONTINUE ∷ [])) || member l (0 ∷ END ∷ UNTIL ∷ ELSEIF ∷ ELSE ∷ []))
 
 unfoldable pub sideBySide : ℕ → List Item → Bool
-sideBySide k [] = besideEachOther k 0
-sideBySide k (i ∷ is) = besideEachOther k (kind i) && sideBySide (kind i) is
+sideBySide k [] = mayFollow k 0
+sideBySide k (i ∷ is) = mayFollow k (kind i) && sideBySide (kind i) is
 
 unfoldable pub badNesting : List ℕ → Bool
 badNesting ws = not (pairsUp [] (items ws) && sideBySide 0 (items ws))
@@ -74,7 +74,7 @@ inLine p (i ∷ is) = (not (isCode i) || leb p (startOf (i .span))) && inLine (c
 
 -- the scope ends of the blocks around, the innermost first
 unfoldable pub scopesAfter : ℕ → ℕ → List ℕ → List ℕ
-scopesAfter k s ss = cond (opens k) (s ∷ ss) (cond (closes k) (tail ss) (cond (oneOf k (ELSEIF ∷ ELSE ∷ [])) (s ∷ tail ss) ss))
+scopesAfter k s ss = cond (opens k) (s ∷ ss) (cond (closes k) (tail ss) (cond (member k (ELSEIF ∷ ELSE ∷ [])) (s ∷ tail ss) ss))
 
 -- "or ends past the scope end of a block that holds it (for an ELSEIF, the blocks around its IF); REPEAT's scope end is not its UNTIL's end"
 unfoldable pub held : List ℕ → List Item → Bool
@@ -105,7 +105,7 @@ nameCount [] = 0
 nameCount (i ∷ is) = one (eqb (kind i) NAME) + nameCount is
 
 unfoldable pub useFits : ℕ → ℕ → ℕ → Bool
-useFits names w s = ltb (localOf w) names && oneOf (w / 65536) (0 ∷ 1 ∷ 2 ∷ 4 ∷ 5 ∷ 6 ∷ []) && leb (startOf s) (endOf s)
+useFits names w s = ltb (localOf w) names && member (w / 65536) (0 ∷ 1 ∷ 2 ∷ 4 ∷ 5 ∷ 6 ∷ []) && leb (startOf s) (endOf s)
 
 unfoldable pub usesFit : ℕ → List ℕ → List ℕ → Bool
 usesFit names [] ss = true
@@ -126,13 +126,17 @@ firstApplying (t ∷ ts) = cond (t .1) (Refused (t .0)) (firstApplying ts)
 unfoldable pub itemTests : List ℕ → List Test
 itemTests ws = (BadItem, badItem ws) ∷ (TooDeep, tooDeep ws) ∷ (BadNesting, badNesting ws) ∷ (OffTheLine, offTheLine ws) ∷ (BadName, badName ws) ∷ []
 
+-- 1 to 7, with which every call begins: `miscounted` is 2, over all of its sheets
+abbrev pub leadingTests : Bool → Bool → List ℕ → List Test
+leadingTests short miscounted ws = (BenchTooSmall, short) ∷ (Miscount, miscounted) ∷ itemTests ws
+
 -- of a call that takes a sheet. `short` says whether a column that it is lent is too short: each call's own measure (`specs/Lent.antt` of `chart` and `judge`). "Run and the label check lend nothing and never give 1": for these it is false.
 unfoldable pub sheetTests : Bool → List ℕ → List Test
-sheetTests short ws = (BenchTooSmall, short) ∷ (Miscount, miscount 2 ws) ∷ itemTests ws
+sheetTests short ws = leadingTests short (miscount 2 ws) ws
 
 -- of a call that takes a sheet and a use sheet: "only judge gives 8"
 unfoldable pub pairTests : Bool → List ℕ → List ℕ → List Test
-pairTests short ws us = (BenchTooSmall, short) ∷ (Miscount, miscount 2 ws || miscount 1 us) ∷ itemTests ws ++ ((BadUse, badUse ws us) ∷ [])
+pairTests short ws us = leadingTests short (miscount 2 ws || miscount 1 us) ws ++ ((BadUse, badUse ws us) ∷ [])
 
 -- "Sheets are admitted when none applies to the call that takes them."
 unfoldable pub sheetVerdict : Bool → List ℕ → Verdict

@@ -7,9 +7,9 @@ use lib.ListN.{take, drop, getD}
 use lib.Dec.{eqb}
 
 -- k is one of a list
-abbrev pub oneOf : ℕ → List ℕ → Bool
-oneOf k [] = false
-oneOf k (x ∷ xs) = eqb k x || oneOf k xs
+abbrev pub member : ℕ → List ℕ → Bool
+member k [] = false
+member k (x ∷ xs) = eqb k x || member k xs
 
 -- a test holds of each of a list
 unfoldable pub all : {A : Type 0} → (A → Bool) → List A → Bool
@@ -58,13 +58,13 @@ Item = record { word : ℕ; span : ℕ }
 abbrev pub kind : Item → ℕ
 kind i = kindOf (i .word)
 
-abbrev pub together : List ℕ → List ℕ → List Item
-together [] ss = []
-together (w ∷ ws) [] = []
-together (w ∷ ws) (s ∷ ss) = record { word = w; span = s } ∷ together ws ss
+abbrev pub zip : List ℕ → List ℕ → List Item
+zip [] ss = []
+zip (w ∷ ws) [] = []
+zip (w ∷ ws) (s ∷ ss) = record { word = w; span = s } ∷ zip ws ss
 
 abbrev pub items : List ℕ → List Item
-items ws = together (kindWords ws) (spanWords ws)
+items ws = zip (kindWords ws) (spanWords ws)
 
 -- "A use sheet has word 0 = m, 0 to 1,024, then two parallel arrays"
 abbrev pub useWords : List ℕ → List ℕ

@@ -4,14 +4,14 @@ use mathlib.Core.Bool.{cond, _&&_}
 use mathlib.Core.List.{[], _∷_}
 use Prim.Native.Nat.{ℕ, _+_}
 use lib.Dec.{eqb}
-use Rattle.flow.specs.Sheet.{oneOf, kindOf, argumentOf}
+use Rattle.flow.specs.Sheet.{member, kindOf, argumentOf}
 use Rattle.flow.specs.Kinds.{kinds}
 use Rattle.flow.specs.Tree.{Stmt, Block, Arms, simple, do-block, while-loop, repeat-loop, for-loop, if-stmt, done, then, no-more, elseif, otherwise}
 open record kinds using (NAME, LABEL, EMPTY)
 
 -- a statement of one item, by its kind and argument
 abbrev pub simpleNodes : ℕ → ℕ → ℕ
-simpleNodes k a = cond (oneOf k (NAME ∷ EMPTY ∷ [])) 0 (cond (eqb k LABEL && eqb a 0) 0 1)
+simpleNodes k a = cond (member k (NAME ∷ EMPTY ∷ [])) 0 (cond (eqb k LABEL && eqb a 0) 0 1)
 
 abbrev mutual
   pub stmtNodes : Stmt → ℕ

@@ -7,7 +7,7 @@ pub enum Truth {
     Unknown,
 }
 
-// What looking something up finds: the node of a label or of an offset's code, the first use of a kind; or nothing.
+// What looking something up finds: the node of a label or of an offset's code, or the place of the first empty read; or nothing.
 pub enum Found {
     At(usize),
     Nothing,

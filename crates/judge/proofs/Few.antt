@@ -12,7 +12,8 @@ use lib.ListN.{length, getD, length-append, length-map}
 use Rattle.flow.specs.Sheet.{useWords, useSpans, localOf}
 use Rattle.flow.specs.Refusals.{one}
 use Rattle.flow.specs.Graph.{Graph, nodeCount, graph}
-use Rattle.flow.specs.Findings.{Use, Local, Declaration, Finding, Ahead, onlyIf, node, isOverwritten, overwrittenAt, overwrittenBelow, tracked, writesJudged, allFound, ahead, declaration, locals, localAt, usesFrom, usesOf, initialOverwritten, writesOverwritten, ofUse, ofInitial, unassignedOf, overwrittenOf, ofEach, findings}
+use Rattle.flow.specs.Locals.{Local, Declaration, Finding, onlyIf, tracked, writesJudged, declaration, locals, localAt}
+use Rattle.flow.specs.Findings.{Use, Ahead, node, isOverwritten, overwrittenAt, overwrittenBelow, allFound, ahead, usesFrom, usesOf, initialOverwritten, writesOverwritten, ofUse, ofInitial, unassignedOf, overwrittenOf, ofEach, findings}
 use Rattle.locals.proofs.Room.{unassigned-few, each-few}
 
 -- ---- how often each key stands in a list, and in all

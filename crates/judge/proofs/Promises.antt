@@ -15,12 +15,13 @@ use Rattle.flow.specs.declared.JudgeAnswer.{JudgeAnswer}
 use Rattle.flow.specs.declared.JudgeAnswer.the-variants.{Refused as JudgeRefused}
 use Rattle.flow.specs.Refusals.{pairVerdict}
 use Rattle.flow.specs.Answers.{judgeTold}
-use Rattle.flow.specs.Findings.{Finding, findings, judge}
+use Rattle.flow.specs.Locals.{Finding}
+use Rattle.flow.specs.Findings.{findings, judge}
 use Rattle.flow.specs.Demand.{Demand3}
 use Rattle.flow.specs.Admitted.{AdmittedPair}
 use Rattle.flow.proofs.Admission.{of-pair}
 use Rattle.flow.proofs.Judged.{judged}
-use Rattle.chart.specs.Lent.{over, Columns, chartShort, Wide}
+use Rattle.chart.specs.Lent.{overlay, Columns, chartShort, Wide}
 use Rattle.chart.proofs.Widths.{wide}
 use Rattle.findings.specs.Accepted.{FindingColumns, Long, Accepted}
 use Rattle.judge.specs.Lent.{judgeShort, foundIn, JudgePromise}
@@ -57,7 +58,7 @@ module _ (S U : List ℕ) (x : Columns) (f : FindingColumns) where
       counted = ap foundIn (a .answer)
 
       -- as many cells as judge tells are the findings
-      written : (part : Finding → ℕ) (old : List ℕ) {new : List ℕ} → length (map part (findings S U)) ≡ length (findings S U) → new ≡ over (map part (findings S U)) old → take (foundIn r) new ≡ map part (findings S U)
+      written : (part : Finding → ℕ) (old : List ℕ) {new : List ℕ} → length (map part (findings S U)) ≡ length (findings S U) → new ≡ overlay (map part (findings S U)) old → take (foundIn r) new ≡ map part (findings S U)
       written part old n q = rw (counted, q) (take-at (map part (findings S U)) (drop (length (map part (findings S U))) old) (length (findings S U)) n)
 
       pub judge-accepted : JudgePromise S U r (record { chart = record { before = x; after = y }; found = record { before = f; after = g } })

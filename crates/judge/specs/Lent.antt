@@ -10,20 +10,21 @@ use Rattle.flow.specs.declared.Verdict.{Verdict}
 use Rattle.flow.specs.declared.Verdict.the-variants.{Admitted, Refused}
 use Rattle.flow.specs.declared.JudgeAnswer.{JudgeAnswer}
 use Rattle.flow.specs.Refusals.{pairVerdict}
-use Rattle.flow.specs.Answers.{judgeTold}
+use Rattle.flow.specs.Answers.{judgeTold, findingsTold}
 use Rattle.flow.specs.Graph.{nodeCount, graph}
-use Rattle.flow.specs.Findings.{locals, findings, wordsOf, spansOf, judge}
+use Rattle.flow.specs.Locals.{locals}
+use Rattle.flow.specs.Findings.{findings, wordsOf, spansOf, judge}
 use Rattle.flow.specs.Demand.{Demand3}
 use Rattle.search.specs.Lent.{Column}
-use Rattle.chart.specs.Lent.{over, Columns, Lent, chartShort, chartLeaves, Shown}
-use Rattle.findings.specs.Accepted.{FindingColumns, FindingsLent, listed}
+use Rattle.chart.specs.Lent.{overlay, Columns, Lent, chartShort, chartLeaves, Shown}
+use Rattle.findings.specs.Accepted.{FindingColumns, FindingsLent, findingsLent}
 
 -- all of judge's columns: chart's, and those of findings and mark figures
 abbrev pub JudgeLent : Type 0
 JudgeLent = record { chart : Lent; found : FindingsLent }
 
 abbrev pub judgeLent : Lent → Column → Column → Column → JudgeLent
-judgeLent l word span mark = record { chart = l; found = listed word span mark }
+judgeLent l word span mark = record { chart = l; found = findingsLent word span mark }
 
 -- 1: chart's columns, "or (judge) 3,072 findings"
 abbrev pub judgeShort : Columns → FindingColumns → Bool
@@ -34,7 +35,7 @@ short l = judgeShort (l .chart .before) (l .found .before)
 
 -- "A refusal writes nothing."
 abbrev pub leaves : Verdict → List ℕ → List ℕ → List ℕ
-leaves v written old = elim v [ Refused r ↦ old | Admitted ↦ over written old ]
+leaves v written old = elim v [ Refused r ↦ old | Admitted ↦ overlay written old ]
 
 -- "one mark figure per local .. free in this paper save that it is at most the node count"
 pub record MarksLeft (v : Verdict) (S old new : List ℕ) : Type 0 where
@@ -43,9 +44,9 @@ pub record MarksLeft (v : Verdict) (S old new : List ℕ) : Type 0 where
   pub past : drop (length (locals S)) new ≡ drop (length (locals S)) old
   pub long : length new ≡ length old
 
--- how many findings an answer of judge tells: its fourth value
+-- how many findings an answer of judge tells
 abbrev pub foundIn : JudgeAnswer → ℕ
-foundIn r = getD (judgeTold r .values) 3 0
+foundIn r = findingsTold (judgeTold r)
 
 -- judge: its number and values, every lent cell, and what the columns of an accepted call show. Demand 3 is of what it wrote: as many cells of the two finding columns as it tells.
 pub record JudgePromise (S U : List ℕ) (r : JudgeAnswer) (l : JudgeLent) : Type 0 where

@@ -7,7 +7,7 @@ use Prim.Native.Nat.{ℕ, _-_}
 use native.Mathlib.Omega.{arith}
 use lib.ListN.{length}
 use Rattle.flow.specs.declared.Verdict.the-variants.{Admitted}
-use Rattle.flow.specs.Sheet.{Item, kindWords, spanWords, together}
+use Rattle.flow.specs.Sheet.{Item, kindWords, spanWords, zip}
 use Rattle.flow.specs.Refusals.{sheetVerdict}
 use Rattle.flow.specs.Tree.{Frame, Open, outer, inFront, opened, parse, tree}
 use Rattle.flow.specs.Labels.{labelsFine}
@@ -46,15 +46,15 @@ module _ (S : List ℕ) (e : sheetVerdict false S ≡ Admitted) where
   as-many : length (spanWords S) ≡ length (kindWords S)
   as-many = sheet .spans ∙ sym (sheet .kinds)
 
-  closed : (ts : List ℕ) → length ts ≡ length (kindWords S) → parse (together (kindWords S) ts) .below ≡ []
+  closed : (ts : List ℕ) → length ts ≡ length (kindWords S) → parse (zip (kindWords S) ts) .below ≡ []
   closed ts f =
-      none-open _ (open-blocks (parsed [] (together (kindWords S) ts) tt (pairs-kinds (kindWords S) ts (spanWords S) [] f as-many ∙ sheet-passed false S e .pairs)))
+      none-open _ (open-blocks (parsed [] (zip (kindWords S) ts) tt (pairs-kinds (kindWords S) ts (spanWords S) [] f as-many ∙ sheet-passed false S e .pairs)))
 
   module _ (ks : List ℕ) (k : ks ≡ kindWords S) where
     pub checkable : Checkable ks
     checkable = rw k (record { few = omega (arith, sheet .kinds, sheet .few); tidy = sheet .tidy; closed = closed })
 
     -- what `labels_fine` ensures of its answer r
-    pub labels-fine-law : (r : Bool) → ((ss : List ℕ) → length ss ≡ length ks → r ≡ wholeFine (tree (together ks ss))) → r ≡ labelsFine S
+    pub labels-fine-law : (r : Bool) → ((ss : List ℕ) → length ss ≡ length ks → r ≡ wholeFine (tree (zip ks ss))) → r ≡ labelsFine S
     unfolding labelsFine
     labels-fine-law r h = (rw k at h) (spanWords S) as-many

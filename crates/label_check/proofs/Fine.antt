@@ -7,7 +7,7 @@ use Prim.Native.Nat.{ℕ, _≤_}
 use native.Mathlib.Omega.{arith}
 use native.Mathlib.Decide.{ℕ-discrete}
 use lib.Dec.{eqb, lit≤}
-use Rattle.flow.specs.Sheet.{Item, kind, kindOf, argumentOf, oneOf}
+use Rattle.flow.specs.Sheet.{Item, kind, kindOf, argumentOf, member}
 use Rattle.flow.specs.Tree.{Stmt, Arms, Open, simple, no-more, nothingRead, outer, inFront, opened, read, labelsOf}
 use Rattle.flow.specs.Labels.{distinct, labelsFineIn, blockFine, armsFine}
 use Rattle.flow.proofs.Nesting.{Made, a-do, a-while, a-repeat, a-for, an-if}
@@ -86,7 +86,7 @@ arm-enters i o a b = elim (ℕ-discrete (kind i) 6) [
 ]
 
 -- a statement with no block: a GOTO, and any other
-pub goto-fine : (w s : ℕ) (v : List ℕ) → kindOf w ≡ 13 → labelsFineIn (simple w s) v ≡ oneOf (argumentOf w) v
+pub goto-fine : (w s : ℕ) (v : List ℕ) → kindOf w ≡ 13 → labelsFineIn (simple w s) v ≡ member (argumentOf w) v
 unfolding labelsFineIn
 goto-fine w s v e = rw e
 

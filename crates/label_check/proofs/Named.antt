@@ -7,7 +7,7 @@ use Prim.Native.Nat.{ℕ, zero, suc, _+_, _-_, _≤_, _<_}
 use native.Mathlib.Omega.{arith}
 use lib.ListN.{length, drop, getD, length-append, length-drop}
 use lib.Seq.{drop-drop, drop-cons, drop-length}
-use Rattle.flow.specs.Sheet.{Item, kind, argumentOf, together}
+use Rattle.flow.specs.Sheet.{Item, kind, argumentOf, zip}
 use Rattle.flow.specs.Refusals.{one}
 use Rattle.flow.specs.Tree.{Stmt, Arms, Frame, Open, simple, no-more, nothingRead, outer, inFront, opened, parse, labelName, labelsOf}
 use Rattle.flow.proofs.Nesting.{Made, a-do, a-while, a-repeat, a-for, an-if}
@@ -62,15 +62,15 @@ read-to-come {i} {o} other = omega (arith, front-to-come (simple (i .word) (i .s
 
 -- ---- what is left
 
-to-come : (ks ss : List ℕ) → length ss ≡ length ks → labelsToCome (parse (together ks ss)) ≤ named ks
+to-come : (ks ss : List ℕ) → length ss ≡ length ks → labelsToCome (parse (zip ks ss)) ≤ named ks
 unfolding named parse labelsToCome framesLabels labelsOf
 to-come [] ss e = omega arith
 to-come (k ∷ ks) [] e = absurd (omega arith)
 to-come (k ∷ ks) (s ∷ ss) e =
     let i : Item = record { word = k; span = s } in
-    omega (arith, read-to-come (reads i (parse (together ks ss)) (kind i) refl), to-come ks ss (omega arith))
+    omega (arith, read-to-come (reads i (parse (zip ks ss)) (kind i) refl), to-come ks ss (omega arith))
 
-drop-both : (ks ss : List ℕ) (j : ℕ) → length ss ≡ length ks → drop j (together ks ss) ≡ together (drop j ks) (drop j ss)
+drop-both : (ks ss : List ℕ) (j : ℕ) → length ss ≡ length ks → drop j (zip ks ss) ≡ zip (drop j ks) (drop j ss)
 drop-both ks ss zero e = refl
 drop-both [] ss (suc j) e = refl
 drop-both (k ∷ ks) [] (suc j) e = absurd (omega arith)

@@ -10,30 +10,30 @@ use lib.Dec.{eqb}
 use lib.ListN.{length, getD, take, drop, length-take, drop-of-length-le}
 use lib.Seq.{take-suc, drop-append-le, length-take-le}
 use borrow.Author.Tests.{eq-eqb, ne-eqb}
-use Rattle.flow.specs.Sheet.{oneOf}
+use Rattle.flow.specs.Sheet.{member}
 use Rattle.flow.specs.Labels.{distinct}
 use Rattle.label_check.specs.Walk.{visible, flat}
 
-pub one-of-append : (a : ℕ) (xs ys : List ℕ) → oneOf a (xs ++ ys) ≡ (oneOf a xs || oneOf a ys)
+pub one-of-append : (a : ℕ) (xs ys : List ℕ) → member a (xs ++ ys) ≡ (member a xs || member a ys)
 one-of-append a [] ys = refl
-one-of-append a (x ∷ xs) ys = rw (one-of-append a xs ys) (sym (or-assoc (eqb a x) (oneOf a xs) (oneOf a ys)))
+one-of-append a (x ∷ xs) ys = rw (one-of-append a xs ys) (sym (or-assoc (eqb a x) (member a xs) (member a ys)))
 
 -- in whichever order the blocks stand
-pub one-of-flat : (a : ℕ) (ss : List (List ℕ)) → oneOf a (flat ss) ≡ oneOf a (visible ss)
+pub one-of-flat : (a : ℕ) (ss : List (List ℕ)) → member a (flat ss) ≡ member a (visible ss)
 unfolding flat visible
 one-of-flat a [] = refl
 one-of-flat a (s ∷ ss) =
-    one-of-append a (flat ss) s ∙ rw (one-of-flat a ss) (or-comm (oneOf a (visible ss)) (oneOf a s)) ∙ sym (one-of-append a s (visible ss))
+    one-of-append a (flat ss) s ∙ rw (one-of-flat a ss) (or-comm (member a (visible ss)) (member a s)) ∙ sym (one-of-append a s (visible ss))
 
 eqb-comm : (a b : ℕ) → eqb a b ≡ eqb b a
 eqb-comm a b = elim (ℕ-discrete a b) [ yes e ↦ eq-eqb a b e ∙ sym (eq-eqb b a (sym e)) | no q ↦ ne-eqb a b q ∙ sym (ne-eqb b a (λ e. q (sym e))) ]
 
 -- a name more, at the end
-pub distinct-more : (xs : List ℕ) (a : ℕ) → distinct (xs ++ (a ∷ [])) ≡ (distinct xs && not (oneOf a xs))
+pub distinct-more : (xs : List ℕ) (a : ℕ) → distinct (xs ++ (a ∷ [])) ≡ (distinct xs && not (member a xs))
 unfolding distinct
 distinct-more [] a = refl
 distinct-more (x ∷ xs) a =
-    rw (one-of-append x xs (a ∷ []), distinct-more xs a, eqb-comm x a) (go (oneOf x xs) (eqb a x) (distinct xs) (oneOf a xs))
+    rw (one-of-append x xs (a ∷ []), distinct-more xs a, eqb-comm x a) (go (member x xs) (eqb a x) (distinct xs) (member a xs))
   where
     go : (p e q r : Bool) → (not (p || (e || false)) && (q && not r)) ≡ ((not p && q) && not (e || r))
     go true e q r = refl
@@ -51,18 +51,18 @@ not-repeated x u p q r = r ∙ rw (sym p ∙ q) (sym (and-true x))
 -- ---- the search for a name, from the end of a part of a column
 
 module _ (a from k : ℕ) (l : List ℕ) (h : from < k) (q : k ≤ length l) where
-  look-last : oneOf a (drop from (take k l)) ≡ (oneOf a (drop from (take (k - 1) l)) || eqb a (getD l (k - 1) 0))
+  look-last : member a (drop from (take k l)) ≡ (member a (drop from (take (k - 1) l)) || eqb a (getD l (k - 1) 0))
   look-last =
       let z : k ≡ suc (k - 1) = omega arith in
-      ap (λ (n : ℕ). oneOf a (drop from (take n l))) z
+      ap (λ (n : ℕ). member a (drop from (take n l))) z
       ∙ rw (take-suc l (k - 1) 0 (omega arith), drop-append-le from (take (k - 1) l) (getD l (k - 1) 0 ∷ []) (omega (arith, length-take-le (k - 1) l (omega arith))))
-      (one-of-append a (drop from (take (k - 1) l)) (getD l (k - 1) 0 ∷ []) ∙ ap (λ (b : Bool). oneOf a (drop from (take (k - 1) l)) || b) (or-false (eqb a (getD l (k - 1) 0))))
+      (one-of-append a (drop from (take (k - 1) l)) (getD l (k - 1) 0 ∷ []) ∙ ap (λ (b : Bool). member a (drop from (take (k - 1) l)) || b) (or-false (eqb a (getD l (k - 1) 0))))
 
-  pub look-found : getD l (k - 1) 0 ≡ a → oneOf a (drop from (take k l)) ≡ true
-  look-found e = look-last ∙ rw (eq-eqb a (getD l (k - 1) 0) (sym e)) (or-true (oneOf a (drop from (take (k - 1) l))))
+  pub look-found : getD l (k - 1) 0 ≡ a → member a (drop from (take k l)) ≡ true
+  look-found e = look-last ∙ rw (eq-eqb a (getD l (k - 1) 0) (sym e)) (or-true (member a (drop from (take (k - 1) l))))
 
-  pub look-past : (getD l (k - 1) 0 ≡ a → ⊥) → oneOf a (drop from (take k l)) ≡ oneOf a (drop from (take (k - 1) l))
-  look-past e = look-last ∙ rw (ne-eqb a (getD l (k - 1) 0) (λ p. e (sym p))) (or-false (oneOf a (drop from (take (k - 1) l))))
+  pub look-past : (getD l (k - 1) 0 ≡ a → ⊥) → member a (drop from (take k l)) ≡ member a (drop from (take (k - 1) l))
+  look-past e = look-last ∙ rw (ne-eqb a (getD l (k - 1) 0) (λ p. e (sym p))) (or-false (member a (drop from (take (k - 1) l))))
 
-pub look-none : (a from k : ℕ) (l : List ℕ) → k ≤ from → oneOf a (drop from (take k l)) ≡ false
+pub look-none : (a from k : ℕ) (l : List ℕ) → k ≤ from → member a (drop from (take k l)) ≡ false
 look-none a from k l h = rw (drop-of-length-le (take k l) {i = from} (omega (arith, length-take k l)))

@@ -8,7 +8,7 @@ use native.Mathlib.Numerals.{add-one}
 use native.Mathlib.Omega.{arith}
 use lib.ListN.{length, take, drop, getD, set, length-set, length-append}
 use lib.Seq.{take-suc-set, drop-append-le, length-take-le}
-use Rattle.flow.specs.Sheet.{kindOf, oneOf}
+use Rattle.flow.specs.Sheet.{kindOf, member}
 use Rattle.flow.specs.Labels.{distinct}
 use Rattle.blocks.specs.Open.{labelsAt, labelsHere, endsAt, depthAfter}
 use Rattle.blocks.proofs.Scan.{scanned-start, scanned-more, scanned-none, scanned-ended, scanned-room}
@@ -34,7 +34,7 @@ entered-trans as' bs {x} {l = l} p q = record {
 }
 
 -- one label more
-pub label-entered : (x : Sight) (l : List ℕ) (a : ℕ) (f : Bool) → x .base ≤ x .count → x .count < length l → f ≡ (x .fine && not (oneOf a (inBlock x l)))
+pub label-entered : (x : Sight) (l : List ℕ) (a : ℕ) (f : Bool) → x .base ≤ x .count → x .count < length l → f ≡ (x .fine && not (member a (inBlock x l)))
     → Entered (a ∷ []) x l (record { fine = f; count = x .count + 1; base = x .base; depth = x .depth }) (set l (x .count) a)
 label-entered x l a f h k e =
     let more : take (x .count + 1) (set l (x .count) a) ≡ take (x .count) l ++ (a ∷ []) = rw add-one (take-suc-set l (x .count) a k) in
@@ -46,7 +46,7 @@ label-entered x l a f h k e =
       count = omega arith;
       labels = more;
       block = block;
-      fine = λ d. e ∙ ap (λ (b : Bool). b && not (oneOf a (inBlock x l))) d ∙ sym (distinct-more (inBlock x l) a) ∙ ap distinct (sym block);
+      fine = λ d. e ∙ ap (λ (b : Bool). b && not (member a (inBlock x l))) d ∙ sym (distinct-more (inBlock x l) a) ∙ ap distinct (sym block);
     }
 
 pub entered-empty : (as' : List ℕ) (x : Sight) (l : List ℕ) → as' ≡ [] → Entered as' x l x l

@@ -10,7 +10,7 @@ use lib.ListN.{length, take, drop, getD, set, length-set, length-append}
 use lib.Seq.{take-suc-set, take-at, getD-at, getD-take, take-take, drop-length}
 use native.Mathlib.Decide.{ℕ-discrete}
 use borrow.Author.Tests.{ne-eqb}
-use Rattle.flow.specs.Sheet.{Item, kind, kindOf, argumentOf, oneOf, together}
+use Rattle.flow.specs.Sheet.{Item, kind, kindOf, argumentOf, member, zip}
 use Rattle.flow.specs.Kinds.{closes}
 use Rattle.flow.specs.Tree.{Stmt, Arms, Frame, Open, simple, no-more, outer, inFront, opened, tree, labelsOf}
 use Rattle.flow.specs.Labels.{distinct, labelsFineIn, blockFine, armsFine}
@@ -118,7 +118,7 @@ module _ {ks ss : List ℕ} {j : ℕ} {x : Sight} {l marks : List ℕ} (n : Ente
   unfolding distinct
   entered-after f {r} {m} e =
       let once : r .fine ≡ distinct (labelsAt ks ss j) = e .fine (f ∙ ap distinct (sym none-yet)) ∙ ap distinct (e .block ∙ ap (λ (z : List ℕ). z ++ labelsAt ks ss j) none-yet) in
-      let left : (b : Bool) → r .fine ≡ b → wholeFine (tree (together ks ss)) ≡ (b && openFine (openAt ks ss j) (labelsAt ks ss j) (n .around)) = λ b t. n .left ∙ ap (λ (b : Bool). b && openFine (openAt ks ss j) (labelsAt ks ss j) (n .around)) (sym once ∙ t) in
+      let left : (b : Bool) → r .fine ≡ b → wholeFine (tree (zip ks ss)) ≡ (b && openFine (openAt ks ss j) (labelsAt ks ss j) (n .around)) = λ b t. n .left ∙ ap (λ (b : Bool). b && openFine (openAt ks ss j) (labelsAt ks ss j) (n .around)) (sym once ∙ t) in
       record {
         fine = λ t. record {
           top = labelsAt ks ss j;
@@ -248,7 +248,7 @@ module _ {ks ss : List ℕ} (e : length ss ≡ length ks) {j : ℕ} {x : Sight} 
 
     simple-after : (f : Bool) → f ≡ labelsFineIn here (visible (w .top ∷ w .around)) → After ks ss (j + 1) (record { fine = f; count = x .count; base = x .base; depth = x .depth }) l marks
     simple-after f q =
-        let left : (b : Bool) → f ≡ b → wholeFine (tree (together ks ss)) ≡ (b && openFine after (w .top) (w .around)) = λ b t. w .left ∙ ap (λ (o : Open). openFine o (w .top) (w .around)) passing ∙ front-fine here after (w .top) (w .around) ∙ ap (λ (b : Bool). b && openFine after (w .top) (w .around)) (sym q ∙ t) in
+        let left : (b : Bool) → f ≡ b → wholeFine (tree (zip ks ss)) ≡ (b && openFine after (w .top) (w .around)) = λ b t. w .left ∙ ap (λ (o : Open). openFine o (w .top) (w .around)) passing ∙ front-fine here after (w .top) (w .around) ∙ ap (λ (b : Bool). b && openFine after (w .top) (w .around)) (sym q ∙ t) in
         record {
           fine = λ t. record {
             top = w .top;
@@ -274,8 +274,8 @@ module _ {ks ss : List ℕ} (e : length ss ≡ length ks) {j : ℕ} {x : Sight} 
     unfolding flat
     jump-after k f =
         rw f
-        (simple-after (oneOf (argumentOf (getD ks j 0)) (take (x .count) l))
-        (ap (oneOf (argumentOf (getD ks j 0))) (w .holds .labels) ∙ one-of-flat (argumentOf (getD ks j 0)) (w .top ∷ w .around) ∙ sym (goto-fine (getD ks j 0) (getD ss j 0) (visible (w .top ∷ w .around)) k)))
+        (simple-after (member (argumentOf (getD ks j 0)) (take (x .count) l))
+        (ap (member (argumentOf (getD ks j 0))) (w .holds .labels) ∙ one-of-flat (argumentOf (getD ks j 0)) (w .top ∷ w .around) ∙ sym (goto-fine (getD ks j 0) (getD ss j 0) (visible (w .top ∷ w .around)) k)))
 
     pub other-after : x .fine ≡ true → (kindOf (getD ks j 0) ≡ 13 → ⊥) → After ks ss (j + 1) x l marks
     other-after f k = simple-after (x .fine) (f ∙ sym (simple-fine (getD ks j 0) (getD ss j 0) (visible (w .top ∷ w .around)) (ne-eqb (kindOf (getD ks j 0)) 13 k)))
@@ -296,12 +296,12 @@ module _ (ks ss : List ℕ) (e : length ss ≡ length ks) where
         ∙ ap (λ (b : Bool). distinct (labelsAt ks ss 0) && b) (sym (and-true (blockFine (openAt ks ss 0 .top .body) (labelsAt ks ss 0 ++ []))));
   }
 
-  pub walk-end : {j : ℕ} {x : Sight} {l marks : List ℕ} → length ks ≤ j → After ks ss j x l marks → x .fine ≡ wholeFine (tree (together ks ss))
+  pub walk-end : {j : ℕ} {x : Sight} {l marks : List ℕ} → length ks ≤ j → After ks ss j x l marks → x .fine ≡ wholeFine (tree (zip ks ss))
   walk-end {j} {x} {l} {marks} h a = go (x .fine) refl
     where
-      go : (b : Bool) → x .fine ≡ b → b ≡ wholeFine (tree (together ks ss))
+      go : (b : Bool) → x .fine ≡ b → b ≡ wholeFine (tree (zip ks ss))
       go true t = let w = a .fine t in sym (w .left ∙ ap (λ (o : Open). openFine o (w .top) (w .around)) (read-end ks ss e j h) ∙ end-fine (w .top) (w .around))
       go false t = sym (a .lost t)
 
-pub walk-lost : {ks ss : List ℕ} {j : ℕ} {x : Sight} {l marks : List ℕ} → x .fine ≡ false → After ks ss j x l marks → x .fine ≡ wholeFine (tree (together ks ss))
+pub walk-lost : {ks ss : List ℕ} {j : ℕ} {x : Sight} {l marks : List ℕ} → x .fine ≡ false → After ks ss j x l marks → x .fine ≡ wholeFine (tree (zip ks ss))
 walk-lost f a = f ∙ sym (a .lost f)

@@ -5,7 +5,7 @@ use mathlib.Core.Bool.{Bool, true, false, _&&_}
 use mathlib.Core.List.{List, [], _∷_, _++_}
 use Prim.Native.Nat.{ℕ, _+_, _-_, _≤_}
 use lib.ListN.{length, take, drop, getD}
-use Rattle.flow.specs.Sheet.{together, oneOf}
+use Rattle.flow.specs.Sheet.{zip, member}
 use Rattle.flow.specs.Refusals.{one}
 use Rattle.flow.specs.Tree.{Block, Frame, Open, outer, parse, tree, labelsOf}
 use Rattle.flow.specs.Labels.{distinct, blockFine, armsFine}
@@ -80,7 +80,7 @@ openFine o top around = blockFine (o .top .body) (visible (top ∷ around)) && o
 pub record Checkable (ks : List ℕ) : Type 0 where
   pub few : length ks ≤ 1024
   pub tidy : Tidy ks
-  pub closed : (ss : List ℕ) → length ss ≡ length ks → parse (together ks ss) .below ≡ []
+  pub closed : (ss : List ℕ) → length ss ≡ length ks → parse (zip ks ss) .below ≡ []
 
 -- a block opened with no label found yet, its next arm likewise, and the block closed
 abbrev pub openedSight : Sight → Sight
@@ -93,7 +93,7 @@ abbrev pub closedSight : Sight → List ℕ → Sight
 closedSight x marks = record { fine = x .fine; count = x .base; base = getD marks (x .depth - 1) 0; depth = x .depth - 1 }
 
 abbrev pub jumped : Sight → List ℕ → ℕ → Sight
-jumped x labels name = record { fine = oneOf name (take (x .count) labels); count = x .count; base = x .base; depth = x .depth }
+jumped x labels name = record { fine = member name (take (x .count) labels); count = x .count; base = x .base; depth = x .depth }
 
 -- the labels of the innermost block that are found so far
 abbrev pub inBlock : Sight → List ℕ → List ℕ
@@ -122,7 +122,7 @@ pub record Entering (ks ss : List ℕ) (j : ℕ) (x : Sight) (labels marks : Lis
   pub opened : length around ≤ j
   pub closed : length (openAt ks ss j .below) ≤ length around
   pub room : x .count + length (labelsAt ks ss j) ≤ j + labelsToCome (openAt ks ss j)
-  pub left : wholeFine (tree (together ks ss)) ≡ (distinct (labelsAt ks ss j) && openFine (openAt ks ss j) (labelsAt ks ss j) around)
+  pub left : wholeFine (tree (zip ks ss)) ≡ (distinct (labelsAt ks ss j) && openFine (openAt ks ss j) (labelsAt ks ss j) around)
 
 -- the walk stands at item j, and what is left to check there decides
 pub record Walking (ks ss : List ℕ) (j : ℕ) (x : Sight) (labels marks : List ℕ) : Type 0 where
@@ -132,8 +132,8 @@ pub record Walking (ks ss : List ℕ) (j : ℕ) (x : Sight) (labels marks : List
   pub opened : length around ≤ j
   pub closed : length (openAt ks ss j .below) ≤ length around
   pub room : x .count ≤ j + labelsToCome (openAt ks ss j)
-  pub left : wholeFine (tree (together ks ss)) ≡ openFine (openAt ks ss j) top around
+  pub left : wholeFine (tree (zip ks ss)) ≡ openFine (openAt ks ss j) top around
 
 pub record After (ks ss : List ℕ) (j : ℕ) (x : Sight) (labels marks : List ℕ) : Type 0 where
   pub fine : x .fine ≡ true → Walking ks ss j x labels marks
-  pub lost : x .fine ≡ false → wholeFine (tree (together ks ss)) ≡ false
+  pub lost : x .fine ≡ false → wholeFine (tree (zip ks ss)) ≡ false

@@ -4,7 +4,7 @@ ghost use mathlib.Core.Bool.{true, false};
 ghost use mathlib.Core.List.{List, [], _∷_};
 ghost use Prim.Native.Nat.{ℕ, _+_, _-_, _≤_, _<_};
 ghost use lib.ListN.{length, take, drop, set};
-ghost use Rattle.flow.specs.Sheet.{oneOf, together};
+ghost use Rattle.flow.specs.Sheet.{member, zip};
 ghost use Rattle.flow.specs.Tree.{tree};
 ghost use Rattle.blocks.specs.Open.{labelsAt, labelsHere};
 ghost use Rattle.label_check.specs.Walk.{openedSight, nextArm, closedSight, jumped, wholeFine, Checkable, Unlabelled, Entered, Walking, After};
@@ -51,7 +51,7 @@ fn labels_end(kinds: &[u64]) -> usize
 // Whether a name is among the labels from one place up to another, the latest first.
 fn among(labels: &[u64; 1024], from: usize, to: usize, name: u64) -> bool
     requires { ⌜ (from ≤ to) × (to ≤ 1024) × (length (now labels) ≡ 1024) ⌝ }
-    ensures { λ r. ⌜ r ≡ oneOf name (drop from (take to (now (labels .entry)))) ⌝ }
+    ensures { λ r. ⌜ r ≡ member name (drop from (take to (now (labels .entry)))) ⌝ }
 {
     let mut k = to;
     while from < k {
@@ -199,7 +199,7 @@ impl Sight {
 // Whether, in a sheet of these kinds, no label is repeated directly in its block and every GOTO finds one.
 pub fn labels_fine(kinds: &[u64]) -> bool
     requires { ⌜ Checkable (now kinds) ⌝ }
-    ensures { λ r. ⌜ ((ss : List ℕ) → length ss ≡ length (now (kinds .entry)) → r ≡ wholeFine (tree (together (now (kinds .entry)) ss))) ⌝ }
+    ensures { λ r. ⌜ ((ss : List ℕ) → length ss ≡ length (now (kinds .entry)) → r ≡ wholeFine (tree (zip (now (kinds .entry)) ss))) ⌝ }
 {
     let mut labels = [0u64; 1024];
     let mut marks = [0usize; 1024];

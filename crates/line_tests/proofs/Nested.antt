@@ -8,7 +8,7 @@ use native.Mathlib.Omega.{arith}
 use lib.ListN.{length}
 use Rattle.flow.specs.Kinds.{opens, closes}
 use Rattle.flow.specs.Refusals.{one, outnumbered, mayStand, openAfter, pairsUp, scopesAfter}
-use Rattle.flow.specs.Sheet.{Item, kind, oneOf}
+use Rattle.flow.specs.Sheet.{Item, kind, member}
 use Rattle.sheet_tests.proofs.Bools.{and-parts}
 use Rattle.nesting_tests.specs.Stack.{stackOf}
 use Rattle.nesting_tests.proofs.Nesting.{most, deep-next, closer-in, arm-in, turned-length, open-length}
@@ -17,7 +17,7 @@ use Rattle.line_tests.specs.Turn.{Room}
 
 pub scopes-length : (k e : ℕ) (ss : List ℕ) → Room (length ss) k → length (scopesAfter k e ss) ≡ length ss + one (opens k) - one (closes k)
 unfolding scopesAfter
-scopes-length k e ss r = turned-length k e e ss (oneOf k (6 ∷ 7 ∷ [])) (λ p. omega (arith, r .closer))
+scopes-length k e ss r = turned-length k e e ss (member k (6 ∷ 7 ∷ [])) (λ p. omega (arith, r .closer))
 
 -- what 4 and 5 show of the items to come, with depth items open
 pub record Nested (depth : ℕ) (is : List Item) : Type 0 where

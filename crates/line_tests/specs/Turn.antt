@@ -6,7 +6,7 @@ use Prim.Native.Nat.{ℕ, _+_, _≤_, _<_, min}
 use mathlib.Core.Path.{_≡_}
 use lib.ListN.{length, getD}
 use lib.Dec.{eqb, leb}
-use Rattle.flow.specs.Sheet.{Item, all, kind, oneOf, startOf, endOf}
+use Rattle.flow.specs.Sheet.{Item, all, kind, member, startOf, endOf}
 use Rattle.flow.specs.Kinds.{kinds, opens, closes, isCode}
 use Rattle.flow.specs.Refusals.{one}
 use Rattle.nesting_tests.specs.Stack.{stackOf}
@@ -26,7 +26,7 @@ heldHere ss i =
 pub record Room (count k : ℕ) : Type 0 where
   pub most : count + one (opens k) ≤ 65
   pub closer : one (closes k) < count
-  pub arm : one (oneOf k (ELSEIF ∷ ELSE ∷ [])) < count
+  pub arm : one (member k (ELSEIF ∷ ELSE ∷ [])) < count
 
 -- the least of a number and of a list's
 abbrev pub least : ℕ → List ℕ → ℕ

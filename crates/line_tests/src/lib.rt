@@ -4,7 +4,7 @@ ghost use mathlib.Core.Bool.{true, false, cond, _&&_, not};
 ghost use mathlib.Core.List.{[], _∷_};
 ghost use Prim.Native.Nat.{ℕ, _+_, _%_, _≤_, _<_};
 ghost use lib.ListN.{length};
-ghost use Rattle.flow.specs.Sheet.{together, endOf};
+ghost use Rattle.flow.specs.Sheet.{zip, endOf};
 ghost use Rattle.flow.specs.Kinds.{isCode};
 ghost use Rattle.flow.specs.Refusals.{outnumbered, pairsUp, inLine, scopesAfter, held};
 ghost use Rattle.nesting_tests.specs.Stack.{stackOf};
@@ -138,9 +138,9 @@ fn scopes_after(
 
 pub fn off_the_line(outer: u64, kinds: &[u64], spans: &[u64]) -> bool
     requires { ⌜ (length (now kinds) ≡ length (now spans)) × (length (now kinds) ≤ 1024) ⌝ }
-    requires { ⌜ outnumbered 0 0 (together (now kinds) (now spans)) ≡ false ⌝ }
-    requires { ⌜ pairsUp [] (together (now kinds) (now spans)) ≡ true ⌝ }
-    ensures { λ r. ⌜ r ≡ not (inLine 0 (together (now (kinds .entry)) (now (spans .entry))) && held (outer ∷ []) (together (now (kinds .entry)) (now (spans .entry)))) ⌝ }
+    requires { ⌜ outnumbered 0 0 (zip (now kinds) (now spans)) ≡ false ⌝ }
+    requires { ⌜ pairsUp [] (zip (now kinds) (now spans)) ≡ true ⌝ }
+    ensures { λ r. ⌜ r ≡ not (inLine 0 (zip (now (kinds .entry)) (now (spans .entry))) && held (outer ∷ []) (zip (now (kinds .entry)) (now (spans .entry)))) ⌝ }
 {
     let mut ends = [outer; 65];
     let mut lows = [outer; 65];

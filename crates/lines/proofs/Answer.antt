@@ -10,14 +10,15 @@ use lib.Seq.{take-at, take-append-le}
 use Rattle.flow.specs.declared.Verdict.{Verdict}
 use Rattle.flow.specs.declared.Verdict.the-variants.{Admitted, Refused}
 use Rattle.flow.specs.Refusals.{pairVerdict}
-use Rattle.flow.specs.Answers.{Told, tells, countValues}
+use Rattle.flow.specs.Answers.{Told, tells, countValues, findingsTold}
 use Rattle.flow.specs.Graph.{Graph, graph}
 use Rattle.flow.specs.Reachable.{countsOf, reachable}
-use Rattle.flow.specs.Findings.{Finding, findings, wordsOf, spansOf, judge}
+use Rattle.flow.specs.Locals.{Finding}
+use Rattle.flow.specs.Findings.{findings, wordsOf, spansOf, judge}
 use Rattle.flow.specs.Listing.{report, printedFor}
 use Rattle.flow.proofs.Answers.{refuses}
 use Rattle.flow.proofs.Flags.{node-count, reachable-length}
-use Rattle.lines.specs.Report.{found, answerLines}
+use Rattle.lines.specs.Report.{answerLines}
 use Rattle.lines.proofs.Rows.{same-findings}
 
 -- the columns hold a graph's flags and the findings
@@ -45,7 +46,7 @@ unfolding report
 by-verdict (Refused r) g fs flags ws ss h = rw (refuses r)
 by-verdict Admitted g fs flags ws ss h = rw (h refl .exits, h refl .words, h refl .spans, same-findings)
 
-few-by-verdict : (v : Verdict) (g : Graph) (fs : List Finding) {m : ℕ} → (v ≡ Admitted → length fs ≤ m) → found (tellsOf v g fs) ≤ m
+few-by-verdict : (v : Verdict) (g : Graph) (fs : List Finding) {m : ℕ} → (v ≡ Admitted → length fs ≤ m) → findingsTold (tellsOf v g fs) ≤ m
 few-by-verdict (Refused r) g fs h = zero-le
 few-by-verdict Admitted g fs h = h refl
 
@@ -56,6 +57,6 @@ module _ (short : Bool) (S U : List ℕ) {t : Told} (e : t ≡ judge short S U) 
   answer-prints flags ws ss h = rw e (by-verdict (pairVerdict short S U) (graph S) (findings S U) flags ws ss h)
 
   -- no more findings than the columns hold
-  pub few-found : {m : ℕ} → (pairVerdict short S U ≡ Admitted → length (findings S U) ≤ m) → found t ≤ m
+  pub few-found : {m : ℕ} → (pairVerdict short S U ≡ Admitted → length (findings S U) ≤ m) → findingsTold t ≤ m
   unfolding judge
   few-found h = rw e (few-by-verdict (pairVerdict short S U) (graph S) (findings S U) h)

@@ -6,7 +6,7 @@ use Prim.Native.Nat.{ℕ, _-_, _/_, _%_, _^_}
 use borrow.Author.Tests.{eq-eqb, ne-eqb}
 use lib.ListN.{take}
 use Rattle.flow.specs.Sheet.{startOf, endOf}
-use Rattle.flow.specs.Findings.{Finding}
+use Rattle.flow.specs.Locals.{Finding}
 use Rattle.flow.specs.Listing.{line, findingLine, findingLines, report}
 
 -- a report without findings is its first two lines, and those of findings follow them

@@ -2,9 +2,9 @@
 -- Assumes nothing: these are definitions.
 use mathlib.Core.List.{List, [], _∷_}
 use Prim.Native.Nat.{ℕ, _+_, _*_}
-use lib.ListN.{take, getD}
-use Rattle.flow.specs.Answers.{Told}
-use Rattle.flow.specs.Findings.{Finding}
+use lib.ListN.{take}
+use Rattle.flow.specs.Answers.{Told, findingsTold}
+use Rattle.flow.specs.Locals.{Finding}
 use Rattle.flow.specs.Listing.{printedFor}
 
 -- the findings whose words and spans stand in two columns, and the first n of them
@@ -16,13 +16,9 @@ findingsOf (w ∷ ws) (s ∷ ss) = record { word = w; span = s } ∷ findingsOf 
 abbrev pub firstFindings : ℕ → List ℕ → List ℕ → List Finding
 firstFindings n ws ss = findingsOf (take n ws) (take n ss)
 
--- how many findings judge tells of: its value after the three counts, and none where it refuses
-abbrev pub found : Told → ℕ
-found t = getD (t .values) 3 0
-
 -- what judge tells, printed by the columns that it wrote: flags, and the findings' words and spans
 abbrev pub answerLines : Told → List ℕ → List ℕ → List ℕ → List ℕ
-answerLines t flags ws ss = printedFor t flags (firstFindings (found t) ws ss)
+answerLines t flags ws ss = printedFor t flags (firstFindings (findingsTold t) ws ss)
 
 -- Bytes that hold every output: the two lines of three and of five numbers, with 20 digits for each, and the lines of
 -- 3,072 findings, none of them longer than `unassigned` with four numbers of 10 digits.

@@ -4,10 +4,10 @@ ghost use mathlib.Core.List.{[]};
 ghost use Prim.Native.Nat.{_-_, _≤_};
 ghost use lib.ListN.{length};
 ghost use Rattle.flow.specs.Refusals;
-ghost use Rattle.flow.specs.Answers.{countValues, judgeTold};
+ghost use Rattle.flow.specs.Answers.{countValues, judgeTold, findingsTold};
 ghost use Rattle.flow.specs.Listing;
 ghost use Rattle.line_writer.specs.Output.{Room, Appended, Printed};
-ghost use Rattle.lines.specs.Report.{firstFindings, found, answerLines, roomForAll};
+ghost use Rattle.lines.specs.Report.{firstFindings, answerLines, roomForAll};
 use flow::Counts;
 use flow::JudgeAnswer;
 use flow::Refusal;
@@ -109,8 +109,8 @@ pub fn answered(
     words: &[u64],
     spans: &[u64],
 ) -> usize
-    requires { ⌜ (5 ≤ length (now reachable)) × (found (judgeTold answer) ≤ length (now words)) × (found (judgeTold answer) ≤ length (now spans)) ⌝ }
-    requires { ⌜ (found (judgeTold answer) ≤ 3072) × (roomForAll ≤ length (now output)) ⌝ }
+    requires { ⌜ (5 ≤ length (now reachable)) × (findingsTold (judgeTold answer) ≤ length (now words)) × (findingsTold (judgeTold answer) ≤ length (now spans)) ⌝ }
+    requires { ⌜ (findingsTold (judgeTold answer) ≤ 3072) × (roomForAll ≤ length (now output)) ⌝ }
     ensures { λ r. ⌜ Printed (answerLines (judgeTold answer) (now (reachable .entry)) (now (words .entry)) (now (spans .entry))) (now (output .entry)) (now (output .exit)) r ⌝ }
 {
     match answer {

@@ -9,13 +9,14 @@ use borrow.Author.Tests.{ltb-true}
 use lib.Dec.{ltb}
 use lib.ListN.{length, getD, take, length-take}
 use lib.Seq.{length-take-le, getD-take}
-use Rattle.search.specs.Search.{keep}
+use Rattle.search.specs.Search.{filter}
 use Rattle.search.specs.Worklist.{State, pushAll, pushIf, Room}
 use Rattle.search.proofs.Closure.{Nodes}
-use Rattle.search.proofs.Worklist.{Moved, two-pushes, keep-in, keep-keep}
+use Rattle.search.proofs.Worklist.{Moved, two-pushes, filter-in, filter-filter}
 use Rattle.flow.specs.Graph.{Graph, nodeCount}
 use Rattle.flow.specs.Reachable.{successors}
-use Rattle.flow.specs.Findings.{Use, Declaration, isAliveAt, liveSuccessors}
+use Rattle.flow.specs.Locals.{Declaration}
+use Rattle.flow.specs.Findings.{Use, isAliveAt, liveSuccessors}
 use Rattle.flow.proofs.Flags.{edge-node}
 use Rattle.flow.proofs.Members.{and-both}
 use Rattle.live_steps.specs.Stamps.{view, Ready, Leaves}
@@ -33,18 +34,18 @@ module _ (n : ℕ) (first second start : List ℕ) (d : Declaration) where
   charted = chart n first second start
 
   pub live-nodes : (u : ℕ) → Nodes n (liveSuccessors charted d u)
-  live-nodes u v i = omega (arith, length-take n first, edge-node charted u v (keep-in (isAliveAt charted d) (successors charted u) v i .0))
+  live-nodes u v i = omega (arith, length-take n first, edge-node charted u v (filter-in (isAliveAt charted d) (successors charted u) v i .0))
 
   module _ (l : n ≤ length first) where
     pub count-is : nodeCount charted ≡ n
     count-is = length-take-le n first l
 
     -- the live successors of a node, by one test of what its two cells hold
-    live-edges : (u : ℕ) → u < n → liveSuccessors charted d u ≡ keep (enters n start d) (getD first u 0 ∷ getD second u 0 ∷ [])
+    live-edges : (u : ℕ) → u < n → liveSuccessors charted d u ≡ filter (enters n start d) (getD first u 0 ∷ getD second u 0 ∷ [])
     unfolding isAliveAt
     live-edges u h =
-        keep-keep (λ v. ltb v (nodeCount charted)) (isAliveAt charted d) (getD (take n first) u 0 ∷ getD (take n second) u 0 ∷ [])
-        ∙ (λ i. keep (λ v. ltb v (count-is i) && isAliveAt charted d v) (getD-take n first u 0 h i ∷ getD-take n second u 0 h i ∷ []))
+        filter-filter (λ v. ltb v (nodeCount charted)) (isAliveAt charted d) (getD (take n first) u 0 ∷ getD (take n second) u 0 ∷ [])
+        ∙ (λ i. filter (λ v. ltb v (count-is i) && isAliveAt charted d v) (getD-take n first u 0 h i ∷ getD-take n second u 0 h i ∷ []))
 
     -- two pushes of what the cells hold
     pub expanded : (u : ℕ) → u < n → {a b : ℕ} → a ≡ getD first u 0 → b ≡ getD second u 0 → (s s₁ s₂ : State) → s₁ ≡ pushIf (enters n start d) a s → s₂ ≡ pushIf (enters n start d) b s₁ → s₂ ≡ pushAll (liveSuccessors charted d u) s

@@ -10,7 +10,8 @@ use Rattle.search.specs.Lent.{Column, held}
 use Rattle.flow.specs.declared.Found.the-variants.{At}
 use Rattle.flow.specs.Sheet.{useKindOf, crossingOf}
 use Rattle.flow.specs.Graph.{Graph, Nodes}
-use Rattle.flow.specs.Findings.{Use, Declaration, node, isWrite, onlyIf, isAliveAt, liveSuccessors}
+use Rattle.flow.specs.Locals.{Declaration, onlyIf}
+use Rattle.flow.specs.Findings.{Use, node, isWrite, isAliveAt, liveSuccessors}
 
 -- ---- the graph
 

@@ -15,7 +15,8 @@ use Rattle.search.specs.Worklist.{State, pushAll}
 use Rattle.search.proofs.Closure.{Nodes}
 use Rattle.search.proofs.Worklist.{Search, flags, all-append}
 use Rattle.flow.specs.Graph.{Graph, Nodes as GraphNodes, nodeCount}
-use Rattle.flow.specs.Findings.{Use, Declaration, node, isWrite, isAliveAt, onlyIf, liveSuccessors, afterWrites, liveAfterWrites}
+use Rattle.flow.specs.Locals.{Declaration, onlyIf}
+use Rattle.flow.specs.Findings.{Use, node, isWrite, isAliveAt, liveSuccessors, afterWrites, liveAfterWrites}
 use Rattle.flow.proofs.Members.{append-in}
 use Rattle.live_steps.specs.Walk.{Charts, chart, bare, useAt, usesAt, Spells}
 use Rattle.live_steps.proofs.Steps.{live-nodes, count-is, heads, spells-tail}

@@ -8,7 +8,8 @@ use native.Mathlib.Omega.{arith}
 use lib.ListN.{length, drop, replicate, length-append, length-drop, length-replicate, getD-replicate, List·getD-append}
 use lib.Seq.{drop-append-seam}
 use Rattle.flow.specs.Sheet.{kindWords, useWords, useSpans}
-use Rattle.flow.specs.Findings.{locals, tracked, localAt, firstUnassignedUse, unassignedOf, overwrittenOf, findings}
+use Rattle.flow.specs.Locals.{locals, tracked, localAt}
+use Rattle.flow.specs.Findings.{firstUnassignedUse, unassignedOf, overwrittenOf, findings}
 use Rattle.uses.specs.Uses.{UseTable, Room, placeOf, LocalsAre, Located as LocatedUses, Sorted as SortedUses}
 use Rattle.locals.specs.Facts.{localsIn, Known, Stored, NoneTracked}
 use Rattle.locals.specs.Columns.{Located}

@@ -8,7 +8,8 @@ use lib.ListN.{length, take}
 use Rattle.search.specs.Lent.{Column, held, left}
 use Rattle.flow.specs.Sheet.{kindWords, spanWords, useWords, useSpans}
 use Rattle.flow.specs.Graph.{graph}
-use Rattle.flow.specs.Findings.{locals, findings}
+use Rattle.flow.specs.Locals.{locals}
+use Rattle.flow.specs.Findings.{findings}
 use Rattle.uses.specs.Uses.{CodeTable, UseTable}
 use Rattle.locals.specs.Facts.{Known}
 use Rattle.locals.specs.Columns.{Charted, Named, Spanned}

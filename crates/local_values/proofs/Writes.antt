@@ -7,7 +7,8 @@ use mathlib.Core.List.{List, [], _∷_, _++_, map, map-append, List·Memᴰ}
 use native.Mathlib.Omega.{arith}
 use lib.ListN.{length, getD, drop}
 use Rattle.flow.specs.Graph.{Graph}
-use Rattle.flow.specs.Findings.{Use, Ahead, onlyIf, ofUse, isOverwritten, overwrittenBelow}
+use Rattle.flow.specs.Locals.{onlyIf}
+use Rattle.flow.specs.Findings.{Use, Ahead, ofUse, isOverwritten, overwrittenBelow}
 use Rattle.uses_by_node.specs.Uses.{Table, byNode, Sorted}
 use Rattle.uses_by_node.proofs.Sorting.{size}
 use Rattle.uses_by_node.proofs.Callers.{Holds, holds, Collected, collect-none, collect-turn, collect-end}

@@ -7,7 +7,8 @@ use lib.ListN.{length, getD, take}
 use mathlib.Core.Bool.{_&&_}
 use Rattle.search.specs.Lent.{Column, held}
 use Rattle.flow.specs.Graph.{Graph}
-use Rattle.flow.specs.Findings.{Use, Ahead, Finding, Declaration, onlyIf, ofInitial, ofUse, ahead, isOverwrittenUnread, isOverwritten, overwrittenBelow}
+use Rattle.flow.specs.Locals.{Finding, Declaration, onlyIf}
+use Rattle.flow.specs.Findings.{Use, Ahead, ofInitial, ofUse, ahead, isOverwrittenUnread, isOverwritten, overwrittenBelow}
 use Rattle.live_steps.specs.Walk.{Charts}
 use Rattle.locals.specs.Entries.{Adds}
 use Rattle.uses_by_node.specs.Uses.{Table, tableOf, Listed, Sorted, AtPlace}

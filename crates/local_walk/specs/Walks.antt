@@ -7,7 +7,8 @@ use mathlib.Core.List.{List, [], _∷_, map}
 use lib.ListN.{length}
 use Rattle.search.specs.Lent.{Column, held}
 use Rattle.flow.specs.Graph.{Graph}
-use Rattle.flow.specs.Findings.{Use, Declaration, onlyIf, liveAfterWrites, firstEmptyRead}
+use Rattle.flow.specs.Locals.{Declaration, onlyIf}
+use Rattle.flow.specs.Findings.{Use, liveAfterWrites, firstEmptyRead}
 use Rattle.live_steps.specs.Stamps.{Fresh}
 use Rattle.live_steps.specs.Walk.{Charts, OfLocal, declared}
 use Rattle.declarations.specs.declared.Declared.{Declared}

@@ -9,7 +9,8 @@ use lib.ListN.{length, getD, take}
 use lib.Seq.{getD-take}
 use Rattle.flow.specs.Sheet.{useWords, useSpans, useKindOf}
 use Rattle.flow.specs.Graph.{graph}
-use Rattle.flow.specs.Findings.{Use, declaration, localAt, captured, isInClosure, onlyIf, node, usesOf}
+use Rattle.flow.specs.Locals.{declaration, localAt, captured, isInClosure, onlyIf}
+use Rattle.flow.specs.Findings.{Use, node, usesOf}
 use Rattle.flow.specs.Demand.{useSpan}
 use Rattle.flow.proofs.Uses.{entry, From, end, one, from-all, uses-law}
 use Rattle.uses.specs.Spelled.{usesAt as usesAtNode, byNode as groupedByNode}

@@ -7,7 +7,8 @@ use native.Mathlib.Omega.{arith}
 use native.Mathlib.Numerals.{add-one}
 use lib.ListN.{length, set, take, drop, length-append, length-map, length-drop, take-append-drop}
 use lib.Seq.{set-split, take-at, drop-at, drop-drop, length-take-le}
-use Rattle.flow.specs.Findings.{Finding, wordsOf, spansOf}
+use Rattle.flow.specs.Locals.{Finding}
+use Rattle.flow.specs.Findings.{wordsOf, spansOf}
 use Rattle.locals.specs.Entries.{Put, Listed, Room, Added}
 
 -- ---- one column

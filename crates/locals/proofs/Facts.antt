@@ -11,9 +11,9 @@ use borrow.Author.Tests.{eq-eqb, ne-eqb, le-leb, lt-leb}
 use lib.Dec.{eqb, leb}
 use lib.ListN.{length, getD, set, take, drop, length-map, drop-of-length-le}
 use lib.Seq.{getD-take, drop-cons, drop-drop, take-suc-set, drop-set-lt, length-take-le}
-use Rattle.flow.specs.Sheet.{kindOf, argumentOf, kindWords, spanWords, together}
+use Rattle.flow.specs.Sheet.{kindOf, argumentOf, kindWords, spanWords, zip}
 use Rattle.flow.specs.Kinds.{kinds}
-use Rattle.flow.specs.Findings.{Local, noLocal, onlyIf, captured, noValue, writesJudged, tracked, localsFrom, locals}
+use Rattle.flow.specs.Locals.{Local, noLocal, onlyIf, captured, noValue, writesJudged, tracked, localsFrom, locals}
 use Rattle.locals.specs.Facts.{factsOf, valuesAfter, beforeAfter, nameHere, localsIn, Stored, Known, NoneTracked}
 open record kinds using (NAME)
 
@@ -174,7 +174,7 @@ module _ (w values before k : ℕ) (facts : List ℕ) where
 
 -- ---- the names of a sheet
 
-locals-in : (ws ss : List ℕ) (v b : ℕ) → length ss ≡ length ws → localsFrom v b (together ws ss) ≡ localsIn v b ws
+locals-in : (ws ss : List ℕ) (v b : ℕ) → length ss ≡ length ws → localsFrom v b (zip ws ss) ≡ localsIn v b ws
 unfolding localsFrom localsIn
 locals-in [] ss v b e = refl
 locals-in (w ∷ ws) [] v b e = absurd (omega arith)

@@ -8,7 +8,8 @@ use native.Mathlib.Omega.{arith}
 use native.Mathlib.Numerals.{add-one}
 use lib.ListN.{length, getD, drop, length-append, length-map, length-take}
 use Rattle.flow.specs.Graph.{Graph, nodeCount, graph}
-use Rattle.flow.specs.Findings.{Use, Local, Declaration, Finding, Ahead, onlyIf, node, isWrite, tracked, noValue, writesJudged, allFound, liveAfterWrites, isEmptyRead, firstEmptyRead, isOverwritten, overwrittenBelow, ahead, declaration, localAt, usesOf, firstUnassignedUse, initialOverwritten, writesOverwritten, ofUse, ofInitial, unassignedOf, overwrittenOf, ofEach}
+use Rattle.flow.specs.Locals.{Local, Declaration, Finding, onlyIf, tracked, noValue, writesJudged, declaration, localAt}
+use Rattle.flow.specs.Findings.{Use, Ahead, node, isWrite, allFound, liveAfterWrites, isEmptyRead, firstEmptyRead, isOverwritten, overwrittenBelow, ahead, usesOf, firstUnassignedUse, initialOverwritten, writesOverwritten, ofUse, ofInitial, unassignedOf, overwrittenOf, ofEach}
 use Rattle.uses_by_node.specs.Uses.{byNode, overwrittenIn}
 use Rattle.uses_by_node.proofs.Sorting.{overwritten-by}
 use Rattle.locals.specs.Columns.{Parts}

@@ -9,8 +9,9 @@ use lib.ListN.{length, getD, take}
 use Rattle.search.specs.Lent.{Column, held}
 use Rattle.flow.specs.Sheet.{useWords, useSpans, startOf}
 use Rattle.flow.specs.Graph.{nodeCount, graph}
-use Rattle.flow.specs.Reachable.{nodeAt}
-use Rattle.flow.specs.Findings.{Use, locals, nodeOf, usesOf, allFound}
+use Rattle.flow.specs.Reachable.{nodeAt, nodeOf}
+use Rattle.flow.specs.Locals.{locals}
+use Rattle.flow.specs.Findings.{Use, usesOf, allFound}
 use Rattle.bucket_sort.specs.Grouped.{part}
 use Rattle.live_steps.specs.Walk.{Charts, Long}
 

@@ -5,7 +5,8 @@ use mathlib.Core.Path.{_≡_}
 use mathlib.Core.List.{List, _++_}
 use lib.ListN.{length, take, drop}
 use Rattle.search.specs.Lent.{Column, held, left}
-use Rattle.flow.specs.Findings.{Finding, wordsOf, spansOf}
+use Rattle.flow.specs.Locals.{Finding}
+use Rattle.flow.specs.Findings.{wordsOf, spansOf}
 
 -- xs stand in the new column from place k on, and all else is as it was
 abbrev pub Put : List ℕ → ℕ → List ℕ → List ℕ → Type 0

@@ -8,7 +8,7 @@ use lib.Dec.{eqb}
 use lib.ListN.{length, getD, take, drop}
 use Rattle.flow.specs.Sheet.{kindOf, argumentOf}
 use Rattle.flow.specs.Kinds.{kinds}
-use Rattle.flow.specs.Findings.{Local, onlyIf, noValue, localAt, tracked}
+use Rattle.flow.specs.Locals.{Local, onlyIf, noValue, localAt, tracked}
 open record kinds using (LOCAL, NAME)
 
 -- "argument 0 to 7: 1 begins with underscore, 2 modified, 4 captured", and 8 where it has no value

@@ -4,7 +4,7 @@ ghost use mathlib.Core.Bool.{true, false, not};
 ghost use mathlib.Core.List.{[], _∷_};
 ghost use Prim.Native.Nat.{_+_, _/_, _<_, _≤_};
 ghost use lib.ListN.{length};
-ghost use Rattle.flow.specs.Findings.{Local, noValue, tracked, writesJudged, captured};
+ghost use Rattle.flow.specs.Locals.{Local, noValue, tracked, writesJudged, captured};
 ghost use Rattle.locals.specs.Facts.{factsOf, valuesAfter, beforeAfter, nameHere, localsIn, Stored, NoneTracked};
 ghost use Rattle.locals.specs.Columns.{Cut, heldPart};
 ghost use Rattle.locals.specs.Entries.{Lists};

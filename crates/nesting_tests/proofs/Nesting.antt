@@ -11,7 +11,7 @@ use lib.ListN.{length}
 use borrow.Author.Tests.{ltb-false, eqb-true, leb-true}
 use Rattle.flow.specs.Kinds.{opens, closes}
 use Rattle.flow.specs.Refusals.{one, outnumbered, mayStand, openAfter}
-use Rattle.flow.specs.Sheet.{Item, kind, oneOf}
+use Rattle.flow.specs.Sheet.{Item, kind, member}
 use Rattle.nesting_tests.specs.Stack.{stackOf}
 use Rattle.sheet_tests.proofs.Bools.{or-parts, and-parts}
 use Rattle.nesting_tests.proofs.Stacks.{length-stackOf}
@@ -69,9 +69,9 @@ nothing-open false true c e h = false≢true e
 nothing-open false false true e h = false≢true e
 nothing-open false false false e h = false≢true h
 
-pub stands-in : (k : ℕ) (os : List ℕ) → mayStand k os ≡ true → (closes k || oneOf k (6 ∷ 7 ∷ [])) ≡ true → 0 < length os
+pub stands-in : (k : ℕ) (os : List ℕ) → mayStand k os ≡ true → (closes k || member k (6 ∷ 7 ∷ [])) ≡ true → 0 < length os
 unfolding mayStand
-stands-in k [] e h = absurd (nothing-open (eqb k 8) (eqb k 9) (oneOf k (6 ∷ 7 ∷ [])) e h)
+stands-in k [] e h = absurd (nothing-open (eqb k 8) (eqb k 9) (member k (6 ∷ 7 ∷ [])) e h)
 stands-in k (o ∷ os) e h = omega arith
 
 pub closer-in : (k : ℕ) (os : List ℕ) → mayStand k os ≡ true → one (closes k) ≤ length os
@@ -81,10 +81,10 @@ closer-in k os e = go (closes k) refl
     go true p = stands-in k os e (rw p)
     go false p = omega arith
 
-pub arm-in : (k : ℕ) (os : List ℕ) → mayStand k os ≡ true → one (oneOf k (6 ∷ 7 ∷ [])) ≤ length os
-arm-in k os e = go (closes k) (oneOf k (6 ∷ 7 ∷ [])) refl refl
+pub arm-in : (k : ℕ) (os : List ℕ) → mayStand k os ≡ true → one (member k (6 ∷ 7 ∷ [])) ≤ length os
+arm-in k os e = go (closes k) (member k (6 ∷ 7 ∷ [])) refl refl
   where
-    go : (s t : Bool) → closes k ≡ s → oneOf k (6 ∷ 7 ∷ []) ≡ t → one t ≤ length os
+    go : (s t : Bool) → closes k ≡ s → member k (6 ∷ 7 ∷ []) ≡ t → one t ≤ length os
     go true true p q = stands-in k os e (rw p)
     go false true p q = stands-in k os e (rw (p, q))
     go s false p q = omega arith

@@ -4,9 +4,9 @@ ghost use mathlib.Core.Bool.{true, false, _&&_, not};
 ghost use mathlib.Core.List.{[], _∷_};
 ghost use Prim.Native.Nat.{_+_, _≤_};
 ghost use lib.ListN.{length};
-ghost use Rattle.flow.specs.Sheet.{oneOf, together};
+ghost use Rattle.flow.specs.Sheet.{member, zip};
 ghost use Rattle.flow.specs.Kinds.{kinds, opens};
-ghost use Rattle.flow.specs.Refusals.{one, innermost, mayStand, openAfter, besideEachOther, outnumbered, pairsUp, sideBySide};
+ghost use Rattle.flow.specs.Refusals.{one, innermost, mayStand, openAfter, mayFollow, outnumbered, pairsUp, sideBySide};
 ghost use Rattle.nesting_tests.specs.Stack.{stackOf};
 use sheet_tests::depth::is_closer;
 use sheet_tests::depth::is_opener;
@@ -77,7 +77,7 @@ fn open_after(opened: &mut [u64; 64], depth: usize, kind: u64) -> usize
 
 // What may follow RETURN and CONTINUE: what ends their block.
 fn ends_block(kind: u64) -> bool
-    ensures { λ r. ⌜ r ≡ oneOf kind (0 ∷ kinds .END ∷ kinds .UNTIL ∷ kinds .ELSEIF ∷ kinds .ELSE ∷ []) ⌝ }
+    ensures { λ r. ⌜ r ≡ member kind (0 ∷ kinds .END ∷ kinds .UNTIL ∷ kinds .ELSEIF ∷ kinds .ELSE ∷ []) ⌝ }
 {
     match kind {
         0 => true,
@@ -91,7 +91,7 @@ fn ends_block(kind: u64) -> bool
 
 // Whether two kinds may stand side by side, 0 at the sheet's ends.
 fn may_follow(last: u64, kind: u64) -> bool
-    ensures { λ r. ⌜ r ≡ besideEachOther last kind ⌝ }
+    ensures { λ r. ⌜ r ≡ mayFollow last kind ⌝ }
 {
     match last {
         LOCAL => kind == NAME,
@@ -104,8 +104,8 @@ fn may_follow(last: u64, kind: u64) -> bool
 
 pub fn bad_nesting(kinds: &[u64], spans: &[u64]) -> bool
     requires { ⌜ (length (now kinds) ≡ length (now spans)) × (length (now kinds) ≤ 1024) ⌝ }
-    requires { ⌜ outnumbered 0 0 (together (now kinds) (now spans)) ≡ false ⌝ }
-    ensures { λ r. ⌜ r ≡ not (pairsUp [] (together (now (kinds .entry)) (now (spans .entry))) && sideBySide 0 (together (now (kinds .entry)) (now (spans .entry)))) ⌝ }
+    requires { ⌜ outnumbered 0 0 (zip (now kinds) (now spans)) ≡ false ⌝ }
+    ensures { λ r. ⌜ r ≡ not (pairsUp [] (zip (now (kinds .entry)) (now (spans .entry))) && sideBySide 0 (zip (now (kinds .entry)) (now (spans .entry)))) ⌝ }
 {
     let mut opened = [0u64; 64];
     let mut depth: usize = 0;

@@ -11,14 +11,15 @@ use borrow.Author.Tests.{eq-eqb, ne-eqb, eqb-true, lt-ltb, not-true}
 use lib.Dec.{eqb, ltb}
 use lib.ListN.{length, getD}
 use lib.Seq.{getD-take}
-use Rattle.search.specs.Search.{In, cons-if, keep, closure}
-use Rattle.search.proofs.Worklist.{keep-in}
+use Rattle.search.specs.Search.{In, cons-if, filter, closure}
+use Rattle.search.proofs.Worklist.{filter-in}
 use Rattle.search.proofs.Alike.{closure-alike}
-use Rattle.flow.specs.Sheet.{oneOf}
+use Rattle.flow.specs.Sheet.{member}
 use Rattle.flow.specs.Graph.{Graph, nodeCount}
 use Rattle.flow.specs.Reachable.{successors}
-use Rattle.flow.specs.Findings.{Use, node, Declaration, isAliveAt, noUse, aRead, aPureWrite, meeting, firstAt, isNoUse, below, meetsHere, comesFrom, meets}
-use Rattle.flow.proofs.Members.{and-both, both-and, append-in, in-append, in-keep, below-in, in-below, oneOf-in, in-oneOf}
+use Rattle.flow.specs.Locals.{Declaration}
+use Rattle.flow.specs.Findings.{Use, node, isAliveAt, noUse, aRead, aPureWrite, meeting, firstAt, isNoUse, below, meetsHere, comesFrom, meets}
+use Rattle.flow.proofs.Members.{and-both, both-and, append-in, in-append, in-filter, below-in, in-below, member-in, in-member}
 use Rattle.predecessors.specs.Predecessors.{predsOf}
 use Rattle.uses_by_node.specs.Uses.{byNode, Table, nodeAt, kindAt, Placed, Sorted, nextInNode, opensNode, Used}
 use Rattle.predecessors.specs.Scope.{Scope, scope, aliveIn, passes}
@@ -117,16 +118,16 @@ module _ (g : Graph) (n : ℕ) (start head a b : List ℕ) (c : Columns g n star
   alive-is v h = ap (λ (x : ℕ). not (eqb v (d .node)) && ltb x (d .scopeEnd)) (sym (getD-take n start v 0 h) ∙ ap (λ (l : List ℕ). getD l v 0) (sym (c .starts)))
 
   -- an edge, by the successors
-  leads-edge : (u v : ℕ) → v < n → Leads (g .nodes .first) (g .nodes .second) v u → oneOf v (successors g u) ≡ true
+  leads-edge : (u v : ℕ) → v < n → Leads (g .nodes .first) (g .nodes .second) v u → member v (successors g u) ≡ true
   leads-edge u v h p =
-      in-oneOf v (successors g u)
-      (in-keep (λ x. ltb x (nodeCount g)) (getD (g .nodes .first) u 0 ∷ getD (g .nodes .second) u 0 ∷ []) v
+      in-member v (successors g u)
+      (in-filter (λ x. ltb x (nodeCount g)) (getD (g .nodes .first) u 0 ∷ getD (g .nodes .second) u 0 ∷ []) v
       (⊎-elim (λ e. inl (sym e)) (λ e. inr (inl (sym e))) p) (lt-ltb v (nodeCount g) (omega (arith, c .count))))
 
-  edge-leads : (u v : ℕ) → oneOf v (successors g u) ≡ true → Leads (g .nodes .first) (g .nodes .second) v u
+  edge-leads : (u v : ℕ) → member v (successors g u) ≡ true → Leads (g .nodes .first) (g .nodes .second) v u
   edge-leads u v e =
       ⊎-elim (λ q. inl (sym q)) (⊎-elim (λ q. inr (sym q)) (λ z. absurd z))
-      (keep-in (λ x. ltb x (nodeCount g)) (getD (g .nodes .first) u 0 ∷ getD (g .nodes .second) u 0 ∷ []) v (oneOf-in v (successors g u) e) .0)
+      (filter-in (λ x. ltb x (nodeCount g)) (getD (g .nodes .first) u 0 ∷ getD (g .nodes .second) u 0 ∷ []) v (member-in v (successors g u) e) .0)
 
   module _ (t : Table) (us : List Use) (h : Sorted n t us) where
     abbrev sc : Scope
@@ -211,38 +212,38 @@ module _ (g : Graph) (n : ℕ) (start head a b : List ℕ) (c : Columns g n star
 
       module _ (pure : Bool) (pl : Placed n (t .nodes) (t .sorted)) where
         abbrev from : ℕ → ℕ → List ℕ
-        from k v = keep (λ u. oneOf v (successors g u) && meetsHere g d us isNoUse u) (below k)
+        from k v = filter (λ u. member v (successors g u) && meetsHere g d us isNoUse u) (below k)
 
         abbrev next : ℕ → List ℕ
-        next v = keep (passes sc stamp used) (predsOf (g .nodes .first) (g .nodes .second) v n)
+        next v = filter (passes sc stamp used) (predsOf (g .nodes .first) (g .nodes .second) v n)
 
         goes : (v u : ℕ) → v < n → In u (next v) → In u (from n v)
         goes v u k i =
-            let q = keep-in (passes sc stamp used) (predsOf (g .nodes .first) (g .nodes .second) v n) u i in
+            let q = filter-in (passes sc stamp used) (predsOf (g .nodes .first) (g .nodes .second) v n) u i in
             let r = in-preds (g .nodes .first) (g .nodes .second) v n u (q .0) in
-            in-keep (λ x. oneOf v (successors g x) && meetsHere g d us isNoUse x) (below n) u (below-in n u (r .0)) (both-and (leads-edge u v k (r .1)) (sym (passes-is u (r .0)) ∙ q .1))
+            in-filter (λ x. member v (successors g x) && meetsHere g d us isNoUse x) (below n) u (below-in n u (r .0)) (both-and (leads-edge u v k (r .1)) (sym (passes-is u (r .0)) ∙ q .1))
 
         comes : (v u : ℕ) → v < n → In u (from n v) → In u (next v)
         comes v u k i =
-            let q = keep-in (λ x. oneOf v (successors g x) && meetsHere g d us isNoUse x) (below n) u i in
-            let r = and-both (oneOf v (successors g u)) (meetsHere g d us isNoUse u) (q .1) in
+            let q = filter-in (λ x. member v (successors g x) && meetsHere g d us isNoUse x) (below n) u i in
+            let r = and-both (member v (successors g u)) (meetsHere g d us isNoUse u) (q .1) in
             let l : u < n = in-below n u (q .0) in
-            in-keep (passes sc stamp used) (predsOf (g .nodes .first) (g .nodes .second) v n) u (preds-in (g .nodes .first) (g .nodes .second) v n u l (edge-leads u v (r .0))) (passes-is u l ∙ r .1)
+            in-filter (passes sc stamp used) (predsOf (g .nodes .first) (g .nodes .second) v n) u (preds-in (g .nodes .first) (g .nodes .second) v n u l (edge-leads u v (r .0))) (passes-is u l ∙ r .1)
 
-        at-count : backFlags sc t pure stamp used (g .nodes .first) (g .nodes .second) n ≡ closure (keep (meetsHere g d us (sortOf pure)) (below n)) (from n) n
+        at-count : backFlags sc t pure stamp used (g .nodes .first) (g .nodes .second) n ≡ closure (filter (meetsHere g d us (sortOf pure)) (below n)) (from n) n
         at-count =
-            closure-alike n (startsTo sc t pure (length (t .sorted))) (keep (meetsHere g d us (sortOf pure)) (below n)) next (from n)
+            closure-alike n (startsTo sc t pure (length (t .sorted))) (filter (meetsHere g d us (sortOf pure)) (below n)) next (from n)
             (starts-nodes sc t pure n (length (t .sorted)) pl (omega arith))
-            (λ v u i. preds-nodes (g .nodes .first) (g .nodes .second) v n n (omega arith) u (keep-in (passes sc stamp used) (predsOf (g .nodes .first) (g .nodes .second) v n) u i .0))
-            (λ v i. in-below n v (keep-in (meetsHere g d us (sortOf pure)) (below n) v i .0))
-            (λ v u i. in-below n u (keep-in (λ x. oneOf v (successors g x) && meetsHere g d us isNoUse x) (below n) u i .0))
+            (λ v u i. preds-nodes (g .nodes .first) (g .nodes .second) v n n (omega arith) u (filter-in (passes sc stamp used) (predsOf (g .nodes .first) (g .nodes .second) v n) u i .0))
+            (λ v i. in-below n v (filter-in (meetsHere g d us (sortOf pure)) (below n) v i .0))
+            (λ v u i. in-below n u (filter-in (λ x. member v (successors g x) && meetsHere g d us isNoUse x) (below n) u i .0))
             (λ v i. let r = in-starts sc t pure (length (t .sorted)) v i in
             let l : r .0 < length (byNode n us) = omega (arith, r .1, size n t us h) in
-            rw (r .3) (in-keep (meetsHere g d us (sortOf pure)) (below n) (nodeAt (t .nodes) (t .sorted) (r .0)) (below-in n (nodeAt (t .nodes) (t .sorted) (r .0)) (rw (node-is n t us h (r .0) l) (node-below n t us h (r .0) l))) (starts-meet pure (r .0) l (r .2))))
-            (λ v i. let r = keep-in (meetsHere g d us (sortOf pure)) (below n) v i in meet-starts pure v (in-below n v (r .0)) (r .1))
+            rw (r .3) (in-filter (meetsHere g d us (sortOf pure)) (below n) (nodeAt (t .nodes) (t .sorted) (r .0)) (below-in n (nodeAt (t .nodes) (t .sorted) (r .0)) (rw (node-is n t us h (r .0) l) (node-below n t us h (r .0) l))) (starts-meet pure (r .0) l (r .2))))
+            (λ v i. let r = filter-in (meetsHere g d us (sortOf pure)) (below n) v i in meet-starts pure v (in-below n v (r .0)) (r .1))
             goes comes
 
         pub meets-are : backFlags sc t pure stamp used (g .nodes .first) (g .nodes .second) n ≡ meets g d us (sortOf pure)
         unfolding meets comesFrom
         meets-are =
-            subst (λ (k : ℕ). backFlags sc t pure stamp used (g .nodes .first) (g .nodes .second) n ≡ closure (keep (meetsHere g d us (sortOf pure)) (below k)) (from k) k) (sym (c .count)) at-count
+            subst (λ (k : ℕ). backFlags sc t pure stamp used (g .nodes .first) (g .nodes .second) n ≡ closure (filter (meetsHere g d us (sortOf pure)) (below k)) (from k) k) (sym (c .count)) at-count

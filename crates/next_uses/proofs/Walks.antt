@@ -6,9 +6,9 @@ use mathlib.Core.Bool.{Bool}
 use mathlib.Core.List.{List, []}
 use native.Mathlib.Omega.{arith}
 use lib.ListN.{length}
-use Rattle.search.specs.Search.{cons-if, keep}
+use Rattle.search.specs.Search.{cons-if, filter}
 use Rattle.search.proofs.Closure.{Nodes}
-use Rattle.search.proofs.Worklist.{Search, keep-in}
+use Rattle.search.proofs.Worklist.{Search, filter-in}
 use Rattle.search.proofs.Stamps.{when-nodes}
 use Rattle.flow.proofs.Members.{append-in}
 use Rattle.predecessors.specs.Predecessors.{predsOf}
@@ -29,7 +29,7 @@ backSearch s t pure stamp used first second n p =
     record {
       n = n;
       starts = startsTo s t pure (length (t .sorted));
-      next = λ v. keep (passes s stamp used) (predsOf first second v n);
+      next = λ v. filter (passes s stamp used) (predsOf first second v n);
       starts-in = starts-nodes s t pure n (length (t .sorted)) p (omega arith);
-      next-in = λ v u i. preds-nodes first second v n n (omega arith) u (keep-in (passes s stamp used) (predsOf first second v n) u i .0);
+      next-in = λ v u i. preds-nodes first second v n n (omega arith) u (filter-in (passes s stamp used) (predsOf first second v n) u i .0);
     }

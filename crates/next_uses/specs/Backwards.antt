@@ -6,12 +6,13 @@ use mathlib.Core.Bool.{Bool, true, false, _&&_, not}
 use mathlib.Core.List.{List, [], _++_}
 use lib.ListN.{length, take}
 use lib.Dec.{eqb}
-use Rattle.search.specs.Search.{cons-if, keep, closure}
+use Rattle.search.specs.Search.{cons-if, filter, closure}
 use Rattle.search.specs.Worklist.{State}
 use Rattle.search.specs.Stamps.{flagsOf, Fresh, stampWhen}
 use Rattle.search.specs.Lent.{Column, held, left}
 use Rattle.flow.specs.Graph.{Graph, nodeCount}
-use Rattle.flow.specs.Findings.{Use, Declaration, Meeting, isARead, isAPureWrite, ahead}
+use Rattle.flow.specs.Locals.{Declaration}
+use Rattle.flow.specs.Findings.{Use, Meeting, isARead, isAPureWrite, ahead}
 use Rattle.predecessors.specs.Predecessors.{predsOf, Linked}
 use Rattle.predecessors.specs.Scope.{Scope, aliveIn, passes}
 use Rattle.uses_by_node.specs.Uses.{Table, Sorted, nodeAt, kindAt, opensNode}
@@ -44,7 +45,7 @@ startPushed stamp s t pure i x = stampWhen stamp (startsHere s t pure i) (nodeAt
 -- the flags of the search, over chains that hold the edges of two columns
 abbrev pub backFlags : Scope → Table → Bool → ℕ → List ℕ → List ℕ → List ℕ → ℕ → List ℕ
 backFlags s t pure stamp used first second n =
-    closure (allStarts s t pure) (λ v. keep (passes s stamp used) (predsOf first second v n)) n
+    closure (allStarts s t pure) (λ v. filter (passes s stamp used) (predsOf first second v n)) n
 
 -- a call leaves these flags in `marks`, by the edges that the chains hold
 abbrev pub Searched : ℕ → ℕ → Scope → Table → Bool → Column → Column → Column → Column → Column → Type 0

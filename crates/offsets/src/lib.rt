@@ -74,7 +74,7 @@ pub fn code_at(code_span: &[u64], codes: usize, offset: u64, hint: usize) -> usi
 }
 
 // The node of the code at an index; past all codes there is none.
-pub fn place_at(code_node: &[u64], codes: usize, index: usize) -> Found
+pub fn node_of_code(code_node: &[u64], codes: usize, index: usize) -> Found
     requires { ⌜ codes ≤ length (now «code_node») ⌝ }
     ensures { λ r. ⌜ ((spans : List ℕ) (offset : ℕ) → codes ≤ length spans → FirstPast codes spans offset index → r ≡ nodeAmong (take codes spans) (take codes (now («code_node» .entry))) offset) ⌝ }
 {
@@ -92,7 +92,7 @@ pub fn node_at(code_span: &[u64], code_node: &[u64], codes: usize, offset: u64) 
     ensures { λ r. ⌜ r ≡ nodeAmong (take codes (now («code_span» .entry))) (take codes (now («code_node» .entry))) offset ⌝ }
 {
     let index = partition_point(code_span, codes, offset);
-    place_at(code_node, codes, index)
+    node_of_code(code_node, codes, index)
 }
 
 // Whether the code at the node that was found can run; where none was found the answer is yes.

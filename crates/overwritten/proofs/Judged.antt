@@ -11,7 +11,8 @@ use lib.Dec.{eqb}
 use lib.ListN.{length, getD, take, drop, length-take}
 use lib.Seq.{getD-take}
 use Rattle.flow.specs.Graph.{graph, nodeCount}
-use Rattle.flow.specs.Findings.{Local, Use, Ahead, Finding, onlyIf, underscore, noValue, writesJudged, tracked, allFound, usesOf, localAt, declaration, ahead, isOverwrittenUnread, overwrittenBelow, initialOverwritten, writesOverwritten, ofInitial, ofUse, overwrittenOf, ofEach}
+use Rattle.flow.specs.Locals.{Local, Finding, onlyIf, underscore, noValue, writesJudged, tracked, localAt, declaration}
+use Rattle.flow.specs.Findings.{Use, Ahead, allFound, usesOf, ahead, isOverwrittenUnread, overwrittenBelow, initialOverwritten, writesOverwritten, ofInitial, ofUse, overwrittenOf, ofEach}
 use Rattle.bucket_sort.specs.Grouped.{part}
 use Rattle.uses_by_node.specs.Uses.{table}
 use Rattle.locals.specs.Columns.{Cut}

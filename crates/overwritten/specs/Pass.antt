@@ -9,7 +9,8 @@ use lib.Dec.{eqb}
 use lib.ListN.{length, getD}
 use Rattle.search.specs.Lent.{Column, held}
 use Rattle.flow.specs.Sheet.{useWords}
-use Rattle.flow.specs.Findings.{Local, noValue, tracked, writesJudged, usesOf, overwrittenOf, ofEach}
+use Rattle.flow.specs.Locals.{Local, noValue, tracked, writesJudged}
+use Rattle.flow.specs.Findings.{usesOf, overwrittenOf, ofEach}
 use Rattle.predecessors.specs.Predecessors.{Blank}
 use Rattle.uses_by_node.specs.Uses.{byNode}
 use Rattle.next_uses.specs.Backwards.{Unmarked}

@@ -4,7 +4,7 @@ ghost use mathlib.Core.Bool.{false};
 ghost use Prim.Native.Nat.{_+_, _-_, _<_, _≤_};
 ghost use lib.ListN.{length, getD, take};
 ghost use Rattle.search.specs.Lent.{held, left};
-ghost use Rattle.flow.specs.Findings.{Local};
+ghost use Rattle.flow.specs.Locals.{Local};
 ghost use Rattle.predecessors.specs.Predecessors.{Linked};
 ghost use Rattle.next_uses.specs.Backwards.{Unmarked};
 ghost use Rattle.locals.specs.Facts.{factsOf};

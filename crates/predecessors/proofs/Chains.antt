@@ -12,7 +12,7 @@ use borrow.Author.Tests.{lt-ltb, le-ltb, eq-eqb, ne-eqb}
 use lib.Dec.{ltb, eqb}
 use lib.ListN.{length, getD, set, length-set}
 use lib.Seq.{getD-set-same, getD-set-other}
-use Rattle.search.specs.Search.{cons-if, keep}
+use Rattle.search.specs.Search.{cons-if, filter}
 use Rattle.search.specs.Worklist.{State}
 use Rattle.search.specs.Stamps.{stampAll, stampWhen, Ready}
 use Rattle.search.proofs.Closure.{Nodes}
@@ -194,11 +194,11 @@ module _ (n : ℕ) (a b : List ℕ) where
       pub left : List ℕ
       pub chain : Chain n a b e left
       pub ready : Ready stamp n s
-      pub goal : (us : List ℕ) → Chain n a b code us → stampAll stamp (keep p us) s₀ ≡ stampAll stamp (keep p left) s
+      pub goal : (us : List ℕ) → Chain n a b code us → stampAll stamp (filter p us) s₀ ≡ stampAll stamp (filter p left) s
 
     pub left-start : (code : ℕ) (s : State) → ((us : List ℕ) × Chain n a b code us) → Ready stamp n s → Left code code s s
     left-start code s q r =
-        record { left = q .0; chain = q .1; ready = r; goal = λ us c. ap (λ (l : List ℕ). stampAll stamp (keep p l) s) (chain-unique us (q .0) code c (q .1)) }
+        record { left = q .0; chain = q .1; ready = r; goal = λ us c. ap (λ (l : List ℕ). stampAll stamp (filter p l) s) (chain-unique us (q .0) code c (q .1)) }
 
     pub left-turn : (code e e′ : ℕ) (s₀ s s′ : State) (l : Left code e s₀ s) → First e (l .left) → e′ ≡ edgeAfter a b e → s′ ≡ stampWhen stamp (p (nodeOfEdge e)) (nodeOfEdge e) s → Left code e′ s₀ s′
     left-turn code e e′ s₀ s s′ l f q t =
@@ -207,9 +207,9 @@ module _ (n : ℕ) (a b : List ℕ) where
           left = f .rest;
           chain = rw q (f .more);
           ready = all-ready stamp n (cons-if (p u) u []) (when-nodes n (p u) u (f .node)) (l .ready) (t ∙ when-one stamp (p u) u s);
-          goal = λ us c. l .goal us c ∙ ap (λ (x : List ℕ). stampAll stamp (keep p x) s) (f .list) ∙ sym (when-all stamp (p u) u (keep p (f .rest)) s) ∙ ap (stampAll stamp (keep p (f .rest))) (sym t);
+          goal = λ us c. l .goal us c ∙ ap (λ (x : List ℕ). stampAll stamp (filter p x) s) (f .list) ∙ sym (when-all stamp (p u) u (filter p (f .rest)) s) ∙ ap (stampAll stamp (filter p (f .rest))) (sym t);
         }
 
-    pub left-end : (code e : ℕ) (s₀ s : State) → Left code e s₀ s → e ≡ 0 → (us : List ℕ) → Chain n a b code us → s ≡ stampAll stamp (keep p us) s₀
+    pub left-end : (code e : ℕ) (s₀ s : State) → Left code e s₀ s → e ≡ 0 → (us : List ℕ) → Chain n a b code us → s ≡ stampAll stamp (filter p us) s₀
     left-end code e s₀ s l z us c =
-        sym (l .goal us c ∙ ap (λ (x : List ℕ). stampAll stamp (keep p x) s) (chain-unique (l .left) [] e (l .chain) z))
+        sym (l .goal us c ∙ ap (λ (x : List ℕ). stampAll stamp (filter p x) s) (chain-unique (l .left) [] e (l .chain) z))

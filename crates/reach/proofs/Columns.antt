@@ -7,9 +7,9 @@ use borrow.Author.Tests.{lt-ltb}
 use lib.Dec.{ltb}
 use lib.ListN.{length, getD, take}
 use lib.Seq.{length-take-le}
-use Rattle.search.specs.Search.{closure, keep}
-use Rattle.search.proofs.Worklist.{Search, flags, keep-below}
-use Rattle.flow.specs.Graph.{Graph, nodeCount, entry}
+use Rattle.search.specs.Search.{closure, filter}
+use Rattle.search.proofs.Worklist.{Search, flags, filter-below}
+use Rattle.flow.specs.Graph.{Graph, nodeCount, entryNode}
 use Rattle.flow.specs.Reachable.{reachable}
 use Rattle.reach.specs.Columns.{edges}
 
@@ -18,18 +18,18 @@ abbrev pub fromEntry : List ℕ → List ℕ → ℕ → Search
 fromEntry first second n =
     record {
       n = n;
-      starts = keep (λ v. ltb v n) (entry ∷ []);
+      starts = filter (λ v. ltb v n) (entryNode ∷ []);
       next = edges first second n;
-      starts-in = keep-below n (entry ∷ []);
-      next-in = λ u. keep-below n (getD (take n first) u 0 ∷ getD (take n second) u 0 ∷ []);
+      starts-in = filter-below n (entryNode ∷ []);
+      next-in = λ u. filter-below n (getD (take n first) u 0 ∷ getD (take n second) u 0 ∷ []);
     }
 
-pub entry-kept : (n : ℕ) → entry < n → keep (λ v. ltb v n) (entry ∷ []) ≡ entry ∷ []
-entry-kept n h = rw (lt-ltb entry n h)
+pub entry-kept : (n : ℕ) → entryNode < n → filter (λ v. ltb v n) (entryNode ∷ []) ≡ entryNode ∷ []
+entry-kept n h = rw (lt-ltb entryNode n h)
 
-pub flags-of : (first second : List ℕ) (n : ℕ) → n ≤ length first → entry < n → (g : Graph) → g .nodes .first ≡ take n first → g .nodes .second ≡ take n second → flags (fromEntry first second n) ≡ reachable g
+pub flags-of : (first second : List ℕ) (n : ℕ) → n ≤ length first → entryNode < n → (g : Graph) → g .nodes .first ≡ take n first → g .nodes .second ≡ take n second → flags (fromEntry first second n) ≡ reachable g
 unfolding reachable
 flags-of first second n l h g e f =
     let count : nodeCount g ≡ n = ap length e ∙ length-take-le n first l in
-    let start : entry ∷ [] ≡ keep (λ v. ltb v n) (entry ∷ []) = sym (entry-kept n h) in
-    sym (λ i. closure (start i) (λ u. keep (λ v. ltb v (count i)) (getD (e i) u 0 ∷ getD (f i) u 0 ∷ [])) (count i))
+    let start : entryNode ∷ [] ≡ filter (λ v. ltb v n) (entryNode ∷ []) = sym (entry-kept n h) in
+    sym (λ i. closure (start i) (λ u. filter (λ v. ltb v (count i)) (getD (e i) u 0 ∷ getD (f i) u 0 ∷ [])) (count i))

@@ -4,7 +4,7 @@ ghost use Prim.Native.Nat.{_<_, _≤_};
 ghost use lib.ListN.{length, take, drop};
 ghost use lib.Dec.{ltb};
 ghost use Rattle.search.specs.Worklist.{st, pushAll, pushIf, Room};
-ghost use Rattle.flow.specs.Graph.{entry};
+ghost use Rattle.flow.specs.Graph.{entryNode};
 ghost use Rattle.reach.specs.Columns.{edges, FlagsOver};
 use search::at;
 use search::clear;
@@ -46,7 +46,7 @@ fn expand(
 
 // The reachable flags of n nodes. The stack is scratch memory: its first n cells may hold anything, before and after.
 pub fn reach(first: &[u64], second: &[u64], reachable: &mut [u64], stack: &mut [u64], n: usize)
-    requires { ⌜ (n ≤ length (now first)) × (n ≤ length (now second)) × (entry < n) ⌝ }
+    requires { ⌜ (n ≤ length (now first)) × (n ≤ length (now second)) × (entryNode < n) ⌝ }
     requires { ⌜ (n ≤ length (now reachable)) × (n ≤ length (now stack)) ⌝ }
     ensures { λ _. ⌜ FlagsOver (take n (now (first .entry))) (take n (now (second .entry))) n (now (reachable .entry)) (now (reachable .exit)) ⌝ }
     ensures { λ _. ⌜ (drop n (now (stack .exit)) ≡ drop n (now (stack .entry))) × (length (now (stack .exit)) ≡ length (now (stack .entry))) ⌝ }

@@ -2,11 +2,11 @@
 ghost use mathlib.Core.Path.{_≡_};
 ghost use mathlib.Core.Bool.{true};
 ghost use mathlib.Core.List.{[], _∷_};
-ghost use Rattle.flow.specs.Answers.{countValues};
+ghost use Rattle.flow.specs.Answers.{countValues, chartTold};
 use crate::stored::Stored;
 use flow::ChartAnswer;
 use flow::Counts;
-use numbers::number;
+use numbers::chart_number;
 
 // What each lent cell holds before the call.
 pub const OLD: u64 = 7;
@@ -74,11 +74,16 @@ pub fn counts_are(counts: Counts, stored: Stored) -> bool
     counts.names == stored.names as usize
 }
 
-// Whether an answer is a stored refusal, or 0 with the stored counts.
-fn answer_is(answer: ChartAnswer, stored: Stored) -> bool {
+// Whether an answer tells the stored number, and where that is 0 the stored counts.
+fn answer_is(answer: ChartAnswer, stored: Stored) -> bool
+    ensures { λ r. ⌜ (r ≡ true → chartTold answer .number ≡ stored .number) ⌝ }
+{
+    if chart_number(answer) != stored.number {
+        return false;
+    }
     match answer {
-        ChartAnswer::Refused(refusal) => number(refusal) == stored.number,
-        ChartAnswer::Charted(counts) => (stored.number == 0) & counts_are(counts, stored),
+        ChartAnswer::Refused(_) => true,
+        ChartAnswer::Charted(counts) => counts_are(counts, stored),
     }
 }
 

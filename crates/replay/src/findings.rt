@@ -1,19 +1,27 @@
 // The stored findings of a case, with its chart, against what judge writes and answers.
+ghost use mathlib.Core.Path.{_≡_};
+ghost use mathlib.Core.Bool.{true};
+ghost use Rattle.flow.specs.Answers.{judgeTold};
 use crate::chart::OLD;
 use crate::chart::cells_hold;
 use crate::chart::counts_are;
 use crate::chart::finding_end;
 use crate::stored::Stored;
 use flow::JudgeAnswer;
-use numbers::number;
+use numbers::judge_number;
 
-// Whether an answer is a stored refusal, or 0 with the stored counts and the number of findings.
-fn answer_is(answer: JudgeAnswer, stored: Stored) -> bool {
+// Whether an answer tells the stored number, and where that is 0 the stored counts and the number of findings.
+fn answer_is(answer: JudgeAnswer, stored: Stored) -> bool
+    ensures { λ r. ⌜ (r ≡ true → judgeTold answer .number ≡ stored .number) ⌝ }
+{
+    if judge_number(answer) != stored.number {
+        return false;
+    }
     match answer {
-        JudgeAnswer::Refused(refusal) => number(refusal) == stored.number,
+        JudgeAnswer::Refused(_) => true,
         JudgeAnswer::Judged(counts, found) => {
             let counted = counts_are(counts, stored);
-            (stored.number == 0) & counted & (found == stored.findings as usize)
+            counted & (found == stored.findings as usize)
         }
     }
 }

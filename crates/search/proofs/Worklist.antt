@@ -12,7 +12,7 @@ use borrow.Author.Tests.{ltb-true}
 use lib.Dec.{ltb}
 use lib.ListN.{length, getD, set, take, drop, replicate, length-set, length-replicate, getD-replicate, take-append-drop, List·getD-append}
 use lib.Seq.{getD-set-same, getD-set-other, drop-set-lt, drop-at, ext-getD, getD-take, length-take-le}
-use Rattle.search.specs.Search.{In, Reach, here, on, closure, zeros, cons-if, keep}
+use Rattle.search.specs.Search.{In, Reach, here, on, closure, zeros, cons-if, filter}
 use Rattle.search.specs.Worklist.{State, st, pushed, push, pushAll, pushWhen, pushIf, pop, topmost, Room}
 use Rattle.search.proofs.Count.{zeros-set, zeros-le}
 use Rattle.search.proofs.Closure.{bit, Nodes, closure-length, closure-bits, closure-sound, closure-complete}
@@ -325,9 +325,9 @@ when-all true v vs s = refl
 when-all false v vs s = refl
 
 -- two nodes, each pushed if it passes the test
-pub two-pushes : (p : ℕ → Bool) (x y : ℕ) (s s₁ s₂ : State) → s₁ ≡ pushIf p x s → s₂ ≡ pushIf p y s₁ → s₂ ≡ pushAll (keep p (x ∷ y ∷ [])) s
+pub two-pushes : (p : ℕ → Bool) (x y : ℕ) (s s₁ s₂ : State) → s₁ ≡ pushIf p x s → s₂ ≡ pushIf p y s₁ → s₂ ≡ pushAll (filter p (x ∷ y ∷ [])) s
 two-pushes p x y s s₁ s₂ e f =
-    f ∙ when-all (p y) y [] s₁ ∙ ap (pushAll (keep p (y ∷ []))) e ∙ when-all (p x) x (keep p (y ∷ [])) s
+    f ∙ when-all (p y) y [] s₁ ∙ ap (pushAll (filter p (y ∷ []))) e ∙ when-all (p x) x (filter p (y ∷ [])) s
 
 cons-if-in : (b : Bool) (x : ℕ) (vs : List ℕ) (v : ℕ) → In v (cons-if b x vs) → ((v ≡ x) × (b ≡ true)) ⊎ In v vs
 cons-if-in true x vs v (inl e) = inl (e, refl)
@@ -335,13 +335,13 @@ cons-if-in true x vs v (inr i) = inr i
 cons-if-in false x vs v i = inr i
 
 -- what is kept passes the test
-pub keep-in : (p : ℕ → Bool) (vs : List ℕ) (v : ℕ) → In v (keep p vs) → In v vs × (p v ≡ true)
-keep-in p [] v i = absurd i
-keep-in p (x ∷ vs) v i =
-    ⊎-elim (λ q. (inl (q .0), rw (q .0) (q .1))) (λ j. let k = keep-in p vs v j in (inr (k .0), k .1)) (cons-if-in (p x) x (keep p vs) v i)
+pub filter-in : (p : ℕ → Bool) (vs : List ℕ) (v : ℕ) → In v (filter p vs) → In v vs × (p v ≡ true)
+filter-in p [] v i = absurd i
+filter-in p (x ∷ vs) v i =
+    ⊎-elim (λ q. (inl (q .0), rw (q .0) (q .1))) (λ j. let k = filter-in p vs v j in (inr (k .0), k .1)) (cons-if-in (p x) x (filter p vs) v i)
 
-pub keep-below : (n : ℕ) (vs : List ℕ) → Nodes n (keep (λ v. ltb v n) vs)
-keep-below n vs v i = ltb-true v n (keep-in (λ x. ltb x n) vs v i .1)
+pub filter-below : (n : ℕ) (vs : List ℕ) → Nodes n (filter (λ v. ltb v n) vs)
+filter-below n vs v i = ltb-true v n (filter-in (λ x. ltb x n) vs v i .1)
 
 -- ---- a column after `clear`
 
@@ -359,13 +359,13 @@ pub all-append : (us vs : List ℕ) (s : State) → pushAll (us ++ vs) s ≡ pus
 all-append [] vs s = refl
 all-append (u ∷ us) vs s = all-append us vs (push u s)
 
-keep-cons : (b : Bool) (q : ℕ → Bool) (v : ℕ) (vs : List ℕ) → keep q (cons-if b v vs) ≡ cons-if (b && q v) v (keep q vs)
-keep-cons true q v vs = refl
-keep-cons false q v vs = refl
+filter-cons : (b : Bool) (q : ℕ → Bool) (v : ℕ) (vs : List ℕ) → filter q (cons-if b v vs) ≡ cons-if (b && q v) v (filter q vs)
+filter-cons true q v vs = refl
+filter-cons false q v vs = refl
 
-pub keep-keep : (p q : ℕ → Bool) (vs : List ℕ) → keep q (keep p vs) ≡ keep (λ v. p v && q v) vs
-keep-keep p q [] = refl
-keep-keep p q (v ∷ vs) = keep-cons (p v) q v (keep p vs) ∙ ap (cons-if (p v && q v) v) (keep-keep p q vs)
+pub filter-filter : (p q : ℕ → Bool) (vs : List ℕ) → filter q (filter p vs) ≡ filter (λ v. p v && q v) vs
+filter-filter p q [] = refl
+filter-filter p q (v ∷ vs) = filter-cons (p v) q v (filter p vs) ∙ ap (cons-if (p v && q v) v) (filter-filter p q vs)
 
 -- ---- a push takes a node from those without a mark to the stack
 

@@ -22,9 +22,9 @@ abbrev pub cons-if : Bool → ℕ → List ℕ → List ℕ
 cons-if true v vs = v ∷ vs
 cons-if false v vs = vs
 
-abbrev pub keep : (ℕ → Bool) → List ℕ → List ℕ
-keep p [] = []
-keep p (v ∷ vs) = cons-if (p v) v (keep p vs)
+abbrev pub filter : (ℕ → Bool) → List ℕ → List ℕ
+filter p [] = []
+filter p (v ∷ vs) = cons-if (p v) v (filter p vs)
 
 -- flags with a 1 at each of vs
 abbrev pub marked : List ℕ → List ℕ → List ℕ

@@ -8,11 +8,11 @@ use native.Mathlib.Numerals.{add-one}
 use native.Mathlib.Omega.{arith}
 use lib.ListN.{length, getD, drop, drop-of-length-le}
 use lib.Seq.{drop-cons}
-use Rattle.flow.specs.Sheet.{Item, together}
+use Rattle.flow.specs.Sheet.{Item, zip}
 
 -- the items from the i-th on, and the i-th
 abbrev pub rest : List ℕ → List ℕ → ℕ → List Item
-rest ks ss i = together (drop i ks) (drop i ss)
+rest ks ss i = zip (drop i ks) (drop i ss)
 
 abbrev pub item : List ℕ → List ℕ → ℕ → Item
 item ks ss i = record { word = getD ks i 0; span = getD ss i 0 }
@@ -35,13 +35,13 @@ pub record Sweep : Type 1 where
 -- a sweep that began in state s₀ has come to the i-th item in state s, and all passed
 pub record Swept (w : Sweep) (ks ss : List ℕ) (s₀ : w .State) (i : ℕ) (s : w .State) : Type 0 where
   pub within : i ≤ length ks
-  pub left : w .all s (rest ks ss i) ≡ w .all s₀ (together ks ss)
+  pub left : w .all s (rest ks ss i) ≡ w .all s₀ (zip ks ss)
 
 pub begin : (w : Sweep) (ks ss : List ℕ) (s : w .State) → Swept w ks ss s 0 s
 begin w ks ss s = record { within = zero-le; left = refl }
 
 module _ {w : Sweep} {ks ss : List ℕ} {s₀ : w .State} {i : ℕ} {s : w .State} (so-far : Swept w ks ss s₀ i s) where
-  turn : length ks ≡ length ss → i < length ks → w .all s₀ (together ks ss) ≡ (w .fits s (item ks ss i) && w .all (w .after s (item ks ss i)) (rest ks ss (i + 1)))
+  turn : length ks ≡ length ss → i < length ks → w .all s₀ (zip ks ss) ≡ (w .fits s (item ks ss i) && w .all (w .after s (item ks ss i)) (rest ks ss (i + 1)))
   turn e h = sym (so-far .left) ∙ ap (w .all s) (rest-next ks ss i e h) ∙ w .law s (item ks ss i) (rest ks ss (i + 1))
 
   pub onward : length ks ≡ length ss → i < length ks → w .fits s (item ks ss i) ≡ true → Swept w ks ss s₀ (i + 1) (w .after s (item ks ss i))
@@ -51,10 +51,10 @@ module _ {w : Sweep} {ks ss : List ℕ} {s₀ : w .State} {i : ℕ} {s : w .Stat
         left = sym (turn e h ∙ ap (λ (b : Bool). b && w .all (w .after s (item ks ss i)) (rest ks ss (i + 1))) f);
       }
 
-  pub fails : length ks ≡ length ss → i < length ks → w .fits s (item ks ss i) ≡ false → w .all s₀ (together ks ss) ≡ false
+  pub fails : length ks ≡ length ss → i < length ks → w .fits s (item ks ss i) ≡ false → w .all s₀ (zip ks ss) ≡ false
   fails e h f = turn e h ∙ ap (λ (b : Bool). b && w .all (w .after s (item ks ss i)) (rest ks ss (i + 1))) f
 
-  pub ends : length ks ≤ i → w .all s₀ (together ks ss) ≡ w .all s []
+  pub ends : length ks ≤ i → w .all s₀ (zip ks ss) ≡ w .all s []
   ends h = sym (so-far .left) ∙ ap (w .all s) (rest-none ks ss i h)
 
 -- what holds of the items from the i-th on, said of the i-th and those behind it

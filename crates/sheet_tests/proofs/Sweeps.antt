@@ -8,7 +8,7 @@ use lib.Dec.{eqb, ltb}
 use lib.ListN.{length}
 use Rattle.flow.specs.Kinds.{kinds, itemFits, opens, closes}
 use Rattle.flow.specs.Refusals.{one, outnumbered, nameFits, namesFit, nameCount, useFits, usesFit}
-use Rattle.flow.specs.Sheet.{Item, all, kind, endOf, together}
+use Rattle.flow.specs.Sheet.{Item, all, kind, endOf, zip}
 use Rattle.sheet_tests.proofs.Bools.{not-or}
 use Rattle.sheet_tests.proofs.Sweep.{Sweep}
 open record kinds using (LOCAL, NAME)
@@ -56,11 +56,11 @@ unfoldable pub allUses : ℕ → List Item → Bool
 allUses n [] = true
 allUses n (i ∷ is) = useFits n (i .word) (i .span) && allUses n is
 
-pub uses-together : (n : ℕ) (ws ss : List ℕ) → length ws ≡ length ss → usesFit n ws ss ≡ allUses n (together ws ss)
+pub uses-zip : (n : ℕ) (ws ss : List ℕ) → length ws ≡ length ss → usesFit n ws ss ≡ allUses n (zip ws ss)
 unfolding usesFit allUses
-uses-together n [] ss e = refl
-uses-together n (w ∷ ws) [] e = absurd (omega arith)
-uses-together n (w ∷ ws) (s ∷ ss) e = ap (λ (b : Bool). useFits n w s && b) (uses-together n ws ss (omega arith))
+uses-zip n [] ss e = refl
+uses-zip n (w ∷ ws) [] e = absurd (omega arith)
+uses-zip n (w ∷ ws) (s ∷ ss) e = ap (λ (b : Bool). useFits n w s && b) (uses-zip n ws ss (omega arith))
 
 pub using-law : (n : ℕ) (i : Item) (is : List Item) → allUses n (i ∷ is) ≡ (useFits n (i .word) (i .span) && allUses n is)
 unfolding allUses

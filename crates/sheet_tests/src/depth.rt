@@ -2,7 +2,7 @@
 ghost use mathlib.Core.Path.{_≡_};
 ghost use Prim.Native.Nat.{_≤_};
 ghost use lib.ListN.{length};
-ghost use Rattle.flow.specs.Sheet.{together};
+ghost use Rattle.flow.specs.Sheet.{zip};
 ghost use Rattle.flow.specs.Kinds.{opens, closes};
 ghost use Rattle.flow.specs.Refusals.{outnumbered};
 use crate::kind::DO;
@@ -40,7 +40,7 @@ pub fn one(yes: bool) -> u64
 
 pub fn too_deep(kinds: &[u64], spans: &[u64]) -> bool
     requires { ⌜ (length (now kinds) ≡ length (now spans)) × (length (now kinds) ≤ 1024) ⌝ }
-    ensures { λ r. ⌜ r ≡ outnumbered 0 0 (together (now (kinds .entry)) (now (spans .entry))) ⌝ }
+    ensures { λ r. ⌜ r ≡ outnumbered 0 0 (zip (now (kinds .entry)) (now (spans .entry))) ⌝ }
 {
     let mut openers: u64 = 0;
     let mut closers: u64 = 0;

@@ -4,7 +4,7 @@ ghost use mathlib.Core.Bool.{_&&_, _||_, not};
 ghost use Prim.Native.Nat.{_^_, _%_, _/_, _≤_};
 ghost use lib.ListN.{length};
 ghost use lib.Dec.{ltb, leb, eqb};
-ghost use Rattle.flow.specs.Sheet.{all, together, startOf, endOf};
+ghost use Rattle.flow.specs.Sheet.{all, zip, startOf, endOf};
 ghost use Rattle.flow.specs.Kinds.{argumentFits, spanless, itemFits};
 use crate::kind::CALL;
 use crate::kind::DO;
@@ -89,7 +89,7 @@ fn item_fits(word: u64, span: u64) -> bool
 
 pub fn bad_item(outer: u64, kinds: &[u64], spans: &[u64]) -> bool
     requires { ⌜ (length (now kinds) ≡ length (now spans)) × (length (now kinds) ≤ 1024) ⌝ }
-    ensures { λ r. ⌜ r ≡ not (ltb outer (2 ^ 32) && all itemFits (together (now (kinds .entry)) (now (spans .entry)))) ⌝ }
+    ensures { λ r. ⌜ r ≡ not (ltb outer (2 ^ 32) && all itemFits (zip (now (kinds .entry)) (now (spans .entry)))) ⌝ }
 {
     if outer >= 4294967296 {
         return true;

@@ -3,7 +3,7 @@ ghost use mathlib.Core.Path.{_≡_};
 ghost use mathlib.Core.Bool.{not};
 ghost use Prim.Native.Nat.{_≤_};
 ghost use lib.ListN.{length};
-ghost use Rattle.flow.specs.Sheet.{together};
+ghost use Rattle.flow.specs.Sheet.{zip};
 ghost use Rattle.flow.specs.Refusals.{nameFits, namesFit};
 use crate::kind::LOCAL;
 use crate::kind::NAME;
@@ -27,7 +27,7 @@ fn name_fits(local: u64, line: u64, span: u64) -> bool
 
 pub fn bad_name(kinds: &[u64], spans: &[u64]) -> bool
     requires { ⌜ (length (now kinds) ≡ length (now spans)) × (length (now kinds) ≤ 1024) ⌝ }
-    ensures { λ r. ⌜ r ≡ not (namesFit 0 0 (together (now (kinds .entry)) (now (spans .entry)))) ⌝ }
+    ensures { λ r. ⌜ r ≡ not (namesFit 0 0 (zip (now (kinds .entry)) (now (spans .entry)))) ⌝ }
 {
     let mut local = 0;
     let mut line = 0;

@@ -4,14 +4,14 @@ ghost use mathlib.Core.Bool.{not};
 ghost use mathlib.Core.List.{[], _∷_};
 ghost use Prim.Native.Nat.{_≤_};
 ghost use lib.ListN.{length};
-ghost use Rattle.flow.specs.Sheet.{oneOf, together};
+ghost use Rattle.flow.specs.Sheet.{member, zip};
 ghost use Rattle.flow.specs.Refusals.{nameCount, useFits, usesFit};
 use crate::depth::one;
 use crate::kind::NAME;
 
 pub fn name_count(kinds: &[u64], spans: &[u64]) -> u64
     requires { ⌜ (length (now kinds) ≡ length (now spans)) × (length (now kinds) ≤ 1024) ⌝ }
-    ensures { λ r. ⌜ r ≡ nameCount (together (now (kinds .entry)) (now (spans .entry))) ⌝ }
+    ensures { λ r. ⌜ r ≡ nameCount (zip (now (kinds .entry)) (now (spans .entry))) ⌝ }
 {
     let mut names = 0;
     let mut i = 0;
@@ -24,7 +24,7 @@ pub fn name_count(kinds: &[u64], spans: &[u64]) -> u64
 
 // Kind 0 to 2, and the same in a closure.
 fn high_fits(high: u64) -> bool
-    ensures { λ r. ⌜ r ≡ oneOf high (0 ∷ 1 ∷ 2 ∷ 4 ∷ 5 ∷ 6 ∷ []) ⌝ }
+    ensures { λ r. ⌜ r ≡ member high (0 ∷ 1 ∷ 2 ∷ 4 ∷ 5 ∷ 6 ∷ []) ⌝ }
 {
     match high {
         0 => true,

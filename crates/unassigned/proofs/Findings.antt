@@ -7,7 +7,8 @@ use mathlib.Core.List.{List, [], _∷_, _++_, map, List·Memᴰ, List·Memᴰ·h
 use native.Mathlib.Omega.{arith}
 use borrow.Author.Tests.{eq-eqb, ne-eqb}
 use lib.ListN.{length, getD}
-use Rattle.flow.specs.Findings.{Use, onlyIf, node, isWrite, isEmptyRead, firstEmptyRead, ofUse}
+use Rattle.flow.specs.Locals.{onlyIf}
+use Rattle.flow.specs.Findings.{Use, node, isWrite, isEmptyRead, firstEmptyRead, ofUse}
 use Rattle.local_walk.specs.Walks.{codeOf}
 use Rattle.unassigned.specs.Findings.{findingsAt}
 

@@ -7,7 +7,8 @@ use mathlib.Core.List.{List, [], map, List·Memᴰ}
 use native.Mathlib.Omega.{arith}
 use lib.ListN.{length, getD, length-map}
 use Rattle.flow.specs.Graph.{graph}
-use Rattle.flow.specs.Findings.{Use, onlyIf, tracked, noValue, localAt, declaration, usesOf, allFound, liveAfterWrites, firstEmptyRead, firstUnassignedUse, ofUse, unassignedOf}
+use Rattle.flow.specs.Locals.{onlyIf, tracked, noValue, localAt, declaration}
+use Rattle.flow.specs.Findings.{Use, usesOf, allFound, liveAfterWrites, firstEmptyRead, firstUnassignedUse, ofUse, unassignedOf}
 use Rattle.live_steps.specs.Walk.{AllPlaced, OfLocal, declared}
 use Rattle.locals.specs.Columns.{Cut, partAt}
 use Rattle.locals.specs.Entries.{Listed, Added}

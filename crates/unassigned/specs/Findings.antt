@@ -5,7 +5,7 @@ use mathlib.Core.Bool.{not}
 use mathlib.Core.List.{List, [], _∷_}
 use lib.Dec.{eqb}
 use lib.ListN.{getD}
-use Rattle.flow.specs.Findings.{Finding, onlyIf}
+use Rattle.flow.specs.Locals.{Finding, onlyIf}
 
 -- the finding of a use's number + 1, for the local ℓ: in list 0; none of 0
 unfoldable pub findingsAt : ℕ → List ℕ → ℕ → List Finding

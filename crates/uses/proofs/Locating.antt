@@ -14,8 +14,8 @@ use Rattle.flow.specs.declared.Found.{Found}
 use Rattle.flow.specs.declared.Found.the-variants.{At, Nothing}
 use Rattle.flow.specs.Sheet.{startOf, endOf}
 use Rattle.flow.specs.Graph.{Graph}
-use Rattle.flow.specs.Reachable.{nodeAmong, nodeAt}
-use Rattle.flow.specs.Findings.{nodeOf, isFound}
+use Rattle.flow.specs.Reachable.{nodeAmong, nodeAt, nodeOf}
+use Rattle.flow.specs.Findings.{isFound}
 use Rattle.flow.proofs.Laws.{either}
 use Rattle.bucket_sort.proofs.Cells.{set-more}
 use Rattle.uses.specs.Uses.{CodeTable, UseTable, placeOf, LocalsAre, lostAfter, Located}

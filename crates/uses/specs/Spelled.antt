@@ -6,7 +6,8 @@ use mathlib.Core.List.{List, [], _∷_, _++_, map}
 use lib.Dec.{eqb}
 use lib.ListN.{getD}
 use Rattle.flow.specs.Sheet.{useKindOf}
-use Rattle.flow.specs.Findings.{Use, Local, onlyIf, node, isInClosure}
+use Rattle.flow.specs.Locals.{Local, onlyIf, isInClosure}
+use Rattle.flow.specs.Findings.{Use, node}
 
 -- those of us at the node v, in order
 abbrev pub usesAt : ℕ → List Use → List Use

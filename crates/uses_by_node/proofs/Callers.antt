@@ -9,7 +9,8 @@ use native.Mathlib.Numerals.{add-one}
 use lib.ListN.{length, getD, drop, length-drop}
 use lib.Seq.{drop-cons}
 use Rattle.flow.specs.Graph.{Graph}
-use Rattle.flow.specs.Findings.{Use, node, onlyIf, Ahead, isOverwritten, overwrittenBelow}
+use Rattle.flow.specs.Locals.{onlyIf}
+use Rattle.flow.specs.Findings.{Use, node, Ahead, isOverwritten, overwrittenBelow}
 use Rattle.uses_by_node.specs.Uses.{byNode, Table, nodeAt, Sorted, overwrittenIn}
 use Rattle.uses_by_node.proofs.Sorting.{blank, useAt, overwritten-by, size, number-is, node-is, member}
 

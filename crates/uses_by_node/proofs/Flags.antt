@@ -10,7 +10,7 @@ use borrow.Author.Tests.{lt-ltb, le-ltb}
 use lib.Dec.{eqb, ltb}
 use lib.ListN.{length, getD, take}
 use lib.Seq.{getD-take, length-take-le}
-use Rattle.search.specs.Search.{keep}
+use Rattle.search.specs.Search.{filter}
 use Rattle.search.specs.Stamps.{flagOf, flagsOf}
 use Rattle.search.proofs.Stamps.{flag-at}
 use Rattle.flow.specs.Graph.{Graph, nodeCount}
@@ -26,7 +26,7 @@ module _ (stamp n : ℕ) (marks : List ℕ) where
   abbrev pub markedAt : ℕ → Bool
   markedAt v = ltb v n && eqb (getD marks v 0) stamp
 
-  one-more : (v : ℕ) (vs : List ℕ) → anyFlag (flagsOf stamp n marks) (keep (λ x. ltb x n) (v ∷ vs)) ≡ (markedAt v || anyFlag (flagsOf stamp n marks) (keep (λ x. ltb x n) vs))
+  one-more : (v : ℕ) (vs : List ℕ) → anyFlag (flagsOf stamp n marks) (filter (λ x. ltb x n) (v ∷ vs)) ≡ (markedAt v || anyFlag (flagsOf stamp n marks) (filter (λ x. ltb x n) vs))
   unfolding anyFlag
   one-more v vs = elim (decLt v n) [
     | yes h ↦ rw (lt-ltb v n h, flag-at stamp n marks v h, flag-test)

@@ -12,7 +12,8 @@ use lib.Dec.{eqb}
 use lib.ListN.{length, getD, length-map, List·getD-map}
 use Rattle.flow.specs.declared.Found.the-variants.{Nothing}
 use Rattle.flow.specs.Graph.{Graph}
-use Rattle.flow.specs.Findings.{Use, node, isRead, isWrite, onlyIf, Meeting, noUse, aRead, aPureWrite, meeting, firstAt, orElse, Ahead, isOverwritten, isOverwrittenUnread, overwrittenAt, overwrittenBelow}
+use Rattle.flow.specs.Locals.{onlyIf}
+use Rattle.flow.specs.Findings.{Use, node, isRead, isWrite, Meeting, noUse, aRead, aPureWrite, meeting, firstAt, orElse, Ahead, isOverwritten, isOverwrittenUnread, overwrittenAt, overwrittenBelow}
 use Rattle.flow.proofs.Laws.{mem-append, mem-at}
 use Rattle.flow.proofs.Order.{Rising, nil, cons, rising-append, rising-at}
 use Rattle.uses_by_node.specs.Uses.{usesAt, byNode, Table, nodeAt, kindAt, Sorted, overwrittenIn}

@@ -9,7 +9,8 @@ use lib.Dec.{eqb, ltb}
 use Rattle.search.specs.Lent.{Column, held}
 use Rattle.flow.specs.Sheet.{useKindOf}
 use Rattle.flow.specs.Graph.{Graph}
-use Rattle.flow.specs.Findings.{Use, node, onlyIf, Ahead, isOverwritten}
+use Rattle.flow.specs.Locals.{onlyIf}
+use Rattle.flow.specs.Findings.{Use, node, Ahead, isOverwritten}
 
 -- the uses at the node v, in order
 abbrev pub usesAt : ℕ → List Use → List Use

@@ -1,4 +1,4 @@
--- What the calls for C promise: the word of an answer, what C code cuts out of that word, and what the call promises of that answer.
+-- What the calls for C promise: the word of what a call tells, what C code cuts out of that word, and what the call promises beside it.
 -- Assumes nothing: these are definitions.
 use Prim.Native.Nat.{ℕ}
 use mathlib.Core.Path.{_≡_}
@@ -6,35 +6,33 @@ use mathlib.Core.List.{List}
 use Rattle.flow.specs.declared.ChartAnswer.{ChartAnswer}
 use Rattle.flow.specs.declared.RunAnswer.{RunAnswer}
 use Rattle.flow.specs.declared.JudgeAnswer.{JudgeAnswer}
-use Rattle.flow.specs.declared.LabelAnswer.{LabelAnswer}
-use Rattle.flow.specs.Answers.{chartTold, runTold, judgeTold, labelTold}
+use Rattle.flow.specs.Reachable.{run, chart}
+use Rattle.flow.specs.Findings.{judge}
 use Rattle.flow.specs.Labels.{labelCheck}
-use Rattle.chart.specs.Lent.{Lent}
+use Rattle.chart.specs.Lent.{Lent, chartShort}
 use Rattle.calls.specs.Promises.{ChartPromise}
 use Rattle.run.specs.Promises.{RunPromise}
-use Rattle.judge.specs.Lent.{JudgePromise, JudgeLent}
+use Rattle.judge.specs.Lent.{JudgePromise, JudgeLent, short}
 use Rattle.answer_words.specs.Words.{countsWord, runWord, labelWord, CountFields, RunFields, LabelFields}
 
 pub record ChartForC (S : List ℕ) (r : ℕ) (l : Lent) : Type 0 where
+  pub word : r ≡ countsWord (chart (chartShort (l .before)) S)
+  pub fields : CountFields r (chart (chartShort (l .before)) S)
   pub answer : ChartAnswer
-  pub word : r ≡ countsWord (chartTold answer)
-  pub fields : CountFields r (chartTold answer)
   pub promise : ChartPromise S answer l
 
 pub record JudgeForC (S U : List ℕ) (r : ℕ) (l : JudgeLent) : Type 0 where
+  pub word : r ≡ countsWord (judge (short l) S U)
+  pub fields : CountFields r (judge (short l) S U)
   pub answer : JudgeAnswer
-  pub word : r ≡ countsWord (judgeTold answer)
-  pub fields : CountFields r (judgeTold answer)
   pub promise : JudgePromise S U answer l
 
 pub record RunForC (S : List ℕ) (o r : ℕ) : Type 0 where
+  pub word : r ≡ runWord (run S o)
+  pub fields : RunFields r (run S o)
   pub answer : RunAnswer
-  pub word : r ≡ runWord (runTold answer)
-  pub fields : RunFields r (runTold answer)
   pub promise : RunPromise S o answer
 
 pub record LabelForC (S : List ℕ) (r : ℕ) : Type 0 where
-  pub answer : LabelAnswer
-  pub word : r ≡ labelWord (labelTold answer)
-  pub fields : LabelFields r (labelTold answer)
-  pub promise : labelTold answer ≡ labelCheck S
+  pub word : r ≡ labelWord (labelCheck S)
+  pub fields : LabelFields r (labelCheck S)

@@ -10,7 +10,7 @@ use borrow.Author.Tests.{not-false}
 use denote.Ref.{now}
 use Rattle.flow.specs.declared.Refusal.the-variants.{TooDeep, BadNesting, OffTheLine, BadName}
 use Rattle.flow.specs.Refusals.{outnumbered, pairsUp, sideBySide, inLine, held, namesFit, badItem, tooDeep, badNesting, offTheLine, badName, Test, firstApplying, itemTests}
-use Rattle.flow.specs.Sheet.{Item, all, together, items, outerEnd}
+use Rattle.flow.specs.Sheet.{Item, all, zip, items, outerEnd}
 use Rattle.flow.specs.Kinds.{itemFits}
 use Rattle.sheet_tests.proofs.Bools.{and-parts}
 use Rattle.admission.proofs.Parts.{long-enough, on-items}
@@ -47,7 +47,7 @@ module _ (c : tie.After-spans) where
   lengths : (length kinds ≡ length spans) × (length kinds ≤ 1024)
   lengths = long-enough 2 sheet (c .before .before .before .before .pre) (c .before .kinds .ensures) (c .spans .ensures)
 
-  says : {B : Type 0} (f : List Item → B) {r : B} → r ≡ f (together kinds spans) → f (items sheet) ≡ r
+  says : {B : Type 0} (f : List Item → B) {r : B} → r ≡ f (zip kinds spans) → f (items sheet) ≡ r
   says f e = on-items f sheet (c .before .kinds .ensures) (c .spans .ensures) e
 
 -- ---- each test, and the verdict of those behind it where it passes

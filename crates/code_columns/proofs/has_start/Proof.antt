@@ -7,14 +7,14 @@ use Prim.Native.Nat.{ℕ, _≤_, _<_}
 use native.Mathlib.Omega.{arith}
 use lib.Dec.{eqb}
 use borrow.Author.Tests.{eq-eqb, ne-eqb, eqb-false}
-use Rattle.flow.specs.Sheet.{oneOf}
+use Rattle.flow.specs.Sheet.{member}
 use Rattle.code_columns.proofs.has_start.Statement.{statement}
 use Rattle.code_columns.proofs.has_start.Tie as tie
 
-some : (k : ℕ) → (k ≡ 8 → ⊥) → (k ≡ 9 → ⊥) → (k ≡ 12 → ⊥) → true ≡ not (oneOf k (8 ∷ 9 ∷ 12 ∷ []))
+some : (k : ℕ) → (k ≡ 8 → ⊥) → (k ≡ 9 → ⊥) → (k ≡ 12 → ⊥) → true ≡ not (member k (8 ∷ 9 ∷ 12 ∷ []))
 some k p q r = rw (ne-eqb k 8 p, ne-eqb k 9 q, ne-eqb k 12 r)
 
-closing : (k : ℕ) → 8 ≤ k → k < 10 → false ≡ not (oneOf k (8 ∷ 9 ∷ 12 ∷ []))
+closing : (k : ℕ) → 8 ≤ k → k < 10 → false ≡ not (member k (8 ∷ 9 ∷ 12 ∷ []))
 closing k p q = go (eqb k 8) refl
   where
     go : (t : Bool) → eqb k 8 ≡ t → false ≡ not (t || (eqb k 9 || (eqb k 12 || false)))

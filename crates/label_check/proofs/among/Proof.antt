@@ -4,13 +4,13 @@ use Prim.Native.Nat.{_≤_}
 use mathlib.Core.Path.{_≡_, refl, sym, _∙_}
 use native.Mathlib.Omega.{arith}
 use lib.ListN.{take, drop}
-use Rattle.flow.specs.Sheet.{oneOf}
+use Rattle.flow.specs.Sheet.{member}
 use Rattle.label_check.proofs.Names.{look-found, look-past, look-none}
 use Rattle.label_check.proofs.among.Statement.{statement}
 use Rattle.label_check.proofs.among.Tie as tie
 
 abbrev Inv-loop : tie.InvT-loop
-Inv-loop labels from to name k₀ k = (from ≤ k) × (k ≤ to) × (oneOf name (drop from (take to labels)) ≡ oneOf name (drop from (take k labels)))
+Inv-loop labels from to name k₀ k = (from ≤ k) × (k ≤ to) × (member name (drop from (take to labels)) ≡ member name (drop from (take k labels)))
 
 abbrev μ-loop : tie.MeasureT-loop
 μ-loop labels from to name k₀ k = k

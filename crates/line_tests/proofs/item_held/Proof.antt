@@ -6,7 +6,7 @@ use native.Mathlib.Omega.{arith}
 use borrow.Author.Tests.{le-leb, lt-leb, eq-eqb, ne-eqb, not-true, not-false}
 use denote.Ref.{now}
 use Rattle.flow.specs.Refusals.{one}
-use Rattle.flow.specs.Sheet.{oneOf}
+use Rattle.flow.specs.Sheet.{member}
 use Rattle.sheet_tests.proofs.Bools.{and-true}
 use Rattle.line_tests.proofs.Lows.{within-low, scopes-pop, no-until}
 use Rattle.nesting_tests.proofs.Stacks.{pop, top}
@@ -23,7 +23,7 @@ returns-2 : tie.Need-returns-2
 returns-2 c = rw (sym (c .before .before .pre .1 .1) ∙ not-false _ (c .before .if1 .left), lt-leb _ _ (c .if2 .taken))
 
 sub-result : tie.Need-sub-result
-sub-result c = omega (arith, c .before .before .before .pre .0 .arm, ap (λ (k : ℕ). one (oneOf k (6 ∷ 7 ∷ []))) (c .if3 .taken))
+sub-result c = omega (arith, c .before .before .before .pre .0 .arm, ap (λ (k : ℕ). one (member k (6 ∷ 7 ∷ []))) (c .if3 .taken))
 
 mul-result : tie.Need-mul-result
 mul-result c = omega arith
@@ -34,7 +34,7 @@ element-copy-out-result c = omega arith
 returns-3 : tie.Need-returns-3
 returns-3 c =
     let a = c .before .before .before .before .args in
-    let h : 0 < a .count - 1 = omega (arith, c .before .before .before .before .pre .0 .arm, ap (λ (k : ℕ). one (oneOf k (6 ∷ 7 ∷ []))) (c .before .if3 .taken)) in
+    let h : 0 < a .count - 1 = omega (arith, c .before .before .before .before .pre .0 .arm, ap (λ (k : ℕ). one (member k (6 ∷ 7 ∷ []))) (c .before .if3 .taken)) in
     let z : a .count - 2 ≡ a .count - 1 - 1 = omega arith in
     rw (sym (c .before .before .before .before .pre .1 .1) ∙ not-false _ (c .before .before .before .if1 .left), le-leb _ _ (c .before .before .if2 .left), c .before .if3 .taken, pop (a .count) (now (a .ends)), z)
     (sym (and-true _ ∙ within-low (a .count - 1) (now (a .ends)) (now (a .lows)) h (scopes-pop (a .count) (now (a .ends)) (now (a .lows)) (c .before .before .before .before .pre .1 .0)) (a .span / 4294967296)))

@@ -6,7 +6,7 @@ use native.Mathlib.Omega.{arith}
 use borrow.Author.Tests.{ne-eqb}
 use denote.Ref.{now}
 use Rattle.flow.specs.Refusals.{one, scopesAfter}
-use Rattle.flow.specs.Sheet.{oneOf}
+use Rattle.flow.specs.Sheet.{member}
 use Rattle.line_tests.proofs.Lows.{scopes-pop, scopes-replace}
 use Rattle.nesting_tests.proofs.Stacks.{pop}
 use Rattle.line_tests.proofs.scopes_after.Statement.{statement}
@@ -45,7 +45,7 @@ sub-put-scope c = omega arith
 put-scope-requires-2 : tie.Need-put-scope-requires-2
 put-scope-requires-2 c κs =
     let a = c .before .before .before .before .before .before .before .args in
-    let h = ap (λ (k : ℕ). one (oneOf k (6 ∷ 7 ∷ []))) (c .before .before .if3 .taken) in
+    let h = ap (λ (k : ℕ). one (member k (6 ∷ 7 ∷ []))) (c .before .before .if3 .taken) in
     ((omega (arith, c .before .before .before .before .before .before .before .pre .0 .arm, h), omega (arith, c .before .before .before .before .before .before .before .pre .0 .most)), scopes-pop (a .count) (now (a .ends)) (now (a .lows)) (c .before .before .before .before .before .before .before .pre .1))
 
 returns-3 : tie.Need-returns-3
@@ -62,7 +62,7 @@ sub-put-scope-2 c = omega arith
 put-scope-requires-3 : tie.Need-put-scope-requires-3
 put-scope-requires-3 c κs =
     let a = c .before .before .before .before .before .before .before .before .args in
-    let h = ap (λ (k : ℕ). one (oneOf k (6 ∷ 7 ∷ []))) (c .before .before .if4 .taken) in
+    let h = ap (λ (k : ℕ). one (member k (6 ∷ 7 ∷ []))) (c .before .before .if4 .taken) in
     ((omega (arith, c .before .before .before .before .before .before .before .before .pre .0 .arm, h), omega (arith, c .before .before .before .before .before .before .before .before .pre .0 .most)), scopes-pop (a .count) (now (a .ends)) (now (a .lows)) (c .before .before .before .before .before .before .before .before .pre .1))
 
 returns-4 : tie.Need-returns-4

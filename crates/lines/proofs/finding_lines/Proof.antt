@@ -5,7 +5,7 @@ use mathlib.Core.Path.{_≡_}
 use mathlib.Core.List.{List}
 use native.Mathlib.Omega.{arith}
 use lib.ListN.{length, getD}
-use Rattle.flow.specs.Findings.{Finding}
+use Rattle.flow.specs.Locals.{Finding}
 use Rattle.flow.specs.Listing.{findingLine}
 use Rattle.line_writer.proofs.Pieces.{Passed, none, long, room, turn, all}
 use Rattle.lines.specs.Report.{firstFindings}

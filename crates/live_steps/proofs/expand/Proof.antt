@@ -5,7 +5,7 @@ use borrow.Author.Needs.{needs}
 use denote.Ref.{now}
 use Rattle.search.specs.Worklist.{State, pushIf}
 use Rattle.search.proofs.Worklist.{if-moved}
-use Rattle.flow.specs.Findings.{Declaration}
+use Rattle.flow.specs.Locals.{Declaration}
 use Rattle.live_steps.specs.Stamps.{view, Ready}
 use Rattle.live_steps.specs.Walk.{declared, enters}
 use Rattle.live_steps.proofs.Steps.{still-ready, enters-node, expanded}

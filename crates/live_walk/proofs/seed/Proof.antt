@@ -11,7 +11,8 @@ use lib.ListN.{length, getD}
 use Rattle.search.specs.Worklist.{State, pushAll}
 use Rattle.search.proofs.Worklist.{all-moved}
 use Rattle.flow.specs.Graph.{Graph}
-use Rattle.flow.specs.Findings.{Use, Declaration, node, isWrite, onlyIf, liveSuccessors}
+use Rattle.flow.specs.Locals.{Declaration, onlyIf}
+use Rattle.flow.specs.Findings.{Use, node, isWrite, liveSuccessors}
 use Rattle.live_steps.specs.Stamps.{view, Ready, Leaves}
 use Rattle.live_steps.specs.Walk.{chart, declared, useAt}
 use Rattle.live_steps.proofs.Steps.{still-ready}

@@ -6,7 +6,8 @@ use native.Mathlib.Omega.{arith}
 use lib.ListN.{length, length-replicate}
 use denote.Ref.{now}
 use borrow.Author.Tests.{not-true}
-use Rattle.flow.specs.Findings.{locals, findings}
+use Rattle.flow.specs.Locals.{locals}
+use Rattle.flow.specs.Findings.{findings}
 use Rattle.locals.specs.Entries.{Added}
 use Rattle.unassigned.specs.Pass.{Marked}
 use Rattle.local_flow.specs.Sheets.{Sheets, Given}

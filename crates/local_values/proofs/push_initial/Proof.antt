@@ -4,7 +4,8 @@ use mathlib.Core.Path.{_≡_, sym, _∙_}
 use mathlib.Core.Bool.{true, false}
 use native.Mathlib.Omega.{arith}
 use Prim.Native.Nat.{ℕ, _+_, _*_}
-use Rattle.flow.specs.Findings.{findingWord, isOverwrittenUnread}
+use Rattle.flow.specs.Locals.{findingWord}
+use Rattle.flow.specs.Findings.{isOverwrittenUnread}
 use Rattle.locals.proofs.Entries.{added-none}
 use borrow.Author.Needs.{needs}
 use Rattle.local_values.proofs.push_initial.Statement.{statement}

@@ -8,7 +8,7 @@ use native.Mathlib.Omega.{arith}
 use lib.ListN.{length, getD}
 use borrow.Author.Tests.{eq-eqb, ne-eqb, not-true, not-false}
 use denote.Ref.{now}
-use Rattle.flow.specs.Refusals.{outnumbered, besideEachOther, pairsUp, sideBySide}
+use Rattle.flow.specs.Refusals.{outnumbered, mayFollow, pairsUp, sideBySide}
 use Rattle.nesting_tests.specs.Stack.{stackOf}
 use Rattle.nesting_tests.proofs.Nesting.{most, deep-next, closer-in, depth-next}
 use Rattle.nesting_tests.proofs.Stacks.{length-stackOf}
@@ -90,7 +90,7 @@ returns-4 : tie.Need-returns-4 Inv-loop μ-loop
 unfolding pairsUp sideBySide
 returns-4 c =
     ap not
-    (sym (ends (c .before .before .before .before .loop .inv .3) (c .before .before .before .loop-test .left) ∙ ap (λ (b : Bool). b && besideEachOther (c .before .before .before .before .loop .last) 0) (ne-eqb _ _ (λ e. c .if3 .left (c .before .innermost-of .ensures ∙ e)))))
+    (sym (ends (c .before .before .before .before .loop .inv .3) (c .before .before .before .loop-test .left) ∙ ap (λ (b : Bool). b && mayFollow (c .before .before .before .before .loop .last) 0) (ne-eqb _ _ (λ e. c .if3 .left (c .before .innermost-of .ensures ∙ e)))))
 
 pub bad-nesting-spec : {M : Type 1} → statement M
 bad-nesting-spec =

@@ -7,7 +7,8 @@ use Prim.Native.Nat.{ℕ}
 use native.Mathlib.Omega.{arith}
 use denote.Ref.{now}
 use Rattle.flow.specs.Graph.{Graph}
-use Rattle.flow.specs.Findings.{Declaration, Use, meets, ahead}
+use Rattle.flow.specs.Locals.{Declaration}
+use Rattle.flow.specs.Findings.{Use, meets, ahead}
 use Rattle.predecessors.specs.Predecessors.{Linked}
 use Rattle.uses_by_node.specs.Uses.{Table, table, Sorted}
 use Rattle.predecessors.specs.Scope.{scope}

@@ -3,7 +3,8 @@
 use mathlib.Core.Path.{sym, _∙_}
 use native.Mathlib.Omega.{arith}
 use Rattle.flow.specs.Graph.{graph}
-use Rattle.flow.specs.Findings.{localAt, usesOf}
+use Rattle.flow.specs.Locals.{localAt}
+use Rattle.flow.specs.Findings.{usesOf}
 use Rattle.locals.proofs.Entries.{added-none}
 use Rattle.overwritten.proofs.Judged.{part-few, part-room, not-judged, judged, cut, fits, stands}
 use Rattle.overwritten.proofs.Locals.{later}

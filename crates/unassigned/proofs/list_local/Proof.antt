@@ -5,7 +5,8 @@ use native.Mathlib.Nat.{lt-of-lt-of-le}
 use native.Mathlib.Omega.{arith}
 use lib.ListN.{length}
 use Rattle.flow.specs.Graph.{graph}
-use Rattle.flow.specs.Findings.{localAt, usesOf, allFound}
+use Rattle.flow.specs.Locals.{localAt}
+use Rattle.flow.specs.Findings.{usesOf, allFound}
 use Rattle.unassigned.proofs.Locals.{local-cut, local-placed, local-numbers, local-uses, local-adds}
 use borrow.Author.Needs.{needs}
 use Rattle.unassigned.proofs.list_local.Statement.{statement}

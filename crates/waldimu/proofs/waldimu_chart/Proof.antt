@@ -1,7 +1,7 @@
 -- `waldimu::waldimu_chart` meets its contract: the word is that of the call's answer, the cuts are those of the word, and the columns are as the call leaves them. Assumes nothing.
 use borrow.Author.Needs.{needs}
-use mathlib.Core.Path.{sym, subst}
-use Rattle.answer_words.specs.Words.{CountsFit}
+use mathlib.Core.Path.{sym, ap, _∙_, subst}
+use Rattle.answer_words.specs.Words.{CountsFit, CountFields, countsWord}
 use Rattle.waldimu.proofs.Fits.{chart-fits}
 use Rattle.waldimu.proofs.waldimu_chart.Statement.{statement}
 use Rattle.waldimu.proofs.waldimu_chart.Tie as tie
@@ -47,7 +47,9 @@ same-length-9 : tie.Need-same-length-9
 same-length-9 c = search needs
 
 returns : tie.Need-returns
-returns c = record { answer = _; word = c .chart-word .ensures .0; fields = c .chart-word .ensures .1; promise = called (c .before) .chart .ensures }
+returns c =
+    let p = called (c .before) .chart .ensures in
+    record { word = c .chart-word .ensures .0 ∙ ap countsWord (p .told); fields = subst (CountFields (c .chart-word .result)) (p .told) (c .chart-word .ensures .1); answer = _; promise = p }
 
 pub waldimu-chart-spec : {M : Type 1} → statement M
 waldimu-chart-spec =

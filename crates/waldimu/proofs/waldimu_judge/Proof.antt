@@ -1,7 +1,7 @@
 -- `waldimu::waldimu_judge` meets its contract: the word is that of the call's answer, the cuts are those of the word, and the columns are as the call leaves them. Assumes nothing.
 use borrow.Author.Needs.{needs}
-use mathlib.Core.Path.{sym, subst}
-use Rattle.answer_words.specs.Words.{CountsFit}
+use mathlib.Core.Path.{sym, ap, _∙_, subst}
+use Rattle.answer_words.specs.Words.{CountsFit, CountFields, countsWord}
 use Rattle.waldimu.proofs.Fits.{judge-fits}
 use Rattle.waldimu.proofs.waldimu_judge.Statement.{statement}
 use Rattle.waldimu.proofs.waldimu_judge.Tie as tie
@@ -56,7 +56,9 @@ same-length-12 : tie.Need-same-length-12
 same-length-12 c = search needs
 
 returns : tie.Need-returns
-returns c = record { answer = _; word = c .judge-word .ensures .0; fields = c .judge-word .ensures .1; promise = called (c .before) .judge .ensures }
+returns c =
+    let p = called (c .before) .judge .ensures in
+    record { word = c .judge-word .ensures .0 ∙ ap countsWord (p .told); fields = subst (CountFields (c .judge-word .result)) (p .told) (c .judge-word .ensures .1); answer = _; promise = p }
 
 pub waldimu-judge-spec : {M : Type 1} → statement M
 waldimu-judge-spec =

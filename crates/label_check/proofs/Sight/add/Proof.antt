@@ -4,7 +4,7 @@ use mathlib.Core.Logic.{⊎-elim}
 use native.Mathlib.Omega.{arith}
 use borrow.Author.Needs.{needs}
 use denote.Ref.{now}
-use Rattle.flow.specs.Sheet.{oneOf}
+use Rattle.flow.specs.Sheet.{member}
 use Rattle.label_check.specs.Walk.{inBlock}
 use Rattle.label_check.proofs.Names.{repeated, not-repeated}
 use Rattle.label_check.proofs.Scan.{label-entered}
@@ -26,7 +26,7 @@ add-self c = search needs
 returns : tie.Need-returns
 returns c =
     let a = c .before .before .before .args in
-    let u = oneOf (a .name) (inBlock (a .self) (now (a .labels))) in
+    let u = member (a .name) (inBlock (a .self) (now (a .labels))) in
     label-entered (a .self) (now (a .labels)) (a .name) _ (c .before .before .before .pre .0) (omega arith)
     (⊎-elim (λ w. repeated (a .self .fine) u (c .before .among .ensures) (w .0 .taken) (w .1)) (λ w. not-repeated (a .self .fine) u (c .before .among .ensures) (w .0 .left) (w .1)) (c .if1 .came))
 

@@ -7,7 +7,7 @@ use lib.ListN.{length}
 use borrow.Author.Tests.{lt-ltb, le-ltb, not-false}
 use denote.Ref.{now}
 use Rattle.flow.specs.Refusals.{one, outnumbered}
-use Rattle.flow.specs.Sheet.{together}
+use Rattle.flow.specs.Sheet.{zip}
 use Rattle.sheet_tests.proofs.Bools.{not-not, one-most}
 use Rattle.sheet_tests.proofs.Sweep.{Swept, begin, onward, fails, ends}
 use Rattle.sheet_tests.proofs.Sweeps.{shallow}
@@ -73,7 +73,7 @@ returns-2 : tie.Need-returns-2 Inv-loop μ-loop
 unfolding outnumbered
 returns-2 c =
     let a = c .before .before .before .before .args in
-    sym (sym (not-not (outnumbered 0 0 (together (now (a .kinds)) (now (a .spans))))) ∙ ap not (ends (c .before .loop .inv .2) (c .loop-test .left)) ∙ not-not _)
+    sym (sym (not-not (outnumbered 0 0 (zip (now (a .kinds)) (now (a .spans))))) ∙ ap not (ends (c .before .loop .inv .2) (c .loop-test .left)) ∙ not-not _)
 
 pub too-deep-spec : {M : Type 1} → statement M
 too-deep-spec =

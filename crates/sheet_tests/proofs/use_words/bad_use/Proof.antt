@@ -6,7 +6,7 @@ use lib.ListN.{length}
 use borrow.Author.Tests.{not-true, not-false}
 use denote.Ref.{now}
 use Rattle.sheet_tests.proofs.Sweep.{Swept, begin, onward, fails, ends}
-use Rattle.sheet_tests.proofs.Sweeps.{allUses, use-sweep, uses-together}
+use Rattle.sheet_tests.proofs.Sweeps.{allUses, use-sweep, uses-zip}
 use Rattle.sheet_tests.proofs.use_words.bad_use.Statement.{statement}
 use Rattle.sheet_tests.proofs.use_words.bad_use.Tie as tie
 
@@ -37,7 +37,7 @@ use-fits-requires c κs = tt
 returns : tie.Need-returns Inv-loop μ-loop
 returns c =
     let a = c .before .before .before .before .before .before .before .before .args in
-    rw (uses-together (a .names) (now (a .words)) (now (a .spans)) (c .before .before .before .before .before .before .before .before .pre .0), fails (c .before .before .before .before .before .loop .inv) (c .before .before .before .before .before .before .before .before .pre .0) (c .before .before .before .before .loop-test .taken) (sym (c .before .use-fits .ensures) ∙ not-true _ (c .if1 .taken)))
+    rw (uses-zip (a .names) (now (a .words)) (now (a .spans)) (c .before .before .before .before .before .before .before .before .pre .0), fails (c .before .before .before .before .before .loop .inv) (c .before .before .before .before .before .before .before .before .pre .0) (c .before .before .before .before .loop-test .taken) (sym (c .before .use-fits .ensures) ∙ not-true _ (c .if1 .taken)))
 
 add-i : tie.Need-add-i Inv-loop μ-loop
 add-i c = omega arith
@@ -52,7 +52,7 @@ returns-2 : tie.Need-returns-2 Inv-loop μ-loop
 unfolding allUses
 returns-2 c =
     let a = c .before .before .before .before .args in
-    rw (uses-together (a .names) (now (a .words)) (now (a .spans)) (c .before .before .before .before .pre .0), ends (c .before .loop .inv) (c .loop-test .left))
+    rw (uses-zip (a .names) (now (a .words)) (now (a .spans)) (c .before .before .before .before .pre .0), ends (c .before .loop .inv) (c .loop-test .left))
 
 pub bad-use-spec : {M : Type 1} → statement M
 bad-use-spec =

@@ -6,7 +6,7 @@ use lib.Dec.{eqb}
 use lib.ListN.{length, getD}
 use denote.Ref.{now}
 use Rattle.flow.specs.Refusals.{one, nameCount}
-use Rattle.flow.specs.Sheet.{together}
+use Rattle.flow.specs.Sheet.{zip}
 use Rattle.sheet_tests.proofs.Bools.{one-most}
 use Rattle.sheet_tests.proofs.Sweep.{rest, rest-next, rest-none, item}
 use Rattle.sheet_tests.proofs.Sweeps.{count-next}
@@ -14,7 +14,7 @@ use Rattle.sheet_tests.proofs.use_words.name_count.Statement.{statement
 use Rattle.sheet_tests.proofs.use_words.name_count.Tie as tie
 
 abbrev Inv-loop : tie.InvT-loop
-Inv-loop kinds spans names₀ i₀ names i = (i ≤ length kinds) × (names ≤ i) × (names + nameCount (rest kinds spans i) ≡ nameCount (together kinds spans))
+Inv-loop kinds spans names₀ i₀ names i = (i ≤ length kinds) × (names ≤ i) × (names + nameCount (rest kinds spans i) ≡ nameCount (zip kinds spans))
 
 abbrev μ-loop : tie.MeasureT-loop
 μ-loop kinds spans names₀ i₀ names i = length kinds - i

@@ -1,4 +1,4 @@
--- `listing::of_sheets` meets its contract: judge's answer, printed by the columns that it wrote.
+-- `pair_listing::of_sheets` meets its contract: judge's answer, printed by the columns that it wrote.
 -- Assumes nothing.
 use borrow.Author.Needs.{needs}
 use mathlib.Core.Path.{_≡_}
@@ -6,12 +6,12 @@ use mathlib.Core.List.{List}
 use Prim.Native.Nat.{ℕ, _≤_}
 use native.Mathlib.Omega.{arith}
 use lib.ListN.{length}
-use Rattle.flow.specs.Answers.{judgeTold}
-use Rattle.file_words.specs.Input.{sheetsPrint}
-use Rattle.lines.specs.Report.{found, answerLines}
-use Rattle.listing.proofs.Answer.{held, prints}
-use Rattle.listing.proofs.of_sheets.Statement.{statement}
-use Rattle.listing.proofs.of_sheets.Tie as tie
+use Rattle.flow.specs.Answers.{judgeTold, findingsTold}
+use Rattle.flow.specs.Listing.{sheetsPrint}
+use Rattle.lines.specs.Report.{answerLines}
+use Rattle.pair_listing.proofs.Answer.{held, prints}
+use Rattle.pair_listing.proofs.of_sheets.Statement.{statement}
+use Rattle.pair_listing.proofs.of_sheets.Tie as tie
 
 -- ---- where judge has answered
 
@@ -43,7 +43,7 @@ words-long c = let k = c .judge .kept .1 .1 .1 .1 .1 in k .1 .1 .1 .1 .1 .1 .0
 spans-long : (c : tie.After-judge) → length (spans c) ≡ 3072
 spans-long c = let k = c .judge .kept .1 .1 .1 .1 .1 in k .1 .1 .1 .1 .1 .1 .1 .0
 
-few : (c : tie.After-judge) → found (judgeTold (c .judge .result)) ≤ 3072
+few : (c : tie.After-judge) → findingsTold (judgeTold (c .judge .result)) ≤ 3072
 few c = held (sheet c) (uses c) (c .judge .ensures) (words-long c)
 
 as-the-sheets : (c : tie.After-judge) → answerLines (judgeTold (c .judge .result)) (flags c) (words c) (spans c) ≡ sheetsPrint (sheet c) (uses c)

@@ -10,16 +10,16 @@ use Rattle.flow.specs.declared.JudgeAnswer.{JudgeAnswer}
 use Rattle.flow.specs.declared.Verdict.{Verdict}
 use Rattle.flow.specs.declared.Verdict.the-variants.{Admitted}
 use Rattle.flow.specs.Refusals.{pairVerdict}
-use Rattle.flow.specs.Answers.{judgeTold}
+use Rattle.flow.specs.Answers.{judgeTold, findingsTold}
 use Rattle.flow.specs.Graph.{graph}
 use Rattle.flow.specs.Reachable.{reachable}
 use Rattle.flow.specs.Findings.{findings, wordsOf, spansOf, judge}
 use Rattle.column_lengths.specs.Lengths.{chartTooShort, judgeTooShort}
-use Rattle.chart.specs.Lent.{over, Columns, columns, chartOf, chartLeaves}
+use Rattle.chart.specs.Lent.{overlay, Columns, columns, chartOf, chartLeaves}
 use Rattle.findings.specs.Accepted.{FindingColumns}
 use Rattle.judge.specs.Lent.{judgeShort, leaves, JudgePromise}
-use Rattle.file_words.specs.Input.{sheetsPrint}
-use Rattle.lines.specs.Report.{found, answerLines}
+use Rattle.flow.specs.Listing.{sheetsPrint}
+use Rattle.lines.specs.Report.{answerLines}
 use Rattle.lines.proofs.Answer.{Shown, shown, few-found, answer-prints}
 
 -- ---- the listing's own columns
@@ -40,15 +40,15 @@ own = refl
 
 -- ---- what is written where the sheets are admitted
 
-admits : {v : Verdict} (xs old : List ℕ) {col : List ℕ} → v ≡ Admitted → col ≡ leaves v xs old → col ≡ over xs old
+admits : {v : Verdict} (xs old : List ℕ) {col : List ℕ} → v ≡ Admitted → col ≡ leaves v xs old → col ≡ overlay xs old
 admits xs old e p = rw e at p
 
-chart-admits : {v : Verdict} (S : List ℕ) (x : Columns) {y : Columns} → v ≡ Admitted → y ≡ chartLeaves v S x → y .nodes .reachable ≡ over (reachable (graph S)) (x .nodes .reachable)
+chart-admits : {v : Verdict} (S : List ℕ) (x : Columns) {y : Columns} → v ≡ Admitted → y ≡ chartLeaves v S x → y .nodes .reachable ≡ overlay (reachable (graph S)) (x .nodes .reachable)
 unfolding chartOf
 chart-admits S x e p = ap (λ (y : Columns). y .nodes .reachable) (rw e at p)
 
 -- a column is as long as what is written there
-fits : (xs old : List ℕ) {col : List ℕ} → col ≡ over xs old → length xs ≤ length col
+fits : (xs old : List ℕ) {col : List ℕ} → col ≡ overlay xs old → length xs ≤ length col
 fits xs old p = omega (arith, simp length-append at (ap length p))
 
 -- ---- judge over them
@@ -57,16 +57,16 @@ module _ (S U : List ℕ) {answer : JudgeAnswer} {y : Columns} {g : FindingColum
   tells : judgeTold answer ≡ judge false S U
   tells = rw own at (p .told)
 
-  words-are : pairVerdict false S U ≡ Admitted → g .word ≡ over (wordsOf (findings S U)) (zeros 3072)
+  words-are : pairVerdict false S U ≡ Admitted → g .word ≡ overlay (wordsOf (findings S U)) (zeros 3072)
   words-are a = admits (wordsOf (findings S U)) (zeros 3072) a (rw own at (p .findingWords))
 
-  spans-are : pairVerdict false S U ≡ Admitted → g .span ≡ over (spansOf (findings S U)) (zeros 3072)
+  spans-are : pairVerdict false S U ≡ Admitted → g .span ≡ overlay (spansOf (findings S U)) (zeros 3072)
   spans-are a = admits (spansOf (findings S U)) (zeros 3072) a (rw own at (p .findingSpans))
 
-  flags-are : pairVerdict false S U ≡ Admitted → y .nodes .reachable ≡ over (reachable (graph S)) (zeros 1600)
+  flags-are : pairVerdict false S U ≡ Admitted → y .nodes .reachable ≡ overlay (reachable (graph S)) (zeros 1600)
   flags-are a = chart-admits S ownColumns a (rw own at (p .columns))
 
-  pub held : length (g .word) ≡ 3072 → found (judgeTold answer) ≤ 3072
+  pub held : length (g .word) ≡ 3072 → findingsTold (judgeTold answer) ≤ 3072
   held l = few-found false S U tells (λ a. omega (arith, fits (wordsOf (findings S U)) (zeros 3072) (words-are a), length-map (findings S U) (λ f. f .word)))
 
   shows : pairVerdict false S U ≡ Admitted → Shown (graph S) (findings S U) (y .nodes .reachable) (g .word) (g .span)
