@@ -4,8 +4,9 @@
     draw.py             writes layers.svg and, for each NAME.columns, NAME.svg
     draw.py --check     says whether the stored pictures are the ones it would write
 
-layers.svg comes from crates.txt. NAME.svg is the flow graph of examples/NAME:
-the code text is cut from its script.lua, all else comes from NAME.columns.
+layers.svg comes from crates.txt, whose comment lines name the rooms that the
+crates below them stand in. NAME.svg is the flow graph of examples/NAME: the
+code text is cut from its script.lua, all else comes from NAME.columns.
 
 NAME.columns is chart's columns as text, a column a line: its name, a colon,
 and its numbers, with anything between them. Only cells that chart writes
@@ -61,6 +62,17 @@ def text_width(text, size):
 def cut(text, room):
     text = " ".join(text.split())
     return text if len(text) <= room else text[:room - 2].rstrip() + " .."
+
+
+def folded(text, width, size):
+    """A text in lines that have room in so many pixels, as far as its words let it."""
+    lines = []
+    for word in text.split():
+        if lines and text_width(f"{lines[-1]} {word}", size) <= width:
+            lines[-1] += f" {word}"
+        else:
+            lines.append(word)
+    return lines
 
 
 # Layout: rows from top to bottom, in each row boxes and, where a line passes, places of width 0.
@@ -314,6 +326,11 @@ text{font-family:sans-serif;font-size:%dpx;fill:#1b1f24}
 .offline{fill:none;stroke:#8c959f;stroke-width:1.3;stroke-dasharray:4 3}
 """ % (FONT, SMALL)
 
+ROOM_STYLE = """
+.room{fill:#f6f8fa;stroke:#afb8c1}
+.name{font-weight:bold}
+"""
+
 
 def write_text(x, y, words, style="", anchor="middle"):
     style = f' class="{style}"' if style else ""
@@ -359,34 +376,39 @@ def draw_lines(lines):
         yield f'<path class="{line.style}" marker-end="url(#{line.style})" d="{path}"/>'
 
 
-def picture(title, rows, lines, width, height, notes):
+def draw_rows(rows, lines):
     for row in rows:
         tall = max(box.height for box in row)
         for box in row:
             box.top, box.bottom = box.y - tall // 2, box.y + tall // 2
+    yield from draw_lines(lines)
+    for row in rows:
+        for box in row:
+            if box.draw:
+                yield from box.draw(box)
+
+
+def picture(title, rows, lines, width, height, notes, style=STYLE):
     width = max([width] + [text_width(note, SMALL) + 2 * MARGIN for note in notes])
     foot = height + MARGIN
     height = foot + 16 * len(notes) + MARGIN // 2
     parts = [f'<svg xmlns="http://www.w3.org/2000/svg" width="{width}" height="{height}" '
              f'viewBox="0 0 {width} {height}" role="img">',
-             f"<title>{html.escape(title, quote=False)}</title>", f"<style>{STYLE}</style>", "<defs>"]
-    for style, colour in (("line", "#424a53"), ("second", "#bc4c00"), ("offline", "#8c959f")):
-        parts.append(f'<marker id="{style}" viewBox="0 0 8 8" refX="8" refY="4" markerWidth="8" markerHeight="8" '
+             f"<title>{html.escape(title, quote=False)}</title>", f"<style>{style}</style>", "<defs>"]
+    for line, colour in (("line", "#424a53"), ("second", "#bc4c00"), ("offline", "#8c959f")):
+        parts.append(f'<marker id="{line}" viewBox="0 0 8 8" refX="8" refY="4" markerWidth="8" markerHeight="8" '
                      f'markerUnits="userSpaceOnUse" orient="auto"><path d="M0,0 L8,4 L0,8 z" fill="{colour}"/></marker>')
     parts += ["</defs>", f'<rect width="{width}" height="{height}" fill="#fff"/>']
-    parts += draw_lines(lines)
-    for row in rows:
-        for box in row:
-            if box.draw:
-                parts += box.draw(box)
+    parts += draw_rows(rows, lines)
     for at, note in enumerate(notes):
         parts.append(write_text(MARGIN, foot + 16 * at + 4, note, "small", "start"))
     return "\n".join(parts + ["</svg>"]) + "\n"
 
 
-# The layers of crates
+# The layers of crates, room by room
 
 def read_crates(text):
+    """Each crate with those that it uses."""
     crates = {}
     for line in text.splitlines():
         name, colon, uses = line.partition("#")[0].partition(":")
@@ -395,50 +417,102 @@ def read_crates(text):
     return crates
 
 
-def below_all(crates, name):
-    """Every crate that name sees, straight or through others."""
+def read_rooms(text):
+    """Each room with its crates and what it is for: the last comment line above a crate names its room."""
+    rooms, heading = {}, ""
+    for line in text.splitlines():
+        if line.startswith("#"):
+            heading = line[1:]
+        elif ":" in line:
+            room, _, purpose = heading.partition(":")
+            crates = rooms.setdefault(room.strip(), (purpose.strip(), []))[1]
+            crates.append(line.partition(":")[0].strip())
+    return rooms
+
+
+def rooms_below(crates, rooms):
+    """Each room with the other rooms that its crates use."""
+    room_of = {name: room for room, (_, names) in rooms.items() for name in names}
+    below = {}
+    for room, (_, names) in rooms.items():
+        used = [room_of[used] for name in names for used in crates[name] if used in room_of]
+        below[room] = [other for other in dict.fromkeys(used) if other != room]
+    return below
+
+
+def below_all(uses, name):
+    """Everything that name uses, straight or through others."""
     seen = set()
-    for used in crates.get(name, []):
-        seen |= {used} | below_all(crates, used)
+    for used in uses[name]:
+        seen |= {used} | below_all(uses, used)
     return seen
+
+
+def lay_out(boxes, uses):
+    """Boxes in layers, each above all that it uses, those of a layer equally high.
+
+    What a box also reaches through others has no line.
+    """
+    lines, height = [], {}
+    for name, below in uses.items():
+        height[name] = 1 + max([height[used] for used in below], default=-1)
+        for used in below:
+            if not any(used in below_all(uses, other) for other in below):
+                lines.append(Line(boxes[name], boxes[used]))
+    for name in uses:
+        boxes[name].row = max(height.values()) - height[name]
+    rows = rows_of(list(boxes.values()), lines)
+    for row in rows:
+        tall = max(box.height for box in row)
+        for box in row:
+            box.height = box.height and tall
+    order_rows(rows, lines)
+    return (rows, lines) + place(rows, lines)
 
 
 def crate_box(name, kit):
     width = max(text_width(name, FONT) + 24, text_width(kit, SMALL) + 24, 96)
-    height = 44 if kit else 28
 
     def draw(box):
-        yield rectangle(box.x - width // 2, box.y - height // 2, width, height, "box")
+        yield rectangle(box.x - width // 2, box.y - box.height // 2, width, box.height, "box")
         yield write_text(box.x, box.y - 3 if kit else box.y + 5, name)
         if kit:
             yield write_text(box.x, box.y + 14, kit, "small")
 
-    return Box(width, height, draw)
+    return Box(width, 44 if kit else 28, draw)
+
+
+def room_box(room, purpose, names, crates):
+    """A room's name, what it is for, and below that its crates in their layers."""
+    boxes, uses = {}, {}
+    for name in names:
+        kit = [used for used in crates[name] if used not in crates]
+        boxes[name] = crate_box(name, "kit: " + " ".join(kit) if kit else "")
+        uses[name] = [used for used in crates[name] if used in names]
+    rows, lines, width, tall = lay_out(boxes, uses)
+    head = [room] + folded(purpose, width - 2 * MARGIN, SMALL)
+
+    def draw(box):
+        left, top = box.x - width // 2, box.y - box.height // 2
+        yield rectangle(left, top, width, box.height, "room", 8)
+        for at, words in enumerate(head):
+            yield write_text(left + MARGIN, top + 20 + 15 * at, words, "small" if at else "name", "start")
+        for spot in [spot for row in rows for spot in row]:
+            spot.x += left
+            spot.y += top + 15 * len(head)
+        yield from draw_rows(rows, lines)
+
+    return Box(width, 15 * len(head) + tall + MARGIN, draw)
 
 
 def layers():
-    crates = read_crates((ROOT / "crates.txt").read_text())
-    boxes = {}
-    for name, uses in crates.items():
-        kit = [used for used in uses if used not in crates]
-        boxes[name] = crate_box(name, "kit: " + " ".join(kit) if kit else "")
-    lines = []
-    for name, uses in crates.items():
-        for used in uses:
-            through = any(used in below_all(crates, other) for other in uses)
-            if used in crates and not through:
-                lines.append(Line(boxes[name], boxes[used]))
-    height = {}
-    for name, uses in crates.items():
-        height[name] = 1 + max([height[used] for used in uses if used in crates], default=-1)
-    for name in crates:
-        boxes[name].row = max(height.values()) - height[name]
-    rows = rows_of(list(boxes.values()), lines)
-    order_rows(rows, lines)
-    width, tall = place(rows, lines)
-    return picture("The crates in layers", rows, lines, width, tall, [
-        "An arrow leads from a crate to one that it uses.",
-        "What a crate also reaches through others has no arrow."])
+    text = (ROOT / "crates.txt").read_text()
+    crates, rooms = read_crates(text), read_rooms(text)
+    boxes = {room: room_box(room, purpose, names, crates) for room, (purpose, names) in rooms.items()}
+    rows, lines, width, tall = lay_out(boxes, rooms_below(crates, rooms))
+    return picture("The crates in rooms and layers", rows, lines, width, tall, [
+        "An arrow leads from a crate to one that it uses, in its room, and from a room to one whose crates it uses.",
+        "What is also reached through others has no arrow."], STYLE + ROOM_STYLE)
 
 
 # The flow graph of a script

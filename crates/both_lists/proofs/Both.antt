@@ -1,29 +1,42 @@
--- From what both passes list to the findings of the specification, and what the walks may do to their memory.
+-- From what both passes list to the findings of the specification, and what each pass asks of a pair's tables.
 -- Assumes nothing.
 use Prim.Native.Nat.{ℕ, _≤_}
-use mathlib.Core.Path.{_≡_}
-use mathlib.Core.List.{List}
+use mathlib.Core.Path.{_≡_, sym, ap, _∙_}
+use mathlib.Core.List.{List, _++_, map-append}
 use native.Mathlib.Omega.{arith}
 use lib.ListN.{length}
-use Rattle.flow.specs.Locals.{locals}
-use Rattle.flow.specs.Findings.{unassignedOf, overwrittenOf, ofEach, findings}
+use Rattle.flow.specs.Locals.{Finding, locals}
+use Rattle.flow.specs.Findings.{usesOf, unassignedOf, overwrittenOf, ofEach, findings, wordsOf}
+use Rattle.locals.specs.Columns.{Pass, usesByNode}
 use Rattle.locals.specs.Entries.{Added}
-use Rattle.locals.proofs.Entries.{added-append}
+use Rattle.locals.proofs.Entries.{added-more}
 use Rattle.overwritten.specs.Pass.{Lent}
-use Rattle.both_lists.specs.Passes.{Walks}
+use Rattle.both_lists.specs.Passes.{Pair}
 
 -- a stack may change, if it stays as long
-pub lent-on : {n : ℕ} {head a b used reads writes stack stack′ : List ℕ} → Lent n head a b used reads writes stack → length stack′ ≡ length stack → Lent n head a b used reads writes stack′
+pub lent-on : {n : ℕ} {chain used reads writes stack stack′ : List ℕ} → Lent n chain used reads writes stack → length stack′ ≡ length stack → Lent n chain used reads writes stack′
 lent-on l e =
     let u = l .unmarked in
     record { blank = l .blank; unmarked = record { used-holds = u .used-holds; reads-hold = u .reads-hold; writes-hold = u .writes-hold; stack-holds = omega (arith, u .stack-holds, e); used-new = u .used-new; reads-new = u .reads-new; writes-new = u .writes-new } }
 
-pub walks-on : {n : ℕ} {visited stack stack′ head a b used reads writes : List ℕ} → Walks n visited stack head a b used reads writes → length stack′ ≡ length stack → Walks n visited stack′ head a b used reads writes
-walks-on w e = record { ready = record { fresh = w .ready .fresh; long = omega (arith, w .ready .long, e) }; lent = lent-on (w .lent) e }
+module _ {S U : List ℕ} {n names : ℕ} {first second start nameNode nameEnd facts starts byLocal byNode : List ℕ} (p : Pair S U n names first second start nameNode nameEnd facts starts byLocal byNode) where
+  pub in-use-order : Pass (usesOf S U) S U n names first second start nameNode nameEnd facts starts byLocal
+  in-use-order = record { charted = p .charted; named = p .named; known = p .tables .known; parts = p .tables .in-use-order }
 
--- ---- what both list
+  pub in-node-order : Pass (usesByNode S U n) S U n names first second start nameNode nameEnd facts starts byNode
+  in-node-order = record { charted = p .charted; named = p .named; known = p .tables .known; parts = p .tables .in-node-order }
 
-pub both-listed : (S U : List ℕ) {names count r : ℕ} {words spans words′ spans′ words″ spans″ : List ℕ} → length (locals S) ≡ names → count ≤ length words → count ≤ length spans
-    → Added (ofEach (unassignedOf S U) names) 0 words spans count words′ spans′ → Added (ofEach (overwrittenOf S U) names) count words′ spans′ r words″ spans″ → Added (findings S U) 0 words spans r words″ spans″
-unfolding findings
-both-listed S U e h l a b = rw e (added-append h l a b)
+-- what both list, one after the other
+module _ (S U : List ℕ) {names : ℕ} (e : length (locals S) ≡ names) where
+  abbrev unassigned : List Finding
+  unassigned = ofEach (unassignedOf S U) names
+
+  abbrev overwritten : List Finding
+  overwritten = ofEach (overwrittenOf S U) names
+
+  both-words : wordsOf unassigned ++ wordsOf overwritten ≡ wordsOf (findings S U)
+  unfolding findings
+  both-words = sym (map-append (λ f. f .word) unassigned overwritten) ∙ ap (λ (k : ℕ). wordsOf (ofEach (unassignedOf S U) k ++ ofEach (overwrittenOf S U) k)) (sym e)
+
+  pub both-listed : {count r : ℕ} {old mid new : List ℕ} → count ≤ length old → Added (wordsOf unassigned) 0 old count mid → Added (wordsOf overwritten) count mid r new → Added (wordsOf (findings S U)) 0 old r new
+  both-listed h a b = rw (← both-words) (added-more a (omega (arith, a .counted)) b)

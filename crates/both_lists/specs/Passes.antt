@@ -3,29 +3,32 @@
 use Prim.Native.Nat.{ℕ}
 use mathlib.Core.List.{List}
 use denote.Ref.{RefT, now}
-use Rattle.search.specs.Lent.{Column, held}
-use Rattle.flow.specs.Findings.{findings}
+use Rattle.search.specs.Lent.{Column, held, left}
+use Rattle.flow.specs.Findings.{findings, wordsOf}
+use Rattle.live_walk.specs.Walk.{Ready}
+use Rattle.locals.specs.Columns.{Charted, Named, Tables}
 use Rattle.locals.specs.Entries.{Adds}
-use Rattle.unassigned.specs.Pass.{Ready, Pass as UnassignedPass}
-use Rattle.overwritten.specs.Pass.{Lent, Pass as OverwrittenPass}
+use Rattle.unassigned.specs.Pass.{Figures}
+use Rattle.overwritten.specs.Pass.{Lent}
 
--- what both passes ask of their columns
-pub record Passes (S U : List ℕ) (n names : ℕ) (first second start nameNode nameEnd nameSpan facts words spans nodes lost starts byLocal byNode : List ℕ) : Type 0 where
-  pub unassigned : UnassignedPass S U n names first second start nameNode nameEnd facts words spans nodes lost starts byLocal
-  pub overwritten : OverwrittenPass S U n names first second start nameNode nameEnd nameSpan facts lost starts byNode words nodes spans
+-- the graph, the names, and the tables of a pair
+pub record Pair (S U : List ℕ) (n names : ℕ) (first second start nameNode nameEnd facts starts byLocal byNode : List ℕ) : Type 0 where
+  pub charted : Charted S n first second start
+  pub named : Named S n names nameNode nameEnd
+  pub tables : Tables S U n names facts starts byLocal byNode
 
--- lent columns are those of some sheets
-pub record AnyPasses (n names : ℕ) (first second start nameNode nameEnd nameSpan facts words spans nodes lost starts byLocal byNode : RefT (List ℕ)) : Type 0 where
-  pub sheet : List ℕ
-  pub uses : List ℕ
-  pub passes : Passes sheet uses n names (now first) (now second) (now start) (now nameNode) (now nameEnd) (now nameSpan) (now facts) (now words) (now spans) (now nodes) (now lost) (now starts) (now byLocal) (now byNode)
+-- lent columns are those of some pair
+abbrev pub AnyPair : (n names : ℕ) (first second start nameNode nameEnd facts starts byLocal byNode : RefT (List ℕ)) → Type 0
+AnyPair n names first second start nameNode nameEnd facts starts byLocal byNode =
+    (S : List ℕ) × (U : List ℕ) × Pair S U n names (now first) (now second) (now start) (now nameNode) (now nameEnd) (now facts) (now starts) (now byLocal) (now byNode)
 
--- a call lists the findings of the sheets that its columns are those of, r of them
-abbrev pub Finds : (n names : ℕ) (first second start nameNode nameEnd nameSpan facts words spans nodes lost starts byLocal byNode findingWord findingSpan : Column) (r : ℕ) → Type 0
-Finds n names first second start nameNode nameEnd nameSpan facts words spans nodes lost starts byLocal byNode findingWord findingSpan r =
-    (S U : List ℕ) → Passes S U n names (held first) (held second) (held start) (held nameNode) (held nameEnd) (held nameSpan) (held facts) (held words) (held spans) (held nodes) (held lost) (held starts) (held byLocal) (held byNode) → Adds (findings S U) 0 findingWord findingSpan r
+-- a call lists the findings of the pair that its columns are of, r of them, and a mark figure for each local
+abbrev pub Finds : (n names : ℕ) (first second start nameNode nameEnd facts starts byLocal byNode findingWord mark : Column) (r : ℕ) → Type 0
+Finds n names first second start nameNode nameEnd facts starts byLocal byNode findingWord mark r =
+    (S U : List ℕ) → Pair S U n names (held first) (held second) (held start) (held nameNode) (held nameEnd) (held facts) (held starts) (held byLocal) (held byNode)
+    → Adds (wordsOf (findings S U)) 0 findingWord r × Figures S U names (held mark) (left mark)
 
 -- memory for the walks in a graph of n nodes: there is room in it, and its marks are 0
-pub record Walks (n : ℕ) (visited stack head a b used reads writes : List ℕ) : Type 0 where
-  pub ready : Ready n 0 visited stack
-  pub lent : Lent n head a b used reads writes stack
+pub record Walks (n : ℕ) (visited stack chain used reads writes : List ℕ) : Type 0 where
+  pub ready : Ready 1 n visited stack
+  pub lent : Lent n chain used reads writes stack

@@ -1,4 +1,4 @@
--- 01, "Bench pieces": the starred ones for the calls, by the counts that chart answers, the columns that it leaves over any others, and what run answers. One evaluation checks them.
+-- 01, "Bench pieces": the starred ones for the calls, by the counts that chart answers, the columns that it leaves over any others, and what run answers. One evaluation checks them (`pieces-called`).
 -- Assumes nothing.
 use mathlib.Core.Path.{_≡_, refl}
 use mathlib.Core.Bool.{Bool, true, false, _&&_}

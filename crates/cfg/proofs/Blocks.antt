@@ -1,19 +1,18 @@
 -- Blocks: from what the steps do to what a block's builder gives.
 -- Assumes nothing.
 use mathlib.Core.Path.{_≡_, refl, sym, ap, _∙_}
-use mathlib.Core.List.{List, [], _∷_, _++_}
-use mathlib.Core.Bool.{Bool, true, false, cond, not}
+use mathlib.Core.List.{List, [], _++_}
+use mathlib.Core.Bool.{true}
 use native.Mathlib.Decide.{ℕ-discrete, decLt}
-use lib.Dec.{eqb}
-use borrow.Author.Tests.{ne-eqb}
 use Prim.Native.Nat.{ℕ, _+_, _≤_, _<_}
 use native.Mathlib.Omega.{arith}
 use lib.ListN.{length, getD, length-append}
-use Rattle.flow.specs.Sheet.{kindOf, argumentOf}
+use Rattle.flow.specs.Sheet.{kindOf}
 use Rattle.flow.specs.Kinds.{kinds, closes}
-use Rattle.flow.specs.Tree.{Stmt, Block, Arms, Open, simple, do-block, while-loop, repeat-loop, for-loop, if-stmt, done, then, no-more, inFront, opened, read, outer, labelName, labelsOf}
+use Rattle.flow.specs.Tree.{Stmt, Block, Arms, Open, done, then, no-more, inFront, opened, read, outer, labelName, labelsOf}
 use Rattle.flow.specs.Size.{stmtNodes, blockNodes}
 use Rattle.flow.specs.Graph.{Graph, Settings, nodeCount, buildStmt, buildBlock}
+use Rattle.flow.proofs.Builds.{labels-inside}
 use Rattle.flow.proofs.NodeCount.{stmt-count}
 use Rattle.blocks.specs.Open.{itemAt, openAt, Ender}
 use Rattle.blocks.proofs.Parse.{read-at, read-end, read-close, read-elseif, read-else}
@@ -53,23 +52,6 @@ moved-did h d = record {
 }
 
 -- ---- a block on its way
-
-labels-within : (st : Stmt) → length (labelName st) ≤ stmtNodes st
-labels-within (simple w s) = elim (ℕ-discrete (kindOf w) LABEL) [ yes e ↦ rw e (named (eqb (argumentOf w) 0)) | no q ↦ rw (ne-eqb (kindOf w) LABEL q) (omega arith) ]
-  where
-    named : (t : Bool) → length (cond (not t) (argumentOf w ∷ []) []) ≤ cond t 0 1
-    named true = omega arith
-    named false = omega arith
-labels-within (do-block w b) = omega arith
-labels-within (while-loop w s b) = omega arith
-labels-within (repeat-loop w b u) = omega arith
-labels-within (for-loop w s b) = omega arith
-labels-within (if-stmt w s b as') = omega arith
-
-pub labels-inside : (b : Block) → length (labelsOf b) ≤ blockNodes b
-unfolding labelsOf
-labels-inside done = omega arith
-labels-inside (then st b) = omega (arith, length-append (labelName st) (labelsOf b), labels-within st, labels-inside b)
 
 pub record Going (ks ss : List ℕ) (b : GraphBuilder) (x : Cols) (t : GraphBuilder) (y : Cols) : Type 0 where
   pub moved : Moved ks b x t y

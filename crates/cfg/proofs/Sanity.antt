@@ -8,11 +8,11 @@ use native.Mathlib.Omega.{arith}
 use lib.ListN.{length, getD}
 use lib.Dec.{leb, ltb}
 use borrow.Author.Tests.{leb-true, ltb-true}
+use Rattle.search.proofs.Bools.{and-both}
 use Rattle.flow.specs.Sheet.{Item, kind, kindOf, argumentOf, scopeEndOf, zip, kindWords, spanWords, items}
 use Rattle.flow.specs.Tree.{tree}
 use Rattle.flow.specs.Kinds.{itemFits, argumentFits}
 use Rattle.flow.specs.Admitted.{AdmittedSheet, anItem}
-use Rattle.flow.proofs.Members.{and-both}
 use Rattle.blocks.specs.Open.{openAt}
 use Rattle.cfg.specs.Steps.{Sane, WholeRoom}
 

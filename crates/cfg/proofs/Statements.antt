@@ -122,6 +122,7 @@ moved-cursor {ks} {b} {r} {x} {y} v ok m = record { good = ok; grown = regrown (
       labelsLength = g .labelsLength;
     }
 
+-- a builder whose cursor is set stands for a graph whose current node is (`graph-cursor`)
 pub graph-cursor : (ks ss : List ℕ) (v : ℕ) (b : GraphBuilder) (x : Cols) → graphOf ks ss (withCursor v b) x ≡ setCurrent v (graphOf ks ss b x)
 unfolding graphOf setCurrent
 graph-cursor ks ss v b x = refl

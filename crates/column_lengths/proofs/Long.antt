@@ -1,20 +1,17 @@
 -- Columns that are not too short have the cells that are asked for.
 -- Assumes nothing.
-use mathlib.Core.Bool.{Bool, true, false, _||_, true≢false}
+use mathlib.Core.Bool.{Bool, false}
 use mathlib.Core.List.{List, [], _∷_}
-use mathlib.Core.Path.{_≡_, refl}
+use mathlib.Core.Path.{_≡_}
 use Prim.Native.Nat.{ℕ, _≤_}
 use borrow.Author.Tests.{ltb-false}
 use lib.Dec.{ltb}
+use Rattle.search.proofs.Bools.{neither}
 use Rattle.column_lengths.specs.Lengths.{anyBelow}
 
 abbrev pub AllLong : ℕ → List ℕ → Type 0
 AllLong n [] = Unit {0}
 AllLong n (l ∷ ls) = (n ≤ l) × AllLong n ls
-
-neither : (a b : Bool) → (a || b) ≡ false → (a ≡ false) × (b ≡ false)
-neither true b e = absurd (true≢false e)
-neither false b e = (refl, e)
 
 pub all-long : (n : ℕ) (ls : List ℕ) (others : Bool) → anyBelow n ls others ≡ false → AllLong n ls × (others ≡ false)
 all-long n [] others e = (tt, e)

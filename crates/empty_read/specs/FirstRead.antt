@@ -1,11 +1,9 @@
--- The search for a local's first unassigned use: the mark of a write, and the use that an answer gives.
+-- The search for a local's first unassigned use: the mark of a write, and the use that is found, as a number.
 -- Assumes nothing: these are definitions.
-use Prim.Native.Nat.{ℕ, _<_}
+use Prim.Native.Nat.{ℕ, _+_}
 use mathlib.Core.Bool.{Bool, true, false}
-use mathlib.Core.List.{List, []}
-use lib.ListN.{set, take, drop}
-use Rattle.flow.specs.declared.Found.{Found}
-use Rattle.flow.specs.declared.Found.the-variants.{At, Nothing}
+use mathlib.Core.List.{List, [], _∷_}
+use lib.ListN.{set}
 use Rattle.flow.specs.Findings.{Use}
 
 -- v marked with the stamp, if a test says so
@@ -13,12 +11,7 @@ abbrev pub markIf : Bool → ℕ → ℕ → List ℕ → List ℕ
 markIf true v stamp marks = set marks v stamp
 markIf false v stamp marks = marks
 
--- the use that stands at the place that was found, as a list
-abbrev pub chosen : Found → List Use → List Use
-chosen (At i) us = take 1 (drop i us)
-chosen Nothing us = []
-
--- the place, if one was found, is one of the first m
-abbrev pub InFirst : ℕ → Found → Type 0
-InFirst m (At i) = i < m
-InFirst m Nothing = Unit
+-- the first use of a list, as its number + 1; 0 for none
+abbrev pub codeOf : List Use → ℕ
+codeOf [] = 0
+codeOf (u ∷ us) = u .number + 1

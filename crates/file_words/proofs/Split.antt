@@ -16,12 +16,13 @@ use borrow.Author.Tests.{ltb-true, ltb-false, lt-ltb, not-false}
 use lib.Dec.{eqb, ltb}
 use lib.ListN.{length, take, drop, length-drop, drop-of-length-le}
 use lib.Seq.{take-all, getD-take, length-take-le}
+use Rattle.search.proofs.Bools.{neither, not-false-true}
 use Rattle.flow.specs.declared.Refusal.the-variants.{Miscount}
 use Rattle.flow.specs.Sheet.{count}
 use Rattle.flow.specs.Refusals.{number, miscount, firstApplying, pairTests, pairVerdict}
 use Rattle.flow.specs.Findings.{judge}
 use Rattle.flow.specs.Listing.{refused, fileWords, printedWords, printed, sheetsPrint}
-use Rattle.flow.proofs.Tests.{neither, counted}
+use Rattle.flow.proofs.Tests.{counted}
 use Rattle.file_words.specs.Input.{lostOrSpare}
 
 -- ---- the sheets of a file's words
@@ -49,10 +50,6 @@ parts ws e = rw (e, take-min (2 * count ws + 2) ws, drop-min (2 * count ws + 2) 
 
 -- ---- more words than any two sheets have
 
-miscounted : (b : Bool) → (b ≡ false → ⊥) → b ≡ true
-miscounted true n = refl
-miscounted false n = absurd (n refl)
-
 never-both : (ws : List ℕ) → 4099 < length ws → (miscount 2 (take (2 * count ws + 2) ws) || miscount 1 (drop (2 * count ws + 2) ws)) ≡ false → ⊥
 unfolding miscount
 never-both ws h e =
@@ -64,7 +61,7 @@ never-both ws h e =
 
 too-long : (ws : List ℕ) → 4099 < length ws → printedWords ws ≡ refused (number Miscount)
 unfolding printedWords judge pairVerdict pairTests firstApplying
-too-long ws h = rw (miscounted (miscount 2 (take (2 * count ws + 2) ws) || miscount 1 (drop (2 * count ws + 2) ws)) (never-both ws h))
+too-long ws h = rw (not-false-true (miscount 2 (take (2 * count ws + 2) ws) || miscount 1 (drop (2 * count ws + 2) ws)) (never-both ws h))
 
 -- ---- a file
 

@@ -1,10 +1,11 @@
 -- A chart's columns and a use sheet are what the search for findings asks, and what it finds is what judge leaves.
 -- Assumes nothing.
 use mathlib.Core.Path.{_≡_, refl, sym, ap, ap₂, _∙_, subst, subst₃}
-use mathlib.Core.List.{List, _++_}
-use Prim.Native.Nat.{ℕ, _+_, _<_}
+use mathlib.Core.List.{List, _++_, map}
+use Prim.Native.Nat.{ℕ, _<_, _≤_}
 use native.Mathlib.Omega.{arith}
-use lib.ListN.{length, getD, drop}
+use lib.ListN.{length, getD, take, drop, length-map}
+use lib.Seq.{take-at}
 use mathlib.Core.Bool.{false}
 use Rattle.flow.specs.declared.Counts.{Counts}
 use Rattle.flow.specs.declared.Verdict.the-variants.{Admitted}
@@ -17,11 +18,14 @@ use Rattle.flow.specs.Findings.{findings, wordsOf, spansOf}
 use Rattle.flow.specs.Admitted.{AdmittedSheet, AdmittedUses}
 use Rattle.flow.proofs.Flags.{node-count}
 use Rattle.flow.proofs.NameNodes.{name-node}
-use Rattle.locals.specs.Entries.{Put, Added}
-use Rattle.unassigned.specs.Pass.{Marked}
+use Rattle.flow.proofs.Few.{findings-few}
+use Rattle.locals.specs.Entries.{Added}
+use Rattle.unassigned.specs.Pass.{Figures}
+use Rattle.finding_spans.specs.Spans.{spanOf, Known}
 use Rattle.local_flow.specs.Sheets.{Sheets}
-use Rattle.chart.specs.Lent.{overlay, Columns, Lent, Charted}
+use Rattle.chart.specs.Lent.{Columns, Lent, Charted}
 use Rattle.chart.proofs.Read.{Begins, nodes-are, names-are, first-read, second-read, start-read, spans-read, code-nodes-read, ends-rise, code-nodes-in, name-spans-read, name-nodes-read, name-ends-read, shown}
+use Rattle.findings.proofs.Spans.{words-known, spans-by-words}
 use Rattle.findings.specs.Accepted.{FindingsLent, Tables, FindingsWritten, Accepted}
 
 module _ {S U : List ℕ} {r : Counts} {l : Lent} (v : sheetVerdict false S ≡ Admitted) (a : AdmittedSheet S) (u : AdmittedUses S U) (h : Charted S r l) where
@@ -44,7 +48,7 @@ module _ {S U : List ℕ} {r : Counts} {l : Lent} (v : sheetVerdict false S ≡ 
   name-in ℓ q = rw (name-nodes .cell ℓ q, nodes-are a h) (name-node S v ℓ (omega (arith, a .nameNodes, a .allNames)))
 
   pub sheets : Tables S U r (y .nodes .first) (y .nodes .second) (y .nodes .start) (y .codes .span) (y .codes .node) (y .names .span) (y .names .node) (y .names .scopeEnd)
-  sheets = record {
+  sheets = (record {
     kinds-are = refl;
     beside = a .spans ∙ sym (a .kinds);
     few = omega (arith, a .kinds, a .few);
@@ -67,7 +71,6 @@ module _ {S U : List ℕ} {r : Counts} {l : Lent} (v : sheetVerdict false S ≡ 
       ends-long = name-ends .long;
       within = name-in;
     };
-    spanned = record { spans = sym (name-spans .cells); spans-long = name-spans .long };
     words-are = refl;
     spans-are = refl;
     use-table = record {
@@ -75,29 +78,51 @@ module _ {S U : List ℕ} {r : Counts} {l : Lent} (v : sheetVerdict false S ≡ 
       same = u .spans ∙ sym (u .uses);
       named = λ k q. omega (arith, u .known k (omega (arith, u .uses)), u .names);
     };
-  }
+  }, sym (name-spans .cells), name-spans .long)
 
 -- ---- the parts as the code takes them
 
-pub in-parts : {S U : List ℕ} (c : Counts) {f s t cs cn ns nn ne ks ws ps : List ℕ} → ks ≡ kindWords S → ws ≡ useWords U → ps ≡ useSpans U
-    → Tables S U c f s t cs cn ns nn ne → Sheets S U (c .nodes) (c .codes) ks f s t cs cn ns nn ne ws ps
-in-parts {S} {U} c {f} {s} {t} {cs} {cn} {ns} {nn} {ne} a b d q =
-    subst₃ (λ (k w p : List ℕ). Sheets S U (c .nodes) (c .codes) k f s t cs cn ns nn ne w p) (sym a) (sym b) (sym d) q
+pub in-parts : {S U : List ℕ} (c : Counts) (ns : List ℕ) {f s t cs cn nn ne ks ws ps : List ℕ} → ks ≡ kindWords S → ws ≡ useWords U → ps ≡ useSpans U
+    → Tables S U c f s t cs cn ns nn ne → Sheets S U (c .nodes) (c .codes) ks f s t cs cn nn ne ws ps
+in-parts {S} {U} c ns {f} {s} {t} {cs} {cn} {nn} {ne} a b d q =
+    subst₃ (λ (k w p : List ℕ). Sheets S U (c .nodes) (c .codes) k f s t cs cn nn ne w p) (sym a) (sym b) (sym d) (q .0)
 
 -- ---- what is left
 
-from-first : {new : List ℕ} (xs old : List ℕ) → Put xs 0 old new → new ≡ overlay xs old
-from-first xs old e = let z : 0 + length xs ≡ length xs = omega arith in e ∙ ap (λ (k : ℕ). xs ++ drop k old) z
+pub all-few : {S U : List ℕ} → AdmittedSheet S → AdmittedUses S U → length (findings S U) ≤ 3072
+all-few {S} {U} a u = findings-few S U (omega (arith, a .allNames, a .fewNames)) (omega (arith, u .uses, u .few))
 
-pub found : {S U : List ℕ} {n r : ℕ} {w s m w' s' m' : List ℕ} → Added (findings S U) 0 w s r w' s' → Marked n (length (locals S)) m m'
-    → FindingsWritten S U n r (record { before = record { word = w; span = s; mark = m }; after = record { word = w'; span = s'; mark = m' } })
-found {S} {U} {w = w} {s = s} d k =
-    record { count = omega (arith, d .counted); words = from-first (wordsOf (findings S U)) w (d .entered .words-are); spans = from-first (spansOf (findings S U)) s (d .entered .spans-are); marks = k }
+-- words that are added to none stand over what stood there
+pub from-first : {xs old new : List ℕ} {r : ℕ} → Added xs 0 old r new → new ≡ xs ++ drop r old
+from-first {xs} {old} d = d .entered ∙ ap (λ (k : ℕ). xs ++ drop k old) (sym (d .counted))
 
-pub accepted : {S U : List ℕ} {l : Lent} {f : FindingsLent} {c : Counts} {r : ℕ} → AdmittedSheet S → Charted S c l → FindingsWritten S U (c .nodes) r f → Accepted S U (Judged c r) l f
+module _ {S U : List ℕ} (a : AdmittedSheet S) (u : AdmittedUses S U) (c : Counts) (nameSpan : List ℕ) {first second start codeSpan codeNode nameNode nameEnd : List ℕ} (t : Tables S U c first second start codeSpan codeNode nameSpan nameNode nameEnd)
+    {r : ℕ} {words words′ : List ℕ} (d : Added (wordsOf (findings S U)) 0 words r words′) where
+  all : r ≡ length (wordsOf (findings S U))
+  all = omega (arith, d .counted)
+
+  -- the spans can be looked up
+  pub known : {uses : List ℕ} → uses ≡ useSpans U → Known r (length uses) (length nameSpan) words′
+  known e = rw e (words-known a u nameSpan (t .1) (t .2) words all (from-first d))
+
+  pub found : {uses spans spans′ marks marks′ : List ℕ} → uses ≡ useSpans U → spans′ ≡ map (spanOf uses nameSpan) (take r words′) ++ drop r spans → Figures S U (length (locals S)) marks marks′
+      → FindingsWritten S U r (record { before = record { word = words; span = spans; mark = marks }; after = record { word = words′; span = spans′; mark = marks′ } })
+  found {uses} {spans} {spans′} e s k =
+      let ws : List ℕ = wordsOf (findings S U) in
+      let some : length ws ≡ length (spansOf (findings S U)) = length-map (findings S U) (λ f. f .word) ∙ sym (length-map (findings S U) (λ f. f .span)) in
+      let front : take r words′ ≡ ws = ap (take r) (from-first d) ∙ take-at ws (drop r words) r (sym all) in
+      record {
+        count = all ∙ length-map (findings S U) (λ f. f .word);
+        words = from-first d ∙ ap (λ (j : ℕ). ws ++ drop j words) all;
+        spans = s ∙ ap (λ (x : List ℕ). map (spanOf uses nameSpan) x ++ drop r spans) front ∙ ap (λ (x : List ℕ). map (spanOf x nameSpan) ws ++ drop r spans) e
+            ∙ ap₂ (λ x j. x ++ drop j spans) (spans-by-words a u nameSpan (t .1) (t .2)) (all ∙ some);
+        marks = k;
+      }
+
+pub accepted : {S U : List ℕ} {l : Lent} {f : FindingsLent} {c : Counts} {r : ℕ} → AdmittedSheet S → Charted S c l → FindingsWritten S U r f → Accepted S U (Judged c r) l f
 accepted {S} {U} {f = f} a h g = record {
   answer = ap₂ Judged (h .counts) (g .count);
   columns = h .written;
   shown = shown a h;
-  found = record { count = refl; words = g .words; spans = g .spans; marks = subst (λ (k : ℕ). Marked k (length (locals S)) (f .before .mark) (f .after .mark)) (nodes-are a h) (g .marks) };
+  found = record { count = refl; words = g .words; spans = g .spans; marks = g .marks };
 }

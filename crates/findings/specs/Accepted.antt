@@ -3,16 +3,16 @@
 use mathlib.Core.Path.{_≡_}
 use mathlib.Core.List.{List}
 use Prim.Native.Nat.{ℕ, _≤_}
-use lib.ListN.{length}
+use lib.ListN.{length, take}
 use Rattle.flow.specs.declared.Counts.{Counts}
 use Rattle.flow.specs.declared.JudgeAnswer.{JudgeAnswer}
 use Rattle.flow.specs.declared.JudgeAnswer.the-variants.{Judged}
 use Rattle.flow.specs.Sheet.{kindWords, useWords, useSpans}
-use Rattle.flow.specs.Graph.{nodeCount, graph}
+use Rattle.flow.specs.Graph.{graph}
 use Rattle.flow.specs.Reachable.{countsOf}
 use Rattle.flow.specs.Locals.{locals}
 use Rattle.flow.specs.Findings.{findings, wordsOf, spansOf}
-use Rattle.unassigned.specs.Pass.{Marked}
+use Rattle.unassigned.specs.Pass.{Figures}
 use Rattle.local_flow.specs.Sheets.{Sheets}
 use Rattle.search.specs.Lent.{Column, held, left}
 use Rattle.chart.specs.Lent.{overlay, Lent, chartOf, Shown}
@@ -34,18 +34,19 @@ Long f = (3072 ≤ length (f .word)) × (3072 ≤ length (f .span)) × (1024 ≤
 -- a chart's columns, as the search for findings in two sheets takes them
 abbrev pub Tables : List ℕ → List ℕ → Counts → List ℕ → List ℕ → List ℕ → List ℕ → List ℕ → List ℕ → List ℕ → List ℕ → Type 0
 Tables S U c first second start codeSpan codeNode nameSpan nameNode nameEnd =
-    Sheets S U (c .nodes) (c .codes) (kindWords S) first second start codeSpan codeNode nameSpan nameNode nameEnd (useWords U) (useSpans U)
+    Sheets S U (c .nodes) (c .codes) (kindWords S) first second start codeSpan codeNode nameNode nameEnd (useWords U) (useSpans U)
+    × (graph S .names .span ≡ take (length (locals S)) nameSpan) × (length (locals S) ≤ length nameSpan)
 
--- r findings over what stood in their columns, and the mark figures of a graph of n nodes
-pub record FindingsWritten (S U : List ℕ) (n r : ℕ) (f : FindingsLent) : Type 0 where
+-- r findings over what stood in their columns, and the mark figures
+pub record FindingsWritten (S U : List ℕ) (r : ℕ) (f : FindingsLent) : Type 0 where
   pub count : r ≡ length (findings S U)
   pub words : f .after .word ≡ overlay (wordsOf (findings S U)) (f .before .word)
   pub spans : f .after .span ≡ overlay (spansOf (findings S U)) (f .before .span)
-  pub marks : Marked n (length (locals S)) (f .before .mark) (f .after .mark)
+  pub marks : Figures S U (length (locals S)) (f .before .mark) (f .after .mark)
 
 -- the same with the chart
 pub record Accepted (S U : List ℕ) (r : JudgeAnswer) (l : Lent) (f : FindingsLent) : Type 0 where
   pub answer : r ≡ Judged (countsOf (graph S)) (length (findings S U))
   pub columns : l .after ≡ chartOf S (l .before)
   pub shown : Shown S (l .after)
-  pub found : FindingsWritten S U (nodeCount (graph S)) (length (findings S U)) f
+  pub found : FindingsWritten S U (length (findings S U)) f

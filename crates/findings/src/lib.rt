@@ -30,29 +30,29 @@ fn find_all(
     requires { ⌜ AdmittedSheet (now sheet) × AdmittedUses (now sheet) (now uses) ⌝ }
     requires { ⌜ Tables (now sheet) (now uses) counts (now first) (now second) (now start) (now «code_span») (now «code_node») (now «name_span») (now «name_node») (now «name_end») ⌝ }
     requires { ⌜ Long (record { word = now «finding_word»; span = now «finding_span»; mark = now mark }) ⌝ }
-    ensures { λ r. ⌜ FindingsWritten (now (sheet .entry)) (now (uses .entry)) (counts .nodes) r (findingsLent «finding_word» «finding_span» mark) ⌝ }
+    ensures { λ r. ⌜ FindingsWritten (held sheet) (held uses) r (findingsLent «finding_word» «finding_span» mark) ⌝ }
 {
     let kinds = sheet_parts::kinds(sheet);
     let use_words = sheet_parts::use_words(uses);
     let use_spans = sheet_parts::use_spans(uses);
-    local_flow::compute(
+    let found = local_flow::compute(
         kinds,
         first,
         second,
         start,
         code_span,
         code_node,
-        name_span,
         name_node,
         name_end,
         use_words,
         use_spans,
         finding_word,
-        finding_span,
         mark,
         counts.nodes,
         counts.codes,
-    )
+    );
+    finding_spans::write_spans(use_spans, name_span, finding_word, finding_span, found);
+    found
 }
 
 // The chart and the findings of sheets that are admitted, in the columns that are lent.

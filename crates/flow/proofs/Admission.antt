@@ -8,18 +8,18 @@ use native.Mathlib.Omega.{arith}
 use borrow.Author.Tests.{ltb-true, leb-true, not-false}
 use lib.Dec.{leb, ltb}
 use lib.ListN.{length, getD, length-take, length-drop}
+use Rattle.search.proofs.Bools.{neither, and-both}
 use Rattle.flow.specs.declared.Verdict.the-variants.{Admitted}
 use Rattle.flow.specs.Sheet.{count, kindWords, spanWords, items, member, useWords, useSpans, localOf, useKindOf}
 use Rattle.flow.specs.Kinds.{isCode}
 use Rattle.flow.specs.Refusals.{miscount, badItem, tooDeep, badNesting, offTheLine, badName, nameCount, useFits, usesFit, badUse, firstApplying, itemTests, sheetTests, pairTests, sheetVerdict, pairVerdict}
 use Rattle.flow.specs.Graph.{graph}
 use Rattle.flow.specs.Admitted.{spansWhere, isName, AdmittedSheet, AdmittedUses, AdmittedPair}
-use Rattle.flow.proofs.Members.{and-both, member-in}
-use Rattle.flow.proofs.Tests.{neither, every, applies, passed, counted, Passed, sheet-passed, fits-at}
+use Rattle.flow.proofs.Members.{member-in}
+use Rattle.flow.proofs.Tests.{every, applies, passed, counted, Passed, sheet-passed, fits-at}
 use Rattle.flow.proofs.Nesting.{tidy, closed}
 use Rattle.flow.proofs.Room.{length-zip, roomy}
-use Rattle.flow.proofs.Written.{written}
-use Rattle.flow.proofs.Sources.{graph-columns}
+use Rattle.flow.proofs.Written.{graph-columns}
 use Rattle.flow.proofs.Spans.{tree-codes, tree-names, name-count, names-spans, few-spans, ends-rise}
 
 module _ (S : List ℕ) (e : sheetVerdict false S ≡ Admitted) where
@@ -39,18 +39,15 @@ module _ (S : List ℕ) (e : sheetVerdict false S ≡ Admitted) where
   all-items = length-zip (kindWords S) (spanWords S) as-many ∙ kinds
 
   codes : graph S .codes .span ≡ spansWhere isCode (items S)
-  unfolding written
-  codes = graph-columns S .codes ∙ tree-codes (items S) (passes .fits) (passes .pairs)
+  codes = graph-columns S .codeSpans ∙ tree-codes (items S) (passes .fits) (passes .pairs)
 
   names : graph S .names .span ≡ spansWhere isName (items S)
-  unfolding written
-  names = graph-columns S .names ∙ tree-names (items S) (passes .fits) (passes .pairs)
+  names = graph-columns S .nameSpans ∙ tree-names (items S) (passes .fits) (passes .pairs)
 
   few-items : (n : ℕ) → n ≤ length (items S) → n ≤ 1024
   few-items n h = omega (arith, all-items, passes .few)
 
   pub admitted : AdmittedSheet S
-  unfolding written
   admitted =
       record {
         words = passes .words;
@@ -69,12 +66,12 @@ module _ (S : List ℕ) (e : sheetVerdict false S ≡ Admitted) where
         closed = closed (kindWords S) (spanWords S) as-many (passes .pairs);
         room = roomy (kindWords S) (spanWords S) as-many (omega (arith, kinds, passes .few)) (passes .pairs);
         codes = codes;
-        codeNodes = rw (graph-columns S .codes) (graph-columns S .codeNodes);
+        codeNodes = rw (graph-columns S .codeSpans) (graph-columns S .codeNodes);
         fewCodes = rw codes (few-items _ (few-spans isCode (items S)));
         ends = rw codes (ends-rise (items S) (passes .fits) (passes .line));
         names = names;
-        nameNodes = rw (graph-columns S .names) (graph-columns S .nameNodes);
-        nameEnds = rw (graph-columns S .names) (graph-columns S .nameEnds);
+        nameNodes = rw (graph-columns S .nameSpans) (graph-columns S .nameNodes);
+        nameEnds = rw (graph-columns S .nameSpans) (graph-columns S .nameEnds);
         fewNames = rw names (few-items _ (few-spans isName (items S)));
         allNames = rw names (names-spans (items S) ∙ name-count S);
       }

@@ -1,4 +1,4 @@
--- Number and values tell the answer: a promise of what an answer tells is one of the answer itself.
+-- Number and values tell the answer: a promise of what an answer tells is one of the answer itself. For readers: `chart-told`, `run-told`, `judge-told` and `label-told` say it of each call.
 -- Assumes nothing.
 use mathlib.Core.Path.{_≡_, refl, sym, ap, _∙_}
 use mathlib.Core.Bool.{Bool, true, false, cond}

@@ -9,6 +9,7 @@ use native.Mathlib.Omega.{arith}
 use borrow.Author.Tests.{ltb-true, eqb-true}
 use lib.Dec.{ltb}
 use lib.ListN.{length, getD}
+use Rattle.search.proofs.Bools.{and-both, not-false-true}
 use Rattle.search.specs.Search.{In, Reach, here, on, closure, filter}
 use Rattle.search.proofs.Closure.{Nodes, closure-length, closure-bits, closure-sound, closure-complete}
 use Rattle.flow.specs.declared.Found.{Found}
@@ -20,7 +21,7 @@ use Rattle.flow.specs.Locals.{Declaration, onlyIf}
 use Rattle.flow.specs.Findings.{Use, node, isWrite, isAliveAt, liveSuccessors, afterWrites, liveAfterWrites, Meeting, noUse, aRead, aPureWrite, isNoUse, firstAt, below, meetsHere, comesFrom, meets}
 use Rattle.flow.specs.Paths.{Edge, Alive, Live, last, more, After, Meets, met, past}
 use Rattle.search.proofs.Worklist.{filter-in}
-use Rattle.flow.proofs.Members.{and-both, both-and, append-in, in-append, in-filter, below-in, in-below, member-in, in-member, true-alive, alive-true}
+use Rattle.flow.proofs.Members.{both-and, append-in, in-append, in-filter, below-in, in-below, member-in, in-member, true-alive, alive-true}
 use Rattle.flow.proofs.NodeCount.{graph-count}
 
 -- a flag 0 or 1 for each of n nodes, 1 exactly where P holds
@@ -30,6 +31,7 @@ pub record Decides (n : ℕ) (flags : List ℕ) (P : ℕ → Type 0) : Type 0 wh
   pub sound : (v : ℕ) → getD flags v 0 ≡ 1 → P v
   pub complete : (v : ℕ) → P v → getD flags v 0 ≡ 1
 
+-- `closure-decides`: of any search over nodes
 closure-decides : (n : ℕ) (starts : List ℕ) (next : ℕ → List ℕ) → Nodes n starts → ((u : ℕ) → Nodes n (next u)) → Decides n (closure starts next n) (Reach starts next)
 closure-decides n starts next hs hn =
     record {
@@ -158,10 +160,6 @@ module _ (g : Graph) (d : Declaration) where
 -- the node v holds one of the uses us
 abbrev pub HoldsIn : List Use → ℕ → Type 0
 HoldsIn us v = isNoUse (firstAt v us) ≡ false
-
-not-false-true : (b : Bool) → (b ≡ false → ⊥) → b ≡ true
-not-false-true true q = refl
-not-false-true false q = absurd (q refl)
 
 true-not-false : {b : Bool} → b ≡ true → b ≡ false → ⊥
 true-not-false p q = false≢true (sym q ∙ p)

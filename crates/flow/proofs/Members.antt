@@ -9,6 +9,7 @@ use native.Mathlib.Omega.{arith}
 use native.Mathlib.Decide.{ℕ-discrete}
 use borrow.Author.Tests.{ltb-true, lt-ltb, eqb-true, eqb-false, eq-eqb, ne-eqb, not-true}
 use lib.Dec.{eqb}
+use Rattle.search.proofs.Bools.{and-both}
 use Rattle.search.specs.Search.{In, cons-if, filter}
 use Rattle.flow.specs.Sheet.{member}
 use Rattle.flow.specs.Graph.{Graph}
@@ -17,10 +18,6 @@ use Rattle.flow.specs.Findings.{isAliveAt, below}
 use Rattle.flow.specs.Paths.{Alive}
 
 -- ---- tests joined
-
-pub and-both : (a b : Bool) → (a && b) ≡ true → (a ≡ true) × (b ≡ true)
-and-both true b e = (refl, e)
-and-both false b e = absurd (false≢true e)
 
 pub both-and : {a b : Bool} → a ≡ true → b ≡ true → (a && b) ≡ true
 both-and p q = rw (p, q)

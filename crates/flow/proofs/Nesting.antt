@@ -10,12 +10,12 @@ use native.Mathlib.Numerals.{add-one}
 use borrow.Author.Tests.{eqb-true, leb-true, ne-eqb, le-leb, lt-leb}
 use lib.Dec.{eqb, leb}
 use lib.ListN.{length, getD, drop}
+use Rattle.search.proofs.Bools.{and-both}
 use Rattle.flow.specs.Sheet.{Item, kind, kindOf, member, zip}
 use Rattle.flow.specs.Kinds.{kinds, opens, closes}
 use Rattle.flow.specs.Refusals.{innermost, mayStand, openAfter, pairsUp}
 use Rattle.flow.specs.Tree.{Stmt, simple, do-block, while-loop, repeat-loop, for-loop, if-stmt, no-more, elseif, otherwise, Frame, Open, nothingRead, outer, inFront, opened, read, parse}
 use Rattle.flow.specs.Admitted.{Tidy, Closed}
-use Rattle.flow.proofs.Members.{and-both}
 open record kinds using (DO, WHILE, REPEAT, FOR, IF, ELSEIF, ELSE, END, UNTIL)
 
 -- the statement that an opener of kind k makes of the block behind it

@@ -1,4 +1,4 @@
--- "The lowest number that applies is returned, and no other case refuses": the tests stand in the order of their numbers, a refusal is that of the first that applies, and a call is admitted where none does.
+-- "The lowest number that applies is returned, and no other case refuses": the tests stand in the order of their numbers, a refusal is that of the first that applies, and a call is admitted where none does. For readers: `foremost-refused`, the converse; `sheet-place`, `pair-place`, the test's place in the list; `run-number`, `label-number` beside those of chart and judge.
 -- Assumes nothing.
 use mathlib.Core.Path.{_≡_, refl, sym, ap, _∙_, subst}
 use mathlib.Core.Bool.{Bool, true, false, cond, true≢false}

@@ -9,6 +9,7 @@ use native.Mathlib.Nat.{le-trans}
 use borrow.Author.Tests.{ne-eqb, leb-true}
 use lib.Dec.{eqb, leb}
 use lib.ListN.{length, getD, length-append}
+use Rattle.search.proofs.Bools.{and-both}
 use Rattle.search.specs.Search.{filter}
 use Rattle.flow.specs.Sheet.{Item, items, kind, argumentOf, member, all, startOf, endOf}
 use Rattle.flow.specs.Kinds.{kinds, itemFits, isCode}
@@ -17,7 +18,7 @@ use Rattle.flow.specs.Tree.{Stmt, Frame, Open, outer, inFront, opened, s
 use Rattle.flow.specs.Locals.{onlyIf, localsFrom, locals}
 use Rattle.flow.specs.Findings.{below}
 use Rattle.flow.specs.Admitted.{spansWhere, isName}
-use Rattle.flow.proofs.Members.{and-both, below-in}
+use Rattle.flow.proofs.Members.{below-in}
 use Rattle.flow.proofs.Tests.{same, every, Fitting, fitting}
 use Rattle.flow.proofs.Nesting.{Made, a-do, a-while, a-repeat, a-for, an-if, Parsed, nothing, opening, ending, until, an-elseif, an-else, plain, nests, parsed}
 use Rattle.flow.proofs.Sources.{put, ofStmt, ofBlock, ofArms, makesCode, codeWord, nameWord}
@@ -77,6 +78,7 @@ module _ (h : Bool) (p : ℕ → Bool) where
 
 -- ---- which spans are held
 
+-- two tests that `Bool·beq` finds equal are (`beq-eq`)
 beq-eq : (a b : Bool) → Bool·beq a b ≡ true → a ≡ b
 beq-eq true true e = refl
 beq-eq true false e = absurd (false≢true e)
@@ -152,6 +154,7 @@ abbrev Rising : ℕ → List ℕ → Type 0
 Rising p [] = Unit {0}
 Rising p (s ∷ ss) = (p ≤ endOf s) × Rising (endOf s) ss
 
+-- one more item, if it is code (`rise-on`)
 rise-on : (b : Bool) (p : ℕ) (i : Item) (ss : List ℕ) → Fitting i → (not b || leb p (startOf (i .span))) ≡ true → Rising (cond b (endOf (i .span)) p) ss → Rising p (onlyIf b (i .span ∷ []) ++ ss)
 rise-on true p i ss f e r = (le-trans (leb-true p _ e) (f .order), r)
 rise-on false p i ss f e r = r

@@ -2,12 +2,13 @@
 -- Assumes nothing.
 use Prim.Native.Nat.{ℕ, zero, suc, _+_, _*_, _^_, _≤_, _<_}
 use mathlib.Core.Path.{_≡_, refl}
-use mathlib.Core.Bool.{Bool, true, false, cond, _&&_, _||_, true≢false}
+use mathlib.Core.Bool.{Bool, true, false, cond, _&&_, _||_}
 use mathlib.Core.List.{List, [], _∷_}
 use native.Mathlib.Omega.{arith}
 use borrow.Author.Tests.{ltb-true, ltb-false, leb-true, eqb-true, not-false}
 use lib.Dec.{eqb, leb, ltb}
 use lib.ListN.{length, getD}
+use Rattle.search.proofs.Bools.{neither, and-both}
 use Rattle.search.specs.Search.{In, filter}
 use Rattle.flow.specs.declared.Refusal.{Refusal}
 use Rattle.flow.specs.declared.Verdict.{Verdict}
@@ -17,11 +18,6 @@ use Rattle.flow.specs.Kinds.{argumentFits, itemFits}
 use Rattle.flow.specs.Refusals.{number, Test, firstApplying, miscount, badItem, pairsUp, badNesting, inLine, offTheLine, itemTests, sheetTests, sheetVerdict, outnumbered, tooDeep, sideBySide, held, namesFit, badName}
 use Rattle.flow.specs.Admitted.{anItem}
 use Rattle.search.proofs.Worklist.{filter-in}
-use Rattle.flow.proofs.Members.{and-both}
-
-pub neither : (a b : Bool) → (a || b) ≡ false → (a ≡ false) × (b ≡ false)
-neither true b e = absurd (true≢false e)
-neither false b e = (refl, e)
 
 -- a test's two cases
 pub split : {A B : Type 0} (f : A → B) (b : Bool) (x y : A) → f (cond b x y) ≡ cond b (f x) (f y)

@@ -1,4 +1,4 @@
--- 01, "Bench pieces": the starred ones as one list that one evaluation checks, and three more that show a slip which no starred piece shows.
+-- 01, "Bench pieces": the starred ones as one list that one evaluation checks, and three more that show a slip which no starred piece shows. `pieces-hold` is that evaluation; `printed-sheet-words` and `printed-use-words` are 01's own words for the printed sheet.
 -- Assumes nothing.
 use mathlib.Core.Path.{_≡_, refl}
 use mathlib.Core.Bool.{Bool, true, false, _&&_, not}

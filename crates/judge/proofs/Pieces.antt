@@ -1,4 +1,4 @@
--- 01, "Bench pieces": what the starred ones say of findings, for judge: by the number that it answers and the cells that it leaves over any others. One evaluation checks them.
+-- 01, "Bench pieces": what the starred ones say of findings, for judge: by the number that it answers and the cells that it leaves over any others. One evaluation checks them (`pieces-judged`).
 -- Assumes nothing.
 use mathlib.Core.Path.{_≡_, refl}
 use mathlib.Core.Bool.{Bool, true, false, _&&_}

@@ -21,6 +21,7 @@ use Rattle.flow.specs.Demand.{Demand3}
 use Rattle.flow.specs.Admitted.{AdmittedPair}
 use Rattle.flow.proofs.Admission.{of-pair}
 use Rattle.flow.proofs.Judged.{judged}
+use Rattle.unassigned.proofs.Locals.{figure-few}
 use Rattle.chart.specs.Lent.{overlay, Columns, chartShort, Wide}
 use Rattle.chart.proofs.Widths.{wide}
 use Rattle.findings.specs.Accepted.{FindingColumns, Long, Accepted}
@@ -71,7 +72,7 @@ module _ (S U : List ℕ) (x : Columns) (f : FindingColumns) where
         findingSpans = rw e (a .found .spans);
         markFigures = record {
           refused = λ q. absurd (q e);
-          figure = λ q. a .found .marks .figure;
+          figure = λ q ℓ h. rw (a .found .marks .figure ℓ h) (figure-few S U ℓ);
           past = a .found .marks .rest;
           long = a .found .marks .long;
         };

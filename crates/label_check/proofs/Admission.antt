@@ -35,6 +35,7 @@ open-blocks (an-elseif {o = o} e p) = omega (arith, outer-less o, open-blocks p)
 open-blocks (an-else {o = o} e p) = omega (arith, outer-less o, open-blocks p)
 open-blocks (plain h p) = open-blocks p
 
+-- no frame is left (`none-open`)
 none-open : (fs : List Frame) → length fs ≡ 0 → fs ≡ []
 none-open [] q = refl
 none-open (f ∷ fs) q = absurd (omega arith)

@@ -2,7 +2,7 @@
 -- Assumes nothing.
 use mathlib.Core.Path.{_≡_, refl, sym, ap, _∙_}
 use mathlib.Core.List.{List, [], _∷_, _++_}
-use mathlib.Core.Bool.{Bool, true, false, _&&_, _||_, not, or-assoc, or-comm, or-true, or-false, and-true, and-false}
+use mathlib.Core.Bool.{Bool, true, false, _&&_, _||_, not, or-comm, or-true, or-false, and-true, and-false}
 use Prim.Native.Nat.{ℕ, suc, _-_, _≤_, _<_}
 use native.Mathlib.Omega.{arith}
 use native.Mathlib.Decide.{ℕ-discrete}
@@ -12,11 +12,8 @@ use lib.Seq.{take-suc, drop-append-le, length-take-le}
 use borrow.Author.Tests.{eq-eqb, ne-eqb}
 use Rattle.flow.specs.Sheet.{member}
 use Rattle.flow.specs.Labels.{distinct}
+use Rattle.flow.proofs.Lookup.{one-of-append}
 use Rattle.label_check.specs.Walk.{visible, flat}
-
-pub one-of-append : (a : ℕ) (xs ys : List ℕ) → member a (xs ++ ys) ≡ (member a xs || member a ys)
-one-of-append a [] ys = refl
-one-of-append a (x ∷ xs) ys = rw (one-of-append a xs ys) (sym (or-assoc (eqb a x) (member a xs) (member a ys)))
 
 -- in whichever order the blocks stand
 pub one-of-flat : (a : ℕ) (ss : List (List ℕ)) → member a (flat ss) ≡ member a (visible ss)

@@ -6,10 +6,11 @@ use mathlib.Core.List.{List, [], _∷_}
 use mathlib.Core.Path.{_≡_, sym, ap, subst, _∙_}
 use native.Mathlib.Omega.{arith}
 use lib.ListN.{length}
+use Rattle.search.proofs.Bools.{and-both}
 use Rattle.flow.specs.Kinds.{opens, closes}
 use Rattle.flow.specs.Refusals.{one, outnumbered, mayStand, openAfter, pairsUp, scopesAfter}
 use Rattle.flow.specs.Sheet.{Item, kind, member}
-use Rattle.sheet_tests.proofs.Bools.{and-parts}
+
 use Rattle.nesting_tests.specs.Stack.{stackOf}
 use Rattle.nesting_tests.proofs.Nesting.{most, deep-next, closer-in, arm-in, turned-length, open-length}
 use Rattle.nesting_tests.proofs.Stacks.{length-stackOf}
@@ -28,7 +29,7 @@ pub record Nested (depth : ℕ) (is : List Item) : Type 0 where
 
 stands : (os : List ℕ) (i : Item) (is : List Item) → pairsUp os (i ∷ is) ≡ true → (mayStand (kind i) os ≡ true) × (pairsUp (openAfter (kind i) os) is ≡ true)
 unfolding pairsUp
-stands os i is e = and-parts _ _ e
+stands os i is e = and-both _ _ e
 
 pub nested-room : (count : ℕ) (i : Item) (is : List Item) → 0 < count → Nested (count - 1) (i ∷ is) → Room count (kind i)
 nested-room count i is h n =

@@ -1,2 +1,1 @@
-pub mod Stamps
 pub mod Walk

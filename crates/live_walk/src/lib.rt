@@ -1,43 +1,38 @@
 // The live walk of one local: the nodes that a live path from after a write ends at (local_flow.rs).
 ghost use mathlib.Core.Path.{_≡_};
-ghost use mathlib.Core.Bool.{false};
-ghost use mathlib.Core.List.{List};
-ghost use Prim.Native.Nat.{_+_, _≤_};
-ghost use lib.ListN.{length};
-ghost use Rattle.search.specs.Lent.{held, left};
-ghost use Rattle.search.specs.Search.{zeros};
-ghost use Rattle.search.specs.Worklist.{pushAll};
-ghost use Rattle.flow.specs.Graph.{Graph};
-ghost use Rattle.flow.specs.Findings.{Use, afterWrites, liveAfterWrites};
-ghost use Rattle.live_steps.specs.Stamps.{flagsOf, Fresh, Ready, Does};
-ghost use Rattle.live_steps.specs.Walk.{Long, charted, declared, useAt, usesAt, afterWrite, Placed, AllPlaced, Stands};
+ghost use Prim.Native.Nat.{_<_, _≤_};
+ghost use Rattle.search.specs.Lent.{held, left, stAt};
+ghost use Rattle.search.specs.Worklist.{st};
+ghost use Rattle.search.specs.Stamps.{Ready as RoomFor, stampAll};
+ghost use Rattle.flow.specs.Findings.{afterWrites};
+ghost use Rattle.use_words.specs.Words.{nodeIn, useOf, usesIn, AllPlaced};
+ghost use Rattle.live_steps.specs.Walk.{Long, charted, declared};
+ghost use Rattle.live_walk.specs.Walk.{afterWrite, Ready, Walks};
+use live_steps::LocalDeclaration;
 use live_steps::expand;
-use live_steps::is_write;
-use live_steps::wide;
+use search::cell;
+use use_words::is_write;
+use use_words::node_of;
 
-// The nodes from after use k pushed, if it is a write.
+// The nodes from after a use pushed, if it is a write. The result is the stack's height.
 fn expand_write(
     first: &[u64],
     second: &[u64],
     start: &[u64],
-    use_word: &[u64],
-    use_node: &[u16],
     visited: &mut [u16],
     stack: &mut [u16],
     n: usize,
     top: usize,
-    node: usize,
-    scope_end: u64,
+    declaration: LocalDeclaration,
     stamp: u16,
-    k: usize,
+    word: u64,
 ) -> usize
-    requires { ⌜ Ready stamp n (now visited) (now stack) top ⌝ }
-    requires { ⌜ Long n (now first) (now second) (now start) ⌝ }
-    requires { ⌜ Placed n (now «use_word») (now «use_node») k ⌝ }
-    ensures { λ r. ⌜ Does stamp n visited stack top r (pushAll (afterWrite (charted n first second start) (declared node «scope_end») (useAt false (held «use_word») (held «use_node») k))) ⌝ }
+    requires { ⌜ RoomFor stamp n (st (now visited) (now stack) top) × (n ≤ 1600) ⌝ }
+    requires { ⌜ Long n (now first) (now second) (now start) × (nodeIn word < n) ⌝ }
+    ensures { λ r. ⌜ stAt left visited stack r ≡ stampAll stamp (afterWrite (charted n first second start) (declared declaration) (useOf word)) (stAt held visited stack top) ⌝ }
 {
-    if is_write(use_word[k]) {
-        let u = wide(use_node[k]);
+    if is_write(word) {
+        let u = node_of(word);
         expand(
             first,
             second,
@@ -46,8 +41,7 @@ fn expand_write(
             stack,
             n,
             top,
-            node,
-            scope_end,
+            declaration,
             stamp,
             u,
         )
@@ -61,39 +55,31 @@ fn seed(
     first: &[u64],
     second: &[u64],
     start: &[u64],
-    use_word: &[u64],
-    use_node: &[u16],
-    mine: &[u16],
+    mine: &[u64],
     visited: &mut [u16],
     stack: &mut [u16],
     n: usize,
-    node: usize,
-    scope_end: u64,
+    declaration: LocalDeclaration,
     stamp: u16,
 ) -> usize
-    requires { ⌜ Ready stamp n (now visited) (now stack) 0 ⌝ }
-    requires { ⌜ Long n (now first) (now second) (now start) ⌝ }
-    requires { ⌜ AllPlaced n (now mine) (now «use_word») (now «use_node») ⌝ }
-    ensures { λ r. ⌜ Does stamp n visited stack 0 r (pushAll (afterWrites (charted n first second start) (declared node «scope_end») (usesAt (held «use_word») (held «use_node») (held mine)))) ⌝ }
+    requires { ⌜ RoomFor stamp n (st (now visited) (now stack) 0) × (n ≤ 1600) ⌝ }
+    requires { ⌜ Long n (now first) (now second) (now start) × AllPlaced n (now mine) ⌝ }
+    ensures { λ r. ⌜ stAt left visited stack r ≡ stampAll stamp (afterWrites (charted n first second start) (declared declaration) (usesIn (held mine))) (stAt held visited stack 0) ⌝ }
 {
     let mut top = 0;
     let mut i = 0;
     while i < mine.len() {
-        let k = wide(mine[i]);
         top = expand_write(
             first,
             second,
             start,
-            use_word,
-            use_node,
             visited,
             stack,
             n,
             top,
-            node,
-            scope_end,
+            declaration,
             stamp,
-            k,
+            mine[i],
         );
         i += 1;
     }
@@ -105,41 +91,32 @@ pub fn live_walk(
     first: &[u64],
     second: &[u64],
     start: &[u64],
-    use_word: &[u64],
-    use_node: &[u16],
-    mine: &[u16],
+    mine: &[u64],
     visited: &mut [u16],
     stack: &mut [u16],
     n: usize,
-    node: usize,
-    scope_end: u64,
+    declaration: LocalDeclaration,
     stamp: u16,
 ) -> usize
-    requires { ⌜ Long n (now first) (now second) (now start) × (n ≤ 1600) ⌝ }
-    requires { ⌜ AllPlaced n (now mine) (now «use_word») (now «use_node») ⌝ }
-    requires { ⌜ Fresh stamp n (now visited) × (n ≤ length (now stack)) ⌝ }
-    ensures { λ _. ⌜ ((g : Graph) (us : List Use) → Stands g us n mine first second start «use_word» «use_node» → flagsOf stamp n (left visited) ≡ liveAfterWrites g (declared node «scope_end») us) ⌝ }
-    ensures { λ _. ⌜ Fresh (stamp + 1) n (left visited) × (n ≤ length (left stack)) ⌝ }
-    ensures { λ r. ⌜ r + zeros n (flagsOf stamp n (left visited)) ≡ n ⌝ }
+    requires { ⌜ Ready stamp n (now visited) (now stack) × (n ≤ 1600) ⌝ }
+    requires { ⌜ Long n (now first) (now second) (now start) × AllPlaced n (now mine) ⌝ }
+    ensures { λ r. ⌜ Walks stamp n (charted n first second start) (declared declaration) (usesIn (held mine)) r visited ⌝ }
 {
     let mut top = seed(
         first,
         second,
         start,
-        use_word,
-        use_node,
         mine,
         visited,
         stack,
         n,
-        node,
-        scope_end,
+        declaration,
         stamp,
     );
     let mut count = 0;
     while 0 < top {
         top -= 1;
-        let u = wide(stack[top]);
+        let u = cell(stack, top);
         top = expand(
             first,
             second,
@@ -148,8 +125,7 @@ pub fn live_walk(
             stack,
             n,
             top,
-            node,
-            scope_end,
+            declaration,
             stamp,
             u,
         );

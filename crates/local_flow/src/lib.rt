@@ -1,104 +1,29 @@
 // The findings of all locals, from the columns of a chart and a use sheet (local_flow.rs).
+ghost use mathlib.Core.Path.{_≡_};
+ghost use mathlib.Core.Bool.{true};
 ghost use Prim.Native.Nat.{_≤_};
 ghost use lib.ListN.{length};
-ghost use Rattle.search.specs.Lent.{held, left};
 ghost use Rattle.locals.specs.Entries.{Room};
-ghost use Rattle.unassigned.specs.Pass.{Marked};
 ghost use Rattle.local_flow.specs.Sheets.{AnySheets, Finds, AnyGiven, FindsGiven};
-ghost use Rattle.local_flow.specs.Memory.{Memory};
 use both_lists::list_findings;
-use locals::any_tracked;
-use locals::find_names;
-use locals::is_small;
+use facts::any_tracked;
+use facts::find_names;
 use search::clear;
-use uses::sort_uses;
+use tables::make_tables;
 
-// The findings, in memory that is lent: the uses are sorted there, and then the walks take place there. The stack of the walks is
-// scratch memory of the sorting.
-fn compute_in(
-    first: &[u64],
-    second: &[u64],
-    start: &[u64],
-    code_span: &[u64],
-    code_node: &[u64],
-    name_span: &[u64],
-    name_node: &[u64],
-    name_end: &[u64],
-    use_word: &[u64],
-    use_span: &[u64],
-    facts: &[u16],
-    use_local: &mut [u16],
-    use_node: &mut [u16],
-    lost: &mut [u16],
-    stack: &mut [u16],
-    starts: &mut [u16],
-    by_local: &mut [u16],
-    by_node: &mut [u16],
-    visited: &mut [u16],
-    head: &mut [u16],
-    next_a: &mut [u16],
-    next_b: &mut [u16],
-    used: &mut [u16],
-    reads: &mut [u16],
-    writes: &mut [u16],
-    finding_word: &mut [u64],
-    finding_span: &mut [u64],
-    mark: &mut [u64],
-    n: usize,
-    codes: usize,
-    names: usize,
-) -> usize
-    requires { ⌜ AnyGiven n codes names first second start «code_span» «code_node» «name_span» «name_node» «name_end» facts «use_word» «use_span» ⌝ }
-    requires { ⌜ Room 3072 0 (now «finding_word») (now «finding_span») × (1024 ≤ length (now mark)) ⌝ }
-    requires { ⌜ Memory n names (length (now «use_word»)) «use_local» «use_node» lost stack starts «by_local» «by_node» visited head «next_a» «next_b» used reads writes ⌝ }
-    ensures { λ r. ⌜ FindsGiven n codes names first second start «code_span» «code_node» «name_span» «name_node» «name_end» facts «use_word» «use_span» «finding_word» «finding_span» r ⌝ }
-    ensures { λ r. ⌜ Marked n names (held mark) (left mark) ⌝ }
+// So many nodes, names and uses a small sheet has at most.
+const SMALL: usize = 128;
+
+// Whether a sheet has so few nodes, names and uses that little memory will do.
+fn is_small(n: usize, names: usize, uses: usize) -> bool
+    ensures { λ r. ⌜ (r ≡ true → (n ≤ 128) × (names ≤ 128) × (uses ≤ 128)) ⌝ }
 {
-    sort_uses(
-        code_span,
-        code_node,
-        codes,
-        n,
-        use_word,
-        use_span,
-        names,
-        use_local,
-        use_node,
-        lost,
-        stack,
-        starts,
-        by_local,
-        by_node,
-    );
-    list_findings(
-        first,
-        second,
-        start,
-        name_node,
-        name_end,
-        name_span,
-        facts,
-        use_word,
-        use_span,
-        use_node,
-        lost,
-        starts,
-        by_local,
-        by_node,
-        visited,
-        stack,
-        head,
-        next_a,
-        next_b,
-        used,
-        reads,
-        writes,
-        finding_word,
-        finding_span,
-        mark,
-        n,
-        names,
-    )
+    if n <= SMALL {
+        if names <= SMALL {
+            return uses <= SMALL;
+        }
+    }
+    false
 }
 
 // The findings of a small sheet: most function bodies are small, and to clear what a large one needs would take longer than all else.
@@ -108,70 +33,64 @@ fn compute_small(
     start: &[u64],
     code_span: &[u64],
     code_node: &[u64],
-    name_span: &[u64],
     name_node: &[u64],
     name_end: &[u64],
     use_word: &[u64],
     use_span: &[u64],
-    facts: &[u16],
+    facts: &mut [u16],
     finding_word: &mut [u64],
-    finding_span: &mut [u64],
     mark: &mut [u64],
     n: usize,
     codes: usize,
     names: usize,
 ) -> usize
-    requires { ⌜ AnyGiven n codes names first second start «code_span» «code_node» «name_span» «name_node» «name_end» facts «use_word» «use_span» ⌝ }
-    requires { ⌜ Room 3072 0 (now «finding_word») (now «finding_span») × (1024 ≤ length (now mark)) ⌝ }
-    requires { ⌜ (n ≤ 128) × (names ≤ 128) × (length (now «use_word») ≤ 128) ⌝ }
-    ensures { λ r. ⌜ FindsGiven n codes names first second start «code_span» «code_node» «name_span» «name_node» «name_end» facts «use_word» «use_span» «finding_word» «finding_span» r ⌝ }
-    ensures { λ r. ⌜ Marked n names (held mark) (left mark) ⌝ }
+    requires { ⌜ AnyGiven n codes names first second start «code_span» «code_node» «name_node» «name_end» «use_word» «use_span» facts ⌝ }
+    requires { ⌜ Room 3072 0 (now «finding_word») × (1024 ≤ length (now mark)) × (n ≤ 128) × (names ≤ 128) × (length (now «use_word») ≤ 128) ⌝ }
+    ensures { λ r. ⌜ FindsGiven n codes names first second start «code_span» «code_node» «name_node» «name_end» «use_word» «use_span» facts «finding_word» mark r ⌝ }
 {
-    let mut use_local = [0u16; 128];
-    let mut use_node = [0u16; 128];
-    let mut lost = [0u16; 128];
-    let mut stack = [0u16; 128];
+    let mut uses = [0u64; 128];
     let mut starts = [0u16; 129];
-    let mut by_local = [0u16; 128];
-    let mut by_node = [0u16; 128];
+    let mut by_local = [0u64; 128];
+    let mut by_node = [0u64; 128];
     let mut visited = [0u16; 128];
-    let mut head = [0u16; 128];
-    let mut next_a = [0u16; 128];
-    let mut next_b = [0u16; 128];
+    let mut stack = [0u16; 128];
+    let mut chain = [0u64; 128];
     let mut used = [0u16; 128];
     let mut reads = [0u16; 128];
     let mut writes = [0u16; 128];
-    compute_in(
-        first,
-        second,
-        start,
+    make_tables(
         code_span,
         code_node,
-        name_span,
-        name_node,
-        name_end,
         use_word,
         use_span,
         facts,
-        &mut use_local,
-        &mut use_node,
-        &mut lost,
-        &mut stack,
+        &mut uses,
         &mut starts,
         &mut by_local,
         &mut by_node,
+        n,
+        codes,
+        names,
+    );
+    list_findings(
+        first,
+        second,
+        start,
+        name_node,
+        name_end,
+        facts,
+        &starts,
+        &by_local,
+        &by_node,
         &mut visited,
-        &mut head,
-        &mut next_a,
-        &mut next_b,
+        &mut stack,
+        &mut chain,
         &mut used,
         &mut reads,
         &mut writes,
         finding_word,
-        finding_span,
         mark,
         n,
-        codes,
         names,
     )
 }
@@ -183,74 +102,69 @@ fn compute_large(
     start: &[u64],
     code_span: &[u64],
     code_node: &[u64],
-    name_span: &[u64],
     name_node: &[u64],
     name_end: &[u64],
     use_word: &[u64],
     use_span: &[u64],
-    facts: &[u16],
+    facts: &mut [u16],
     finding_word: &mut [u64],
-    finding_span: &mut [u64],
     mark: &mut [u64],
     n: usize,
     codes: usize,
     names: usize,
 ) -> usize
-    requires { ⌜ AnyGiven n codes names first second start «code_span» «code_node» «name_span» «name_node» «name_end» facts «use_word» «use_span» ⌝ }
-    requires { ⌜ Room 3072 0 (now «finding_word») (now «finding_span») × (1024 ≤ length (now mark)) ⌝ }
-    ensures { λ r. ⌜ FindsGiven n codes names first second start «code_span» «code_node» «name_span» «name_node» «name_end» facts «use_word» «use_span» «finding_word» «finding_span» r ⌝ }
-    ensures { λ r. ⌜ Marked n names (held mark) (left mark) ⌝ }
+    requires { ⌜ AnyGiven n codes names first second start «code_span» «code_node» «name_node» «name_end» «use_word» «use_span» facts ⌝ }
+    requires { ⌜ Room 3072 0 (now «finding_word») × (1024 ≤ length (now mark)) ⌝ }
+    ensures { λ r. ⌜ FindsGiven n codes names first second start «code_span» «code_node» «name_node» «name_end» «use_word» «use_span» facts «finding_word» mark r ⌝ }
 {
-    let mut use_local = [0u16; 1600];
-    let mut use_node = [0u16; 1600];
-    let mut lost = [0u16; 1600];
-    let mut stack = [0u16; 1600];
+    let mut uses = [0u64; 1024];
     let mut starts = [0u16; 1601];
-    let mut by_local = [0u16; 1600];
-    let mut by_node = [0u16; 1600];
+    let mut by_local = [0u64; 1024];
+    let mut by_node = [0u64; 1024];
     let mut visited = [0u16; 1600];
-    let mut head = [0u16; 1600];
-    let mut next_a = [0u16; 1600];
-    let mut next_b = [0u16; 1600];
+    let mut stack = [0u16; 1600];
+    let mut chain = [0u64; 1600];
     let mut used = [0u16; 1600];
     let mut reads = [0u16; 1600];
     let mut writes = [0u16; 1600];
-    compute_in(
-        first,
-        second,
-        start,
+    make_tables(
         code_span,
         code_node,
-        name_span,
-        name_node,
-        name_end,
         use_word,
         use_span,
         facts,
-        &mut use_local,
-        &mut use_node,
-        &mut lost,
-        &mut stack,
+        &mut uses,
         &mut starts,
         &mut by_local,
         &mut by_node,
+        n,
+        codes,
+        names,
+    );
+    list_findings(
+        first,
+        second,
+        start,
+        name_node,
+        name_end,
+        facts,
+        &starts,
+        &by_local,
+        &by_node,
         &mut visited,
-        &mut head,
-        &mut next_a,
-        &mut next_b,
+        &mut stack,
+        &mut chain,
         &mut used,
         &mut reads,
         &mut writes,
         finding_word,
-        finding_span,
         mark,
         n,
-        codes,
         names,
     )
 }
 
-// The findings of a sheet with its uses, in their order, and a mark figure for each local. The result is the number of findings.
+// The words of the findings of a sheet with its uses, in their order, and a mark figure for each local. The result is the number of findings.
 pub fn compute(
     kinds: &[u64],
     first: &[u64],
@@ -258,20 +172,18 @@ pub fn compute(
     start: &[u64],
     code_span: &[u64],
     code_node: &[u64],
-    name_span: &[u64],
     name_node: &[u64],
     name_end: &[u64],
     use_word: &[u64],
     use_span: &[u64],
     finding_word: &mut [u64],
-    finding_span: &mut [u64],
     mark: &mut [u64],
     n: usize,
     codes: usize,
 ) -> usize
-    requires { ⌜ AnySheets n codes kinds first second start «code_span» «code_node» «name_span» «name_node» «name_end» «use_word» «use_span» ⌝ }
-    requires { ⌜ Room 3072 0 (now «finding_word») (now «finding_span») × (1024 ≤ length (now mark)) ⌝ }
-    ensures { λ r. ⌜ Finds n codes kinds first second start «code_span» «code_node» «name_span» «name_node» «name_end» «use_word» «use_span» «finding_word» «finding_span» mark r ⌝ }
+    requires { ⌜ AnySheets n codes kinds first second start «code_span» «code_node» «name_node» «name_end» «use_word» «use_span» ⌝ }
+    requires { ⌜ Room 3072 0 (now «finding_word») × (1024 ≤ length (now mark)) ⌝ }
+    ensures { λ r. ⌜ Finds n codes kinds first second start «code_span» «code_node» «name_node» «name_end» «use_word» «use_span» «finding_word» mark r ⌝ }
 {
     let mut facts = [0u16; 1024];
     let names = find_names(kinds, &mut facts);
@@ -286,14 +198,12 @@ pub fn compute(
             start,
             code_span,
             code_node,
-            name_span,
             name_node,
             name_end,
             use_word,
             use_span,
-            &facts,
+            &mut facts,
             finding_word,
-            finding_span,
             mark,
             n,
             codes,
@@ -306,14 +216,12 @@ pub fn compute(
         start,
         code_span,
         code_node,
-        name_span,
         name_node,
         name_end,
         use_word,
         use_span,
-        &facts,
+        &mut facts,
         finding_word,
-        finding_span,
         mark,
         n,
         codes,

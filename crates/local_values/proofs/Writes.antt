@@ -1,74 +1,66 @@
--- The use at a place of `sorted`, and a turn of the loop over the places.
+-- The loop over the places of a local's uses: when those below i are passed, the overwritten writes among them were added.
 -- Assumes nothing.
 use Prim.Native.Nat.{ℕ, _+_, _≤_, _<_}
-use mathlib.Core.Path.{_≡_, refl, sym, ap, _∙_, subst}
-use mathlib.Core.Bool.{Bool}
-use mathlib.Core.List.{List, [], _∷_, _++_, map, map-append, List·Memᴰ}
+use mathlib.Core.Path.{_≡_, refl, ap, sym, _∙_}
+use mathlib.Core.Bool.{Bool, true, false}
+use mathlib.Core.List.{List, [], _∷_, _++_, map, map-append, append-assoc, append-nil}
 use native.Mathlib.Omega.{arith}
-use lib.ListN.{length, getD, drop}
+use lib.ListN.{length, getD, drop, length-append, length-map, drop-of-length-le}
 use Rattle.flow.specs.Graph.{Graph}
 use Rattle.flow.specs.Locals.{onlyIf}
-use Rattle.flow.specs.Findings.{Use, Ahead, ofUse, isOverwritten, overwrittenBelow}
-use Rattle.uses_by_node.specs.Uses.{Table, byNode, Sorted}
-use Rattle.uses_by_node.proofs.Sorting.{size}
-use Rattle.uses_by_node.proofs.Callers.{Holds, holds, Collected, collect-none, collect-turn, collect-end}
+use Rattle.flow.specs.Findings.{Use, Ahead, isOverwritten}
+use Rattle.use_words.specs.Words.{useOf, usesIn}
+use Rattle.use_words.proofs.Words.{uses-next}
+use Rattle.uses_by_node.specs.Uses.{overwrittenIn}
 use Rattle.locals.specs.Entries.{Room, Added}
-use Rattle.local_values.specs.Marked.{Marked}
-use Rattle.locals.proofs.Entries.{added-none, added-append}
+use Rattle.locals.proofs.Entries.{added-none, added-more, added-long}
+use Rattle.local_values.specs.Words.{writeWord}
 
--- the use u stands at place i
-pub record Here (t : Table) (us : List Use) (i : ℕ) (u : Use) : Type 0 where
-  pub number : u .number ≡ getD (t .sorted) i 0
-  pub own : List·Memᴰ u us
+one-at-most : (b : Bool) (u : Use) → length (onlyIf b (u ∷ [])) ≤ 1
+one-at-most true u = omega arith
+one-at-most false u = omega arith
 
-pub here : (n : ℕ) (t : Table) (us : List Use) → Sorted n t us → (i : ℕ) → i < length (t .sorted) → (u : Use) (after : List Use) → drop i (byNode n us) ≡ u ∷ after → Here t us i u
-here n t us s i l u after e =
-    let h : Holds n t us i = holds n t us s i l in
-    let same : h .u ≡ u = cc (h .split, e) in
-    record { number = ap (λ (x : Use). x .number) (sym same) ∙ sym (h .number); own = subst (λ (x : Use). List·Memᴰ x us) same (h .own) }
-
--- ---- the loop over the places
-
-module _ (stamp n local : ℕ) (first second : List ℕ) (t : Table) (spans reads writes : List ℕ) (before : ℕ) (w₀ s₀ : List ℕ) where
-  abbrev Marks : Graph → Ahead → List Use → Type 0
-  Marks = Marked stamp n first second t spans reads writes
-
+module _ (g : Graph) (a : Ahead) (local : ℕ) (ws : List ℕ) (before : ℕ) (w₀ : List ℕ) where
   -- the places below i are passed: what was found there was added
-  pub record Passed (count i : ℕ) (w s : List ℕ) : Type 0 where
-    pub few : i ≤ length (t .sorted)
-    pub counted : count ≤ before + i
-    pub words-long : length w ≡ length w₀
-    pub spans-long : length s ≡ length s₀
-    pub added : (g : Graph) (a : Ahead) (us : List Use) → Marks g a us → (found : List Use) × Collected g a n us i found × Added (map (ofUse 1 local) found) before w₀ s₀ count w s
+  pub record Passed (count i : ℕ) (w : List ℕ) : Type 0 where
+    pub few : i ≤ length ws
+    pub found : List Use
+    pub no-more : length found ≤ i
+    pub so-far : overwrittenIn g a (usesIn ws) ≡ found ++ overwrittenIn g a (usesIn (drop i ws))
+    pub added : Added (map (writeWord local) found) before w₀ count w
 
-  pub passed-none : Passed before 0 w₀ s₀
-  passed-none = record { few = omega arith; counted = omega arith; words-long = refl; spans-long = refl; added = λ g a us m. ([], collect-none g a n us, added-none) }
+  pub passed-none : Passed before 0 w₀
+  passed-none = record { few = omega arith; found = []; no-more = omega arith; so-far = refl; added = added-none before w₀ }
 
-  module _ (room : Room (length (t .sorted)) before w₀ s₀) (count i : ℕ) (w s : List ℕ) (p : Passed count i w s) where
-    pub room-left : i < length (t .sorted) → Room 1 count w s
-    room-left h = record { words-hold = omega (arith, p .counted, p .words-long, room .words-hold); spans-hold = omega (arith, p .counted, p .spans-long, room .spans-hold) }
+  module _ (room : Room (length ws) before w₀) {count i : ℕ} {w : List ℕ} (p : Passed count i w) where
+    holds : before + length (map (writeWord local) (p .found)) ≤ length w₀
+    holds = omega (arith, length-map (p .found) (writeWord local), p .no-more, p .few, room)
 
-    abbrev Turn : ℕ → List ℕ → List ℕ → Type 0
-    Turn r w₁ s₁ = (g : Graph) (a : Ahead) (us : List Use) → Marks g a us → (u : Use) (after : List Use) → drop i (byNode n us) ≡ u ∷ after → Added (map (ofUse 1 local) (onlyIf (isOverwritten g a u after) (u ∷ []))) count w s r w₁ s₁
+    pub passed-long : length w ≡ length w₀
+    passed-long = added-long (p .added) holds
 
-    pub passed-turn : i < length (t .sorted) → (r : ℕ) (w₁ s₁ : List ℕ) → r ≤ count + 1 → length w₁ ≡ length w → length s₁ ≡ length s → Turn r w₁ s₁ → Passed r (i + 1) w₁ s₁
-    passed-turn h r w₁ s₁ hr lw ls turn =
+    pub passed-count : count ≤ before + i
+    passed-count = omega (arith, p .added .counted, length-map (p .found) (writeWord local), p .no-more)
+
+    pub room-left : i < length ws → Room 1 count w
+    room-left h = omega (arith, passed-count, passed-long, room)
+
+    pub passed-turn : i < length ws → {r : ℕ} {w₁ : List ℕ} → Added (map (writeWord local) (onlyIf (isOverwritten g a (useOf (getD ws i 0)) (usesIn (drop (i + 1) ws))) (useOf (getD ws i 0) ∷ []))) count w r w₁ → Passed r (i + 1) w₁
+    passed-turn h {r} {w₁} t =
+        let u : Use = useOf (getD ws i 0) in
+        let after : List Use = usesIn (drop (i + 1) ws) in
+        let here : List Use = onlyIf (isOverwritten g a u after) (u ∷ []) in
+        let split : usesIn (drop i ws) ≡ u ∷ after = uses-next ws i h in
         record {
           few = omega arith;
-          counted = omega (arith, p .counted);
-          words-long = lw ∙ p .words-long;
-          spans-long = ls ∙ p .spans-long;
-          added = λ g a us m.
-              let x : Holds n t us i = holds n t us (m .sorted) i h in
-              let b : Bool = isOverwritten g a (x .u) (x .after) in
-              let q = p .added g a us m in (
-                q .0 ++ onlyIf b (x .u ∷ []),
-                collect-turn g a n us i (q .0) (x .u) (x .after) b (x .split) (omega (arith, size n t us (m .sorted))) refl (q .1),
-                rw (map-append (ofUse 1 local) (q .0) (onlyIf b (x .u ∷ []))) (added-append (omega (arith, p .counted, room .words-hold)) (omega (arith, p .counted, room .spans-hold)) (q .2) (turn g a us m (x .u) (x .after) (x .split))),
-              );
+          found = p .found ++ here;
+          no-more = omega (arith, length-append (p .found) here, one-at-most (isOverwritten g a u after) u, p .no-more);
+          so-far = p .so-far ∙ ap (λ (us : List Use). p .found ++ overwrittenIn g a us) split ∙ sym (append-assoc (p .found) here (overwrittenIn g a after));
+          added = rw (map-append (writeWord local) (p .found) here) (added-more (p .added) holds t);
         }
 
-    pub passed-end : length (t .sorted) ≤ i → (g : Graph) (a : Ahead) (us : List Use) → Marks g a us → Added (map (ofUse 1 local) (overwrittenBelow g a n us)) before w₀ s₀ count w s
-    passed-end h g a us m =
-        let q = p .added g a us m in
-        subst (λ (l : List Use). Added (map (ofUse 1 local) l) before w₀ s₀ count w s) (collect-end g a n us i (q .0) (omega (arith, size n t us (m .sorted))) (q .1)) (q .2)
+    pub passed-end : length ws ≤ i → Added (map (writeWord local) (overwrittenIn g a (usesIn ws))) before w₀ count w
+    passed-end h =
+        let rest : overwrittenIn g a (usesIn (drop i ws)) ≡ [] = ap (λ (l : List ℕ). overwrittenIn g a (usesIn l)) (drop-of-length-le ws h) in
+        let all : overwrittenIn g a (usesIn ws) ≡ p .found = p .so-far ∙ ap (λ (l : List Use). p .found ++ l) rest ∙ append-nil (p .found) in
+        rw all (p .added)

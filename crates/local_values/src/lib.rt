@@ -1,93 +1,64 @@
 // The overwritten values of one local: the marks of its next uses, its initial value, its writes (local_flow.rs).
-ghost use mathlib.Core.Path.{_≡_};
-ghost use mathlib.Core.List.{[], _∷_};
+ghost use mathlib.Core.List.{[], _∷_, map};
 ghost use Prim.Native.Nat.{_+_, _<_, _≤_};
-ghost use lib.ListN.{length, getD, take};
+ghost use lib.ListN.{length, getD, drop, take};
 ghost use Rattle.search.specs.Lent.{held, left};
-ghost use Rattle.flow.specs.Findings.{Use, ofUse};
+ghost use Rattle.flow.specs.Locals.{onlyIf};
+ghost use Rattle.flow.specs.Findings.{isOverwritten};
+ghost use Rattle.use_words.specs.Words.{useOf, usesIn, AllPlaced};
+ghost use Rattle.live_steps.specs.Walk.{charted, declared};
 ghost use Rattle.predecessors.specs.Predecessors.{Linked};
-ghost use Rattle.uses_by_node.specs.Uses.{table};
-ghost use Rattle.uses_by_node.specs.Marks.{ForAhead};
+ghost use Rattle.uses_by_node.specs.Uses.{Rising, edges, marked};
 ghost use Rattle.next_uses.specs.Backwards.{Unmarked};
 ghost use Rattle.locals.specs.Entries.{Room, Adds};
-ghost use Rattle.local_values.specs.Marked.{Fits, ForStands, ForMarked, AddsAt, initialOf, writesOf, valuesOf, judgedOf, writeOf};
+ghost use Rattle.local_values.specs.Words.{writeWord, initialWords, writeWords, valueWords, judgedWords, Hold};
+use live_steps::LocalDeclaration;
 use locals::push_finding;
 use next_uses::mark_next_uses;
-use search::cell;
+use use_words::number_of;
 use uses_by_node::is_overwritten;
 use uses_by_node::is_overwritten_unread;
 
-// A finding's word is list + 2 × local + 2^32 × (use number + 1, or 0 for an initial value).
+// A finding's word is list + LOCALS × local + USES × (use number + 1, or 0 for an initial value).
 const OVERWRITTEN: u64 = 1;
+
+const LOCALS: u64 = 2;
 
 const USES: u64 = 4294967296;
 
-// A local as its LOCAL declares it.
-pub struct LocalDeclaration {
-    pub local: usize,
-    pub node: usize,
-    pub scope_end: u64,
-    pub name_span: u64,
-    pub has_value: bool,
-}
-
-// The use k listed as an overwritten write.
-fn push_write(
-    use_span: &[u64],
-    finding_word: &mut [u64],
-    finding_span: &mut [u64],
-    count: usize,
-    local: usize,
-    k: usize,
-) -> usize
-    requires { ⌜ (local < 1024) × (k < 1024) × (k < length (now «use_span»)) ⌝ }
-    requires { ⌜ Room 1 count (now «finding_word») (now «finding_span») ⌝ }
-    ensures { λ r. ⌜ r ≤ count + 1 ⌝ }
-    ensures { λ r. ⌜ ((u : Use) → u .number ≡ k → u .span ≡ getD (held «use_span») k 0 → Adds (ofUse 1 local u ∷ []) count «finding_word» «finding_span» r) ⌝ }
+// A use listed as an overwritten write. The result is the number of findings.
+fn push_write(finding_word: &mut [u64], count: usize, local: usize, word: u64) -> usize
+    requires { ⌜ (local < 1024) × Room 1 count (now «finding_word») ⌝ }
+    ensures { λ r. ⌜ Adds (writeWord local (useOf word) ∷ []) count «finding_word» r ⌝ }
 {
-    let word = OVERWRITTEN + 2 * local as u64 + USES * (k as u64 + 1);
-    push_finding(finding_word, finding_span, count, word, use_span[k])
+    let number = number_of(word) as u64;
+    push_finding(
+        finding_word,
+        count,
+        OVERWRITTEN + LOCALS * local as u64 + USES * (number + 1),
+    )
 }
 
 // The use at place i listed, if it is a write that is overwritten.
 fn push_if_overwritten(
     first: &[u64],
     second: &[u64],
-    use_word: &[u64],
-    use_node: &[u16],
-    use_span: &[u64],
-    sorted: &[u16],
+    sorted: &[u64],
     reads: &[u16],
     writes: &[u16],
     finding_word: &mut [u64],
-    finding_span: &mut [u64],
     n: usize,
     stamp: u16,
     local: usize,
     count: usize,
     i: usize,
 ) -> usize
-    requires { ⌜ Fits n (now first) (now second) (table (now «use_word») (now «use_node») (now sorted)) (now «use_span») ⌝ }
-    requires { ⌜ (n ≤ length (now reads)) × (n ≤ length (now writes)) ⌝ }
-    requires { ⌜ (i < length (now sorted)) × (local < 1024) ⌝ }
-    requires { ⌜ Room 1 count (now «finding_word») (now «finding_span») ⌝ }
-    ensures { λ r. ⌜ r ≤ count + 1 ⌝ }
-    ensures { λ r. ⌜ ForMarked stamp n first second «use_word» «use_node» «use_span» sorted reads writes (λ g a us. AddsAt n us i (writeOf g a local) count «finding_word» «finding_span» r) ⌝ }
+    requires { ⌜ Hold n (now first) (now second) (now reads) (now writes) × AllPlaced n (now sorted) × Rising (now sorted) ⌝ }
+    requires { ⌜ (i < length (now sorted)) × (local < 1024) × Room 1 count (now «finding_word») ⌝ }
+    ensures { λ r. ⌜ Adds (map (writeWord local) (onlyIf (isOverwritten (edges n first second) (marked stamp n reads writes) (useOf (getD (held sorted) i 0)) (usesIn (drop (i + 1) (held sorted)))) (useOf (getD (held sorted) i 0) ∷ []))) count «finding_word» r ⌝ }
 {
-    if is_overwritten(
-        first,
-        second,
-        use_word,
-        use_node,
-        sorted,
-        reads,
-        writes,
-        n,
-        stamp,
-        i,
-    ) {
-        let k = cell(sorted, i);
-        push_write(use_span, finding_word, finding_span, count, local, k)
+    if is_overwritten(first, second, sorted, reads, writes, n, stamp, i) {
+        push_write(finding_word, count, local, sorted[i])
     } else {
         count
     }
@@ -97,25 +68,19 @@ fn push_if_overwritten(
 fn list_writes(
     first: &[u64],
     second: &[u64],
-    use_word: &[u64],
-    use_node: &[u16],
-    use_span: &[u64],
-    sorted: &[u16],
+    sorted: &[u64],
     reads: &[u16],
     writes: &[u16],
     finding_word: &mut [u64],
-    finding_span: &mut [u64],
     n: usize,
     stamp: u16,
     local: usize,
     before: usize,
 ) -> usize
-    requires { ⌜ Fits n (now first) (now second) (table (now «use_word») (now «use_node») (now sorted)) (now «use_span») ⌝ }
-    requires { ⌜ (n ≤ length (now reads)) × (n ≤ length (now writes)) ⌝ }
-    requires { ⌜ local < 1024 ⌝ }
-    requires { ⌜ Room (length (now sorted)) before (now «finding_word») (now «finding_span») ⌝ }
+    requires { ⌜ Hold n (now first) (now second) (now reads) (now writes) × AllPlaced n (now sorted) × Rising (now sorted) ⌝ }
+    requires { ⌜ (local < 1024) × Room (length (now sorted)) before (now «finding_word») ⌝ }
+    ensures { λ r. ⌜ Adds (writeWords local (edges n first second) (marked stamp n reads writes) (usesIn (held sorted))) before «finding_word» r ⌝ }
     ensures { λ r. ⌜ r ≤ before + length (held sorted) ⌝ }
-    ensures { λ r. ⌜ ForMarked stamp n first second «use_word» «use_node» «use_span» sorted reads writes (λ g a us. Adds (writesOf g a local n us) before «finding_word» «finding_span» r) ⌝ }
 {
     let mut count = before;
     let mut i = 0;
@@ -123,14 +88,10 @@ fn list_writes(
         count = push_if_overwritten(
             first,
             second,
-            use_word,
-            use_node,
-            use_span,
             sorted,
             reads,
             writes,
             finding_word,
-            finding_span,
             n,
             stamp,
             local,
@@ -142,35 +103,27 @@ fn list_writes(
     count
 }
 
-// The initial value listed, if the local has one that is overwritten.
+// The initial value, set at `node`, listed if the local has one that is overwritten.
 fn push_initial(
     first: &[u64],
     second: &[u64],
     reads: &[u16],
     writes: &[u16],
     finding_word: &mut [u64],
-    finding_span: &mut [u64],
     n: usize,
     stamp: u16,
-    declaration: LocalDeclaration,
+    node: usize,
+    local: usize,
+    has_value: bool,
     count: usize,
 ) -> usize
-    requires { ⌜ (n ≤ length (now first)) × (n ≤ length (now second)) × (n ≤ length (now reads)) × (n ≤ length (now writes)) × (declaration .node < n) × (declaration .local < 1024) ⌝ }
-    requires { ⌜ Room 1 count (now «finding_word») (now «finding_span») ⌝ }
+    requires { ⌜ Hold n (now first) (now second) (now reads) (now writes) × (node < n) × (local < 1024) × Room 1 count (now «finding_word») ⌝ }
+    ensures { λ r. ⌜ Adds (initialWords local «has_value» (edges n first second) (marked stamp n reads writes) node) count «finding_word» r ⌝ }
     ensures { λ r. ⌜ r ≤ count + 1 ⌝ }
-    ensures { λ r. ⌜ ForAhead stamp n first second reads writes (λ g a. Adds (initialOf g a declaration) count «finding_word» «finding_span» r) ⌝ }
 {
-    if declaration.has_value {
-        let node = declaration.node;
+    if has_value {
         if is_overwritten_unread(first, second, reads, writes, n, stamp, node) {
-            let word = OVERWRITTEN + 2 * declaration.local as u64;
-            return push_finding(
-                finding_word,
-                finding_span,
-                count,
-                word,
-                declaration.name_span,
-            );
+            return push_finding(finding_word, count, OVERWRITTEN + LOCALS * local as u64);
         }
     }
     count
@@ -180,50 +133,42 @@ fn push_initial(
 fn list_values(
     first: &[u64],
     second: &[u64],
-    use_word: &[u64],
-    use_node: &[u16],
-    use_span: &[u64],
-    sorted: &[u16],
+    sorted: &[u64],
     reads: &[u16],
     writes: &[u16],
     finding_word: &mut [u64],
-    finding_span: &mut [u64],
     n: usize,
-    stamp: u16,
-    declaration: LocalDeclaration,
+    node: usize,
+    local: usize,
+    has_value: bool,
     before: usize,
 ) -> usize
-    requires { ⌜ Fits n (now first) (now second) (table (now «use_word») (now «use_node») (now sorted)) (now «use_span») ⌝ }
-    requires { ⌜ (n ≤ length (now reads)) × (n ≤ length (now writes)) ⌝ }
-    requires { ⌜ (declaration .node < n) × (declaration .local < 1024) ⌝ }
-    requires { ⌜ Room (1 + length (now sorted)) before (now «finding_word») (now «finding_span») ⌝ }
+    requires { ⌜ Hold n (now first) (now second) (now reads) (now writes) × AllPlaced n (now sorted) × Rising (now sorted) ⌝ }
+    requires { ⌜ (node < n) × (local < 1024) × Room (1 + length (now sorted)) before (now «finding_word») ⌝ }
+    ensures { λ r. ⌜ Adds (valueWords local «has_value» (edges n first second) (marked (local + 1) n reads writes) node (usesIn (held sorted))) before «finding_word» r ⌝ }
     ensures { λ r. ⌜ r ≤ before + 1 + length (held sorted) ⌝ }
-    ensures { λ r. ⌜ ForMarked stamp n first second «use_word» «use_node» «use_span» sorted reads writes (λ g a us. Adds (valuesOf g a declaration n us) before «finding_word» «finding_span» r) ⌝ }
 {
+    let stamp = local as u16 + 1;
     let count = push_initial(
         first,
         second,
         reads,
         writes,
         finding_word,
-        finding_span,
         n,
         stamp,
-        declaration,
+        node,
+        local,
+        has_value,
         before,
     );
-    let local = declaration.local;
     list_writes(
         first,
         second,
-        use_word,
-        use_node,
-        use_span,
         sorted,
         reads,
         writes,
         finding_word,
-        finding_span,
         n,
         stamp,
         local,
@@ -231,71 +176,55 @@ fn list_values(
     )
 }
 
-// The marks of a local's next uses made, and its overwritten values listed.
+// The marks of a local's next uses made, and its overwritten values listed. Its stamp is its number + 1.
 pub fn judge_local(
     first: &[u64],
     second: &[u64],
     start: &[u64],
-    head: &[u16],
-    next_a: &[u16],
-    next_b: &[u16],
-    use_word: &[u64],
-    use_node: &[u16],
-    use_span: &[u64],
-    sorted: &[u16],
+    chain: &[u64],
+    sorted: &[u64],
     used: &mut [u16],
     reads: &mut [u16],
     writes: &mut [u16],
     stack: &mut [u16],
     finding_word: &mut [u64],
-    finding_span: &mut [u64],
     n: usize,
     declaration: LocalDeclaration,
+    local: usize,
+    has_value: bool,
     count: usize,
 ) -> usize
-    requires { ⌜ Fits n (now first) (now second) (table (now «use_word») (now «use_node») (now sorted)) (now «use_span») × (n ≤ length (now start)) ⌝ }
-    requires { ⌜ Linked (take n (now first)) (take n (now second)) n n (now head) (now «next_a») (now «next_b») ⌝ }
-    requires { ⌜ (declaration .node < n) × (declaration .local < 1024) ⌝ }
-    requires { ⌜ Unmarked (declaration .local + 1) n (now used) (now reads) (now writes) (now stack) ⌝ }
-    requires { ⌜ Room (1 + length (now sorted)) count (now «finding_word») (now «finding_span») ⌝ }
+    requires { ⌜ (n ≤ 1600) × (n ≤ length (now first)) × (n ≤ length (now second)) × (n ≤ length (now start)) ⌝ }
+    requires { ⌜ Linked (take n (now first)) (take n (now second)) n n (now chain) × AllPlaced n (now sorted) × Rising (now sorted) ⌝ }
+    requires { ⌜ (declaration .node < n) × (local < 1024) × Unmarked (local + 1) n (now used) (now reads) (now writes) (now stack) ⌝ }
+    requires { ⌜ Room (1 + length (now sorted)) count (now «finding_word») ⌝ }
+    ensures { λ r. ⌜ Adds (judgedWords local «has_value» (charted n first second start) (declared declaration) (usesIn (held sorted))) count «finding_word» r ⌝ }
     ensures { λ r. ⌜ r ≤ count + 1 + length (held sorted) ⌝ }
-    ensures { λ r. ⌜ ForStands n first second start «use_word» «use_node» «use_span» sorted (λ g us. Adds (judgedOf g declaration n us) count «finding_word» «finding_span» r) ⌝ }
-    ensures { λ _. ⌜ Unmarked (declaration .local + 2) n (left used) (left reads) (left writes) (left stack) ⌝ }
+    ensures { λ _. ⌜ Unmarked (local + 2) n (left used) (left reads) (left writes) (left stack) ⌝ }
 {
-    let node = declaration.node;
-    let scope_end = declaration.scope_end;
-    let stamp = (declaration.local + 1) as u16;
     mark_next_uses(
         start,
-        head,
-        next_a,
-        next_b,
-        use_word,
-        use_node,
+        chain,
         sorted,
         used,
         reads,
         writes,
         stack,
         n,
-        node,
-        scope_end,
-        stamp,
+        declaration,
+        local as u16 + 1,
     );
     list_values(
         first,
         second,
-        use_word,
-        use_node,
-        use_span,
         sorted,
         reads,
         writes,
         finding_word,
-        finding_span,
         n,
-        stamp,
-        declaration,
+        declaration.node,
+        local,
+        has_value,
         count,
     )
 }

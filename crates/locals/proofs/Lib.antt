@@ -1,4 +1,2 @@
-pub mod Facts
 pub mod Entries
 pub mod Columns
-pub mod Room

@@ -1,19 +1,19 @@
--- What the columns that the passes over locals read stand for: the graph and the names of a sheet S, and the uses of a use sheet U.
+-- The pair's tables: what the columns that the passes over locals read stand for, of a sheet S and a use sheet U.
 -- Assumes nothing: these are definitions.
 use Prim.Native.Nat.{ℕ, _+_, _<_, _≤_}
 use mathlib.Core.Path.{_≡_}
-use mathlib.Core.Logic.{_↔_}
-use mathlib.Core.Bool.{true}
 use mathlib.Core.List.{List, map}
 use lib.ListN.{length, getD, take}
 use Rattle.search.specs.Lent.{Column, held}
-use Rattle.flow.specs.Sheet.{useWords, useSpans, startOf}
+use Rattle.flow.specs.Sheet.{useWords}
 use Rattle.flow.specs.Graph.{nodeCount, graph}
-use Rattle.flow.specs.Reachable.{nodeAt, nodeOf}
-use Rattle.flow.specs.Locals.{locals}
+use Rattle.flow.specs.Locals.{locals, localAt}
 use Rattle.flow.specs.Findings.{Use, usesOf, allFound}
+use Rattle.use_words.specs.Words.{usesIn, spanless, AllPlaced}
 use Rattle.bucket_sort.specs.Grouped.{part}
 use Rattle.live_steps.specs.Walk.{Charts, Long}
+use Rattle.uses_by_node.specs.Uses.{byNode}
+use Rattle.facts.specs.Facts.{factsWith}
 
 -- the first n cells are the nodes of the graph
 pub record Charted (S : List ℕ) (n : ℕ) (first second start : List ℕ) : Type 0 where
@@ -33,31 +33,10 @@ pub record Named (S : List ℕ) (n names : ℕ) (nameNode nameEnd : List ℕ) : 
   pub ends-long : names ≤ length nameEnd
   pub within : (ℓ : ℕ) → ℓ < names → getD nameNode ℓ 0 < n
 
--- and their spans
-pub record Spanned (S : List ℕ) (names : ℕ) (nameSpan : List ℕ) : Type 0 where
-  pub spans : graph S .names .span ≡ take names nameSpan
-  pub spans-long : names ≤ length nameSpan
-
--- the uses: each one's word, span and node, and the locals with a use that finds no node
-pub record Located (S U : List ℕ) (n names : ℕ) (words spans nodes lost : List ℕ) : Type 0 where
-  pub words-are : words ≡ useWords U
-  pub spans-are : spans ≡ useSpans U
-  pub few : length words ≤ 1024
-  pub same : length spans ≡ length words
-  pub nodes-long : length words ≤ length nodes
-  pub lost-long : names ≤ length lost
-  pub within : (u : ℕ) → u < length words → getD nodes u 0 < n
-  pub node : (u : ℕ) → u < length words → nodeOf (nodeAt (graph S) (startOf (getD (useSpans U) u 0))) ≡ getD nodes u 0
-  pub kept : (ℓ : ℕ) → ℓ < names → (getD lost ℓ 0 ≡ 0) ↔ (allFound (usesOf S U ℓ) ≡ true)
-
--- a column of use numbers, m in all, with a part for each local: the numbers of its uses in some order
-pub record Parts (list : ℕ → List Use) (m names : ℕ) (starts column : List ℕ) : Type 0 where
-  pub starts-long : names < length starts
-  pub column-long : m ≤ length column
-  pub rising : (ℓ : ℕ) → ℓ < names → getD starts ℓ 0 ≤ getD starts (ℓ + 1) 0
-  pub within : (ℓ : ℕ) → ℓ ≤ names → getD starts ℓ 0 ≤ m
-  pub holds : (ℓ : ℕ) → ℓ < names → part (getD starts ℓ 0) (getD starts (ℓ + 1) 0) column ≡ map (λ u. u .number) (list ℓ)
-  pub numbers : (ℓ : ℕ) → ℓ < names → (i : ℕ) → i < length (part (getD starts ℓ 0) (getD starts (ℓ + 1) 0) column) → getD (part (getD starts ℓ 0) (getD starts (ℓ + 1) 0) column) i 0 < m
+-- the facts of each name, with whether all its uses find a node
+pub record Known (S U : List ℕ) (names : ℕ) (facts : List ℕ) : Type 0 where
+  pub long : names ≤ length facts
+  pub facts-are : (ℓ : ℕ) → ℓ < names → getD facts ℓ 0 ≡ factsWith (localAt S ℓ) (allFound (usesOf S U ℓ))
 
 -- the local ℓ has a part of a column, by its start and the next one's
 pub record Cut (ℓ : ℕ) (starts column : List ℕ) : Type 0 where
@@ -71,3 +50,30 @@ partAt ℓ starts column = part (getD starts ℓ 0) (getD starts (ℓ + 1) 0) co
 -- of lent columns
 abbrev pub heldPart : ℕ → Column → Column → List ℕ
 heldPart ℓ starts column = partAt ℓ (held starts) (held column)
+
+-- a column of the words of m uses, with a part for each local: its uses, as `list` orders them
+pub record Parts (list : ℕ → List Use) (m n names : ℕ) (starts column : List ℕ) : Type 0 where
+  pub few : m ≤ 1024
+  pub starts-long : names < length starts
+  pub column-long : m ≤ length column
+  pub rising : (ℓ : ℕ) → ℓ < names → getD starts ℓ 0 ≤ getD starts (ℓ + 1) 0
+  pub within : (ℓ : ℕ) → ℓ ≤ names → getD starts ℓ 0 ≤ m
+  pub holds : (ℓ : ℕ) → ℓ < names → usesIn (partAt ℓ starts column) ≡ map spanless (list ℓ)
+  pub placed : (ℓ : ℕ) → ℓ < names → AllPlaced n (partAt ℓ starts column)
+
+-- "writes by node, use order within a node": a local's uses so
+abbrev pub usesByNode : List ℕ → List ℕ → ℕ → ℕ → List Use
+usesByNode S U n ℓ = byNode n (usesOf S U ℓ)
+
+-- the tables of a pair: facts of names, and the uses by local, in use order and by node
+pub record Tables (S U : List ℕ) (n names : ℕ) (facts starts byLocal byNode : List ℕ) : Type 0 where
+  pub known : Known S U names facts
+  pub in-use-order : Parts (usesOf S U) (length (useWords U)) n names starts byLocal
+  pub in-node-order : Parts (usesByNode S U n) (length (useWords U)) n names starts byNode
+
+-- what a pass over all locals reads: the graph, the names, and the tables with the uses in one order
+pub record Pass (list : ℕ → List Use) (S U : List ℕ) (n names : ℕ) (first second start nameNode nameEnd facts starts column : List ℕ) : Type 0 where
+  pub charted : Charted S n first second start
+  pub named : Named S n names nameNode nameEnd
+  pub known : Known S U names facts
+  pub parts : Parts list (length (useWords U)) n names starts column

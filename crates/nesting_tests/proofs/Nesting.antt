@@ -9,11 +9,12 @@ use native.Mathlib.Omega.{arith}
 use lib.Dec.{eqb, leb, ltb, leb·suc-suc}
 use lib.ListN.{length}
 use borrow.Author.Tests.{ltb-false, eqb-true, leb-true}
+use Rattle.search.proofs.Bools.{neither, and-both}
 use Rattle.flow.specs.Kinds.{opens, closes}
 use Rattle.flow.specs.Refusals.{one, outnumbered, mayStand, openAfter}
 use Rattle.flow.specs.Sheet.{Item, kind, member}
 use Rattle.nesting_tests.specs.Stack.{stackOf}
-use Rattle.sheet_tests.proofs.Bools.{or-parts, and-parts}
+
 use Rattle.nesting_tests.proofs.Stacks.{length-stackOf}
 
 -- an opener and a closer more cancel out
@@ -30,11 +31,11 @@ cancel o c (i ∷ is) =
 first-most : (o c : ℕ) (is : List Item) → outnumbered o c is ≡ false → o ≤ c + 64
 unfolding outnumbered
 first-most o c [] e = ltb-false (c + 64) o e
-first-most o c (i ∷ is) e = ltb-false (c + 64) o (or-parts _ _ e .0)
+first-most o c (i ∷ is) e = ltb-false (c + 64) o (neither _ _ e .0)
 
 later : (o c : ℕ) (i : Item) (is : List Item) → outnumbered o c (i ∷ is) ≡ false → outnumbered (o + one (opens (kind i))) (c + one (closes (kind i))) is ≡ false
 unfolding outnumbered
-later o c i is e = or-parts (ltb (c + 64) o) _ e .1
+later o c i is e = neither (ltb (c + 64) o) _ e .1
 
 -- no closer is an opener
 not-both : (k : ℕ) (b : Bool) → closes k ≡ true → opens k ≡ b → b ≡ false
@@ -42,7 +43,7 @@ not-both k false e h = refl
 not-both k true e h = absurd (go (eqb k 8) refl e)
   where
     small : k ≤ 5
-    small = leb-true k 5 (and-parts (leb 1 k) (leb k 5) h .1)
+    small = leb-true k 5 (and-both (leb 1 k) (leb k 5) h .1)
 
     go : (t : Bool) → eqb k 8 ≡ t → (t || eqb k 9) ≡ true → ⊥
     go true p q = omega (arith, small, eqb-true k 8 p)

@@ -1,4 +1,3 @@
 pub mod Turns
 pub mod Walks
 pub mod Meets
-pub mod Callers

@@ -10,6 +10,7 @@ use borrow.Author.Tests.{lt-ltb, le-ltb}
 use lib.Dec.{eqb}
 use lib.ListN.{length, getD, take}
 use lib.Seq.{length-take-le, getD-take}
+use Rattle.search.proofs.Stamps.{getD-tail}
 use Rattle.flow.specs.declared.Found.the-variants.{At, Nothing}
 use Rattle.flow.specs.Sheet.{endOf}
 use Rattle.flow.specs.Graph.{Graph, nodeCount}
@@ -21,10 +22,6 @@ use Rattle.offsets.specs.Codes.{Rising, FirstPast}
 -- what ends at or before an offset takes all before it along
 pub through : (codes : ℕ) (spans : List ℕ) (o m : ℕ) → Rising codes spans → m < codes → endOf (getD spans m 0) ≤ o → (i : ℕ) → i < m + 1 → endOf (getD spans i 0) ≤ o
 through codes spans o m r h e i l = elim (ℕ-discrete i m) [ yes p ↦ rw p e | no q ↦ omega (arith, r i m (omega arith) h) ]
-
-getD-tail : (l : List ℕ) (i : ℕ) → getD (tail l) i 0 ≡ getD l (suc i) 0
-getD-tail [] i = refl
-getD-tail (x ∷ l) i = refl
 
 among-at : (spans nodes : List ℕ) (o r : ℕ) → ((i : ℕ) → i < r → endOf (getD spans i 0) ≤ o) → r < length spans → o < endOf (getD spans r 0) → nodeAmong spans nodes o ≡ At (getD nodes r 0)
 unfolding nodeAmong

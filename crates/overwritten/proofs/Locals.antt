@@ -2,15 +2,16 @@
 -- Assumes nothing.
 use Prim.Native.Nat.{ℕ, zero, suc, _+_, _-_, _≤_, _<_}
 use mathlib.Core.Path.{_≡_, refl, _∙_, subst}
-use mathlib.Core.List.{List}
+use mathlib.Core.List.{List, map-append}
 use native.Mathlib.Omega.{arith}
 use native.Mathlib.Numerals.{add-one}
 use lib.ListN.{length, getD, replicate, length-replicate}
-use Rattle.flow.specs.Findings.{overwrittenOf, ofEach}
+use Rattle.flow.specs.Locals.{Finding}
+use Rattle.flow.specs.Findings.{overwrittenOf, ofEach, wordsOf}
 use Rattle.locals.specs.Entries.{Room, Added}
+use Rattle.locals.proofs.Entries.{added-none, added-more}
 use Rattle.next_uses.specs.Backwards.{Unmarked}
 use Rattle.overwritten.specs.Pass.{Lent}
-use Rattle.locals.proofs.Entries.{added-none, added-append}
 
 -- where a stamp is new, the next one is
 pub later : (stamp : ℕ) {n : ℕ} {used reads writes stack : List ℕ} → Unmarked (stamp + 1) n used reads writes stack → Unmarked (stamp + 2) n used reads writes stack
@@ -26,39 +27,36 @@ later stamp u =
     }
 
 -- P says what the columns stand for
-module _ (P : List ℕ → List ℕ → Type 0) (starts : List ℕ) (n names before : ℕ) (w₀ s₀ : List ℕ) where
-  pub record Done (used reads writes stack w s : List ℕ) (count ℓ : ℕ) : Type 0 where
+module _ (P : List ℕ → List ℕ → Type 0) (starts : List ℕ) (n names before : ℕ) (w₀ : List ℕ) where
+  pub record Done (used reads writes stack w : List ℕ) (count ℓ : ℕ) : Type 0 where
     pub few : ℓ ≤ names
     pub counted : count ≤ before + ℓ + getD starts ℓ 0
     pub unmarked : Unmarked (ℓ + 1) n used reads writes stack
     pub words-long : length w ≡ length w₀
-    pub spans-long : length s ≡ length s₀
-    pub added : (S U : List ℕ) → P S U → Added (ofEach (overwrittenOf S U) ℓ) before w₀ s₀ count w s
+    pub added : (S U : List ℕ) → P S U → Added (wordsOf (ofEach (overwrittenOf S U) ℓ)) before w₀ count w
 
-  pub done-none : {used reads writes stack : List ℕ} → Unmarked 1 n used reads writes stack → Done used reads writes stack w₀ s₀ before 0
+  pub done-none : {used reads writes stack : List ℕ} → Unmarked 1 n used reads writes stack → Done used reads writes stack w₀ before 0
   unfolding ofEach
-  done-none u = record { few = omega arith; counted = omega arith; unmarked = u; words-long = refl; spans-long = refl; added = λ S U p. added-none }
+  done-none u = record { few = omega arith; counted = omega arith; unmarked = u; words-long = refl; added = λ S U p. added-none before w₀ }
 
   -- m uses stand in the parts
-  module _ (m : ℕ) (room : Room (names + m) before w₀ s₀) (rising : (ℓ : ℕ) → ℓ < names → getD starts ℓ 0 ≤ getD starts (ℓ + 1) 0) (within : (ℓ : ℕ) → ℓ ≤ names → getD starts ℓ 0 ≤ m) {used reads writes stack w s : List ℕ} {count ℓ : ℕ} (d : Done used reads writes stack w s count ℓ) (h : ℓ < names) where
-    pub room-here : Room (1 + (getD starts (ℓ + 1) 0 - getD starts ℓ 0)) count w s
-    room-here =
-        record {
-          words-hold = omega (arith, d .counted, d .words-long, room .words-hold, rising ℓ h, within (ℓ + 1) (omega arith));
-          spans-hold = omega (arith, d .counted, d .spans-long, room .spans-hold, rising ℓ h, within (ℓ + 1) (omega arith));
-        }
+  module _ (m : ℕ) (room : Room (names + m) before w₀) (rising : (ℓ : ℕ) → ℓ < names → getD starts ℓ 0 ≤ getD starts (ℓ + 1) 0) (within : (ℓ : ℕ) → ℓ ≤ names → getD starts ℓ 0 ≤ m) {used reads writes stack w : List ℕ} {count ℓ : ℕ} (d : Done used reads writes stack w count ℓ) (h : ℓ < names) where
+    pub room-here : Room (1 + (getD starts (ℓ + 1) 0 - getD starts ℓ 0)) count w
+    room-here = omega (arith, d .counted, d .words-long, room, rising ℓ h, within (ℓ + 1) (omega arith))
 
-    pub done-turn : {used₁ reads₁ writes₁ stack₁ w₁ s₁ : List ℕ} {r : ℕ} → r ≤ count + (1 + (getD starts (ℓ + 1) 0 - getD starts ℓ 0)) → Unmarked (ℓ + 2) n used₁ reads₁ writes₁ stack₁ → length w₁ ≡ length w → length s₁ ≡ length s → ((S U : List ℕ) → P S U → Added (overwrittenOf S U ℓ) count w s r w₁ s₁) → Done used₁ reads₁ writes₁ stack₁ w₁ s₁ r (ℓ + 1)
+    pub done-turn : {used₁ reads₁ writes₁ stack₁ w₁ : List ℕ} {r : ℕ} → r ≤ count + (1 + (getD starts (ℓ + 1) 0 - getD starts ℓ 0)) → Unmarked (ℓ + 2) n used₁ reads₁ writes₁ stack₁ → length w₁ ≡ length w → ((S U : List ℕ) → P S U → Added (wordsOf (overwrittenOf S U ℓ)) count w r w₁) → Done used₁ reads₁ writes₁ stack₁ w₁ r (ℓ + 1)
     unfolding ofEach
-    done-turn {used₁} {reads₁} {writes₁} {stack₁} {w₁} {s₁} {r} b u lw ls a =
+    done-turn {used₁} {reads₁} {writes₁} {stack₁} {w₁} {r} b u lw a =
         let next : ℓ + 2 ≡ ℓ + 1 + 1 = omega arith in
         record {
           few = omega arith;
           counted = omega (arith, b, d .counted, rising ℓ h);
           unmarked = subst (λ (k : ℕ). Unmarked k n used₁ reads₁ writes₁ stack₁) next u;
           words-long = lw ∙ d .words-long;
-          spans-long = ls ∙ d .spans-long;
-          added = λ S U p. rw (add-one ℓ) (added-append (omega (arith, d .counted, room .words-hold, within ℓ (omega arith))) (omega (arith, d .counted, room .spans-hold, within ℓ (omega arith))) (d .added S U p) (a S U p));
+          added = λ S U p.
+              let q = d .added S U p in
+              rw (add-one ℓ, map-append (λ (f : Finding). f .word) (ofEach (overwrittenOf S U) ℓ) (overwrittenOf S U ℓ))
+              (added-more q (omega (arith, q .counted, d .counted, room, within ℓ (omega arith))) (a S U p));
         }
 
 -- ---- arrays of zeros
@@ -69,11 +67,11 @@ blank (suc k) zero = refl
 blank (suc k) (suc v) = blank k v
 
 -- that hold n nodes
-pub lent : (n k : ℕ) → n ≤ k → Lent n (replicate k 0) (replicate k 0) (replicate k 0) (replicate k 0) (replicate k 0) (replicate k 0) (replicate k 0)
+pub lent : (n k : ℕ) → n ≤ k → Lent n (replicate k 0) (replicate k 0) (replicate k 0) (replicate k 0) (replicate k 0)
 lent n k h =
     let long : n ≤ length (replicate {A = ℕ} k 0) = omega (arith, length-replicate {A = ℕ} k 0) in
     record {
-      blank = record { head-holds = long; a-holds = long; b-holds = long; none = λ v l. blank k v };
+      blank = record { holds = long; none = λ v l. blank k v };
       unmarked = record {
         used-holds = long;
         reads-hold = long;

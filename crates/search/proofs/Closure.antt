@@ -13,7 +13,7 @@ use Rattle.search.specs.Search.{In, Reach, here, on, marked, spread, swe
 use Rattle.search.proofs.Count.{zeros-set, zeros-le}
 
 -- a number of at most 1 is 0 or 1
-pub bit : (x : ℕ) → x ≤ 1 → (x ≡ 0) ⊎ (x ≡ 1)
+bit : (x : ℕ) → x ≤ 1 → (x ≡ 0) ⊎ (x ≡ 1)
 bit zero h = inl refl
 bit (suc zero) h = inr refl
 bit (suc (suc n)) h = absurd (omega arith)
@@ -29,6 +29,7 @@ pub record Grows (n : ℕ) (s t : List ℕ) : Type 0 where
 grows-refl : (n : ℕ) (s : List ℕ) → Grows n s s
 grows-refl n s = record { len = refl; bits = λ b. b; mono = λ v e. e; fewer = λ b. le-refl _; still = λ b e. refl }
 
+-- one step of growth and another (`grows-trans`)
 grows-trans : {n : ℕ} {s t r : List ℕ} → Grows n s t → Grows n t r → Grows n s r
 grows-trans {n} {s} {t} {r} g h =
     record {
@@ -206,7 +207,8 @@ module _ (n : ℕ) where
         sound-rounds n (marked starts s₀) l₁ (g₁ .bits b₀)
         (sound-marked starts s₀ hs l₀ (λ v e. absurd (omega (arith, zero-all n v))) (λ v i. here i))
 
-    reach-node : (v : ℕ) → Reach starts step v → v < n
+    -- a path leads to a node
+    pub reach-node : (v : ℕ) → Reach starts step v → v < n
     reach-node v (here i) = hs v i
     reach-node v (on {u = u} r i) = ht u v i
 
@@ -215,3 +217,9 @@ module _ (n : ℕ) where
     closure-complete v (here i) = g₂ .mono v (marked-all starts s₀ hs l₀ v i)
     closure-complete v (on {u = u} r i) =
         rounds-closed n (marked starts s₀) l₁ (g₁ .bits b₀) (zeros-le n (marked starts s₀)) u (reach-node u r) (closure-complete u r) v i
+
+    -- what is 1 where a path leads to v, else 0, is the flag of v
+    pub flag-decided : (v x : ℕ) → x ≤ 1 → (x ≡ 1 → Reach starts step v) → (Reach starts step v → x ≡ 1) → x ≡ getD (closure starts step n) v 0
+    flag-decided v x b f g =
+        ⊎-elim (λ z. ⊎-elim (λ y. z ∙ sym y) (λ o. absurd (omega (arith, g (closure-sound v o)))) (bit (getD (closure starts step n) v 0) (closure-bits v)))
+        (λ o. o ∙ sym (closure-complete v (f o))) (bit x b)

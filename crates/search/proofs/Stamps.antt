@@ -12,11 +12,12 @@ use borrow.Author.Tests.{eq-eqb, ne-eqb, eqb-true, eqb-false}
 use lib.Dec.{eqb}
 use lib.ListN.{length, getD, set, length-set}
 use lib.Seq.{getD-set-same, getD-set-other, ext-getD}
-use Rattle.search.specs.Search.{cons-if}
+use Rattle.search.specs.Search.{cons-if, zeros}
 use Rattle.search.specs.Worklist.{State, st, push, pushAll, pop, topmost}
 use Rattle.search.specs.Stamps.{flagOf, flagsOf, Fresh, Stamped, stamped, stampPush, stampAll, stampWhen, flagged, Ready}
+use Rattle.search.proofs.Count.{zeros-all}
 use Rattle.search.proofs.Closure.{Nodes, closure-length}
-use Rattle.search.proofs.Worklist.{push-fresh, push-known, room-new, room-empty, all-moved, pop-moved, Search, Going, flags, begin, rebase, turn, falls, flag-is, stacked-node, measure}
+use Rattle.search.proofs.Worklist.{push-fresh, push-known, room-new, room-empty, all-moved, pop-moved, Search, Going, flags, begin, rebase, turn, falls, flag-is, stacked-node, measure, waiting, all-waiting}
 
 -- ---- flags
 
@@ -25,7 +26,7 @@ unfolding flagsOf
 flags-length stamp zero m = refl
 flags-length stamp (suc n) m = ap suc (flags-length stamp n (tail m))
 
-getD-tail : (m : List ℕ) (v : ℕ) → getD (tail m) v 0 ≡ getD m (suc v) 0
+pub getD-tail : (m : List ℕ) (v : ℕ) → getD (tail m) v 0 ≡ getD m (suc v) 0
 getD-tail [] v = refl
 getD-tail (x ∷ m) v = refl
 
@@ -34,6 +35,10 @@ unfolding flagsOf
 flag-at stamp zero m v h = absurd (not-suc-le-zero h)
 flag-at stamp (suc n) m zero h = refl
 flag-at stamp (suc n) m (suc v) h = flag-at stamp n (tail m) v (le-of-suc-le-suc h) ∙ ap (λ (x : ℕ). flagOf (eqb x stamp)) (getD-tail m v)
+
+pub flag-test : (b : Bool) → eqb (flagOf b) 1 ≡ b
+flag-test true = refl
+flag-test false = refl
 
 module _ (stamp n : ℕ) (m : List ℕ) (v : ℕ) (h : v < n) where
   pub flag-on : getD m v 0 ≡ stamp → getD (flagsOf stamp n m) v 0 ≡ 1
@@ -190,3 +195,37 @@ module _ (stamp : ℕ) (g : Search) where
         let n = g .n in
         ext-getD 0 (flagsOf stamp n (s .marks)) (flags g) (flags-length stamp n (s .marks) ∙ sym (closure-length n (g .starts) (g .next) (g .starts-in) (g .next-in)))
         (λ i l. flag-is g (u .going) e i (omega (arith, flags-length stamp n (s .marks))))
+
+-- ---- a search that counts its turns
+
+-- after so many turns: each node has been taken off the stack, stands on it, or is not marked
+pub record Counted (stamp : ℕ) (g : Search) (s : State) (count : ℕ) : Type 0 where
+  pub underway : Underway stamp g s
+  pub counted : count + waiting (g .n) (flagged stamp (g .n) s) ≡ g .n
+
+module _ (stamp : ℕ) (g : Search) where
+  -- pushes of a list leave as many waiting as there were
+  waiting-same : (vs : List ℕ) {s t : State} → Nodes (g .n) vs → Ready stamp (g .n) s → t ≡ stampAll stamp vs s → waiting (g .n) (flagged stamp (g .n) t) ≡ waiting (g .n) (flagged stamp (g .n) s)
+  waiting-same vs {s} h r q =
+      let n = g .n in
+      ap (λ (x : State). waiting n (flagged stamp n x)) q ∙ ap (waiting n) (all-law stamp n vs s h (r .long) .0) ∙ all-waiting n vs (flagged stamp n s) h (r .fits)
+
+  pub count-begin : (m k : List ℕ) (s : State) → g .n ≤ length m → g .n ≤ length k → Fresh stamp m → s ≡ stampAll stamp (g .starts) (st m k 0) → Counted stamp g s 0
+  count-begin m k s lm lk f q =
+      let r = ready-empty stamp (g .n) m k lm lk in
+      record {
+        underway = stamp-begin stamp g m k s lm lk f q;
+        counted = omega (arith, waiting-same (g .starts) {t = s} (g .starts-in) r q, zeros-all (g .n) (flagsOf stamp (g .n) m) (r .fits .marks-long) (fresh-flags stamp (g .n) m f));
+      }
+
+  module _ {s : State} {count : ℕ} (c : Counted stamp g s count) where
+    pub count-turn : (p : 0 < s .top) (t : State) → t ≡ stampAll stamp (g .next (topmost s)) (pop s) → Counted stamp g t (count + 1)
+    count-turn p t q =
+        record {
+          underway = stamp-turn stamp g (c .underway) p t q;
+          counted = omega (arith, waiting-same (g .next (topmost s)) {t = t} (g .next-in (topmost s)) (pop-ready stamp g (c .underway) p) q, c .counted);
+        }
+
+    -- once the stack is empty, as many nodes were taken off it as are marked
+    pub count-end : s .top ≡ 0 → count + zeros (g .n) (flags g) ≡ g .n
+    count-end e = subst (λ (l : List ℕ). count + zeros (g .n) l ≡ g .n) (stamp-end stamp g (c .underway) e) (omega (arith, c .counted))

@@ -14,8 +14,10 @@ use lib.ListN.{length, getD, set, take, drop, replicate, length-set, length-repl
 use lib.Seq.{getD-set-same, getD-set-other, drop-set-lt, drop-at, ext-getD, getD-take, length-take-le}
 use Rattle.search.specs.Search.{In, Reach, here, on, closure, zeros, cons-if, filter}
 use Rattle.search.specs.Worklist.{State, st, pushed, push, pushAll, pushWhen, pushIf, pop, topmost, Room}
+use Rattle.search.specs.Engines.{Marks}
 use Rattle.search.proofs.Count.{zeros-set, zeros-le}
-use Rattle.search.proofs.Closure.{bit, Nodes, closure-length, closure-bits, closure-sound, closure-complete}
+use Rattle.search.proofs.Closure.{Nodes, reach-node, closure-length}
+use Rattle.search.proofs.Engines.{mark-is}
 
 -- ---- what pushes and pops leave as it was
 
@@ -125,15 +127,14 @@ pub record Walk (g : Search) (pend : List ℕ) (s : State) : Type 0 where
   pub pending : (v : ℕ) → In v pend → Reach (g .starts) (g .next) v
 
 module _ (g : Search) where
-  reach-node : (v : ℕ) → Reach (g .starts) (g .next) v → v < g .n
-  reach-node v (here i) = g .starts-in v i
-  reach-node v (on {u = u} r i) = g .next-in u v i
+  reached-node : (v : ℕ) → Reach (g .starts) (g .next) v → v < g .n
+  reached-node = reach-node (g .n) (g .starts) (g .next) (g .starts-in) (g .next-in)
 
   -- ---- a push, by whether the node has its mark
 
   module _ (v : ℕ) (pend : List ℕ) (s : State) (r : Room (g .n) s) (w : Walk g (v ∷ pend) s) where
     in-graph : v < g .n
-    in-graph = reach-node v (w .pending v (inl refl))
+    in-graph = reached-node v (w .pending v (inl refl))
 
     module _ (z : getD (s .marks) v 0 ≡ 0) where
       top-in : s .top < length (s .stack)
@@ -259,7 +260,7 @@ module _ (g : Search) where
   module _ {e s : State} (h : Going g e s) where
     -- what stands on the stack is a node
     pub stacked-node : (i : ℕ) → i < s .top → getD (s .stack) i 0 < g .n
-    stacked-node i j = reach-node g (getD (s .stack) i 0) (h .walk .stacked i j)
+    stacked-node i j = reached-node g (getD (s .stack) i 0) (h .walk .stacked i j)
 
     module _ (p : 0 < s .top) (t : State) (q : t ≡ pushAll (g .next (topmost s)) (pop s)) where
       popping : Moved (g .n) s (pop s)
@@ -283,17 +284,17 @@ module _ (g : Search) where
       only x (inl m) = m
       only x (inr b) = absurd b
 
-      complete : (v : ℕ) → Reach (g .starts) (g .next) v → getD (s .marks) v 0 ≡ 1
-      complete v (here i) = only v (h .walk .begun v i)
-      complete v (on {u = u} r i) =
-          ⊎-elim (λ o. absurd (omega (arith, o .below))) (λ c. only v (c v i)) (h .walk .closed u (reach-node g u r) (complete u r))
+      ended : Marks (g .n) (g .starts) (g .next) (s .marks)
+      ended =
+          record {
+            bits = h .walk .bits;
+            sound = h .walk .sound;
+            begun = λ v i. only v (h .walk .begun v i);
+            closed = λ u l m v i. ⊎-elim (λ o. absurd (omega (arith, o .below))) (λ c. only v (c v i)) (h .walk .closed u l m);
+          }
 
       pub flag-is : (v : ℕ) → v < g .n → getD (s .marks) v 0 ≡ getD flags v 0
-      flag-is v l =
-          ⊎-elim
-          (λ z. ⊎-elim (λ y. z ∙ sym y) (λ o. absurd (omega (arith, complete v (closure-sound (g .n) (g .starts) (g .next) (g .starts-in) (g .next-in) v o)))) (bit (getD flags v 0) (closure-bits (g .n) (g .starts) (g .next) (g .starts-in) (g .next-in) v)))
-          (λ o. o ∙ sym (closure-complete (g .n) (g .starts) (g .next) (g .starts-in) (g .next-in) v (h .walk .sound v l o)))
-          (bit (getD (s .marks) v 0) (h .walk .bits v l))
+      flag-is = mark-is (g .n) (g .starts) (g .next) (g .starts-in) (g .next-in) ended
 
       pub marks-are : s .marks ≡ flags ++ drop (g .n) (e .marks)
       marks-are =

@@ -4,6 +4,7 @@ use Prim.Native.Nat.{ℕ}
 use mathlib.Core.List.{List}
 use denote.Ref.{RefT, now}
 use denote.Triple.Both.{Both}
+use Rattle.search.specs.Worklist.{State, st}
 
 -- at the call's entry and at its exit
 abbrev pub Column : Type 0
@@ -16,3 +17,7 @@ held c = now (c .entry)
 -- what it holds at the exit
 abbrev pub left : Column → List ℕ
 left c = now (c .exit)
+
+-- a search whose marks and stack are lent, at the entry (`held`) or at the exit (`left`)
+abbrev pub stAt : (Column → List ℕ) → Column → Column → ℕ → State
+stAt at marks stack top = st (at marks) (at stack) top

@@ -2,3 +2,4 @@ pub mod Search
 pub mod Worklist
 pub mod Stamps
 pub mod Lent
+pub mod Engines

@@ -49,13 +49,6 @@ pub fn cell(s: &[u16], i: usize) -> usize
     s[i] as usize
 }
 
-// For proofs alone, the code does nothing: a reference to a fixed array does not tell its length, a slice of it does.
-pub fn sized(a: &[u16; 1600])
-    ensures { λ _. ⌜ length (now (a .entry)) ≡ 1600 ⌝ }
-{
-    let _slice: &[u16] = a;
-}
-
 // v marked by a stamp and pushed, unless it is marked. The result is the stack's height.
 pub fn insert(marks: &mut [u16], stack: &mut [u16], top: usize, v: usize, stamp: u16) -> usize
     requires { ⌜ (v < length (now marks)) × (v < 65536) ⌝ }

@@ -1,6 +1,6 @@
 -- Laws of tests. Assumes nothing.
 use Prim.Native.Nat.{_≤_, zero-le}
-use mathlib.Core.Bool.{Bool, true, false, _&&_, _||_, not, true≢false, false≢true}
+use mathlib.Core.Bool.{Bool, true, false, _&&_, _||_, not}
 use mathlib.Core.Path.{_≡_, refl}
 use native.Mathlib.Nat.{le-refl}
 use Rattle.flow.specs.Refusals.{one}
@@ -31,14 +31,6 @@ not-not false = refl
 pub one-most : (b : Bool) → one b ≤ 1
 one-most true = le-refl 1
 one-most false = zero-le
-
-pub or-parts : (a b : Bool) → (a || b) ≡ false → (a ≡ false) × (b ≡ false)
-or-parts true b e = (e, absurd (true≢false e))
-or-parts false b e = (refl, e)
-
-pub and-parts : (a b : Bool) → (a && b) ≡ true → (a ≡ true) × (b ≡ true)
-and-parts true b e = (refl, e)
-and-parts false b e = (e, absurd (false≢true e))
 
 pub and-true : (b : Bool) → (b && true) ≡ b
 and-true true = refl

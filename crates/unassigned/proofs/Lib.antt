@@ -1,3 +1,3 @@
-pub mod Findings
+pub mod Words
 pub mod Locals
 pub mod Passes

@@ -1,71 +1,99 @@
--- One local of the pass: what its walk asks, and that what it finds is the local's unassigned use.
+-- One local of the pass: its walk over the columns finds what the sheets say.
 -- Assumes nothing.
-use Prim.Native.Nat.{ℕ, _+_, _<_, _≤_}
-use mathlib.Core.Path.{_≡_, sym, ap, ap₂, _∙_}
-use mathlib.Core.Bool.{_&&_}
-use mathlib.Core.List.{List, [], map, List·Memᴰ}
+use Prim.Native.Nat.{ℕ, _-_, _<_, _≤_}
+use mathlib.Core.Path.{_≡_, refl, sym, ap, ap₂, _∙_}
+use mathlib.Core.Bool.{Bool, true, false, cond}
+use mathlib.Core.List.{List, [], _∷_, map}
 use native.Mathlib.Omega.{arith}
-use lib.ListN.{length, getD, length-map}
-use Rattle.flow.specs.Graph.{graph}
-use Rattle.flow.specs.Locals.{onlyIf, tracked, noValue, localAt, declaration}
-use Rattle.flow.specs.Findings.{Use, usesOf, allFound, liveAfterWrites, firstEmptyRead, firstUnassignedUse, ofUse, unassignedOf}
-use Rattle.live_steps.specs.Walk.{AllPlaced, OfLocal, declared}
-use Rattle.locals.specs.Columns.{Cut, partAt}
-use Rattle.locals.specs.Entries.{Listed, Added}
-use Rattle.locals.proofs.Columns.{own-cut, mine-placed, mine-local, span-of, declared-at}
-use Rattle.locals.proofs.Room.{unassigned-few}
-use Rattle.declarations.specs.declared.Declared.{Declared}
-use Rattle.declarations.specs.Due.{Tells}
-use Rattle.local_walk.specs.declared.Walked.{Walked}
-use Rattle.local_walk.specs.Walks.{codeOf, Finds}
-use Rattle.unassigned.specs.Findings.{findingsAt}
-use Rattle.unassigned.specs.Pass.{Pass}
-use Rattle.unassigned.proofs.Findings.{findings-are, first-own, only-own}
+use lib.ListN.{length, length-map}
+use Rattle.search.specs.Search.{zeros}
+use Rattle.flow.specs.Graph.{Graph, nodeCount, graph}
+use Rattle.flow.specs.Locals.{onlyIf, localAt, Declaration, declaration}
+use Rattle.flow.specs.Findings.{Use, usesOf, allFound, liveAfterWrites, firstEmptyRead, firstUnassignedUse, ofUse, unassignedOf, wordsOf}
+use Rattle.flow.proofs.OwnUses.{Renumbers, nodes-live, renumbered-live, renumbered-first}
+use Rattle.use_words.specs.Words.{usesIn, spanless}
+use Rattle.live_steps.specs.Walk.{chart}
+use Rattle.empty_read.specs.FirstRead.{codeOf}
+use Rattle.local_walk.specs.Walks.{firstEmpty}
+use Rattle.facts.specs.Facts.{isDue}
+use Rattle.locals.specs.Columns.{partAt, Pass}
+use Rattle.locals.proofs.Columns.{charted-nodes}
+use Rattle.unassigned.specs.Words.{wordsAt, unassignedWords, visits, markFigure}
+use Rattle.flow.proofs.Few.{first-few}
+use Rattle.unassigned.proofs.Words.{words-are}
 
-module _ {S U : List ℕ} {n names : ℕ} {first second start nameNode nameEnd facts words spans nodes lost starts byLocal : List ℕ} (p : Pass S U n names first second start nameNode nameEnd facts words spans nodes lost starts byLocal) (ℓ : ℕ) (h : ℓ < names) where
-  pub local-cut : Cut ℓ starts byLocal
-  local-cut = own-cut S U n names words spans nodes lost (p .located) starts byLocal ℓ h (p .parts)
+-- a use without its span is the same to a walk
+keeps : Renumbers spanless
+keeps = record { kinds = λ u. refl; closures = λ u. refl; nodes = λ u. refl }
 
-  pub local-placed : AllPlaced n (partAt ℓ starts byLocal) words nodes
-  local-placed = mine-placed S U n names words spans nodes lost (p .located) starts byLocal ℓ h (p .parts)
+code-kept : (us : List Use) → codeOf (map spanless us) ≡ codeOf us
+code-kept [] = refl
+code-kept (u ∷ us) = refl
 
-  pub local-numbers : map (λ u. u .number) (usesOf S U ℓ) ≡ partAt ℓ starts byLocal
-  local-numbers = sym (p .parts .holds ℓ h)
+-- ---- how many there are
 
-  module _ (d : Declared) (t : Tells (localAt S ℓ) (allFound (usesOf S U ℓ)) d) where
-    pub local-uses : OfLocal (d .captured) n (usesOf S U ℓ) (partAt ℓ starts byLocal) words nodes
-    local-uses = rw (t .captures) (mine-local S U n names words spans nodes lost (p .located) starts byLocal ℓ h (p .parts))
+pub unassigned-few : (S U : List ℕ) (ℓ : ℕ) → length (wordsOf (unassignedOf S U ℓ)) ≤ 1
+unfolding unassignedOf firstUnassignedUse
+unassigned-few S U ℓ = go (isDue (localAt S ℓ) (allFound us)) (firstEmptyRead live [] us) (first-few live [] us)
+  where
+    us : List Use
+    us = usesOf S U ℓ
 
-    -- its first unassigned use
-    found : List Use
-    found = firstUnassignedUse (graph S) (localAt S ℓ) (declaration (graph S) ℓ) (usesOf S U ℓ)
+    live : List ℕ
+    live = liveAfterWrites (graph S) (declaration (graph S) ℓ) us
 
-    module _ (v : d .node ≡ getD nameNode ℓ 0) (e : d .«scope_end» ≡ getD nameEnd ℓ 0) where
-      there : declared (d .node) (d .«scope_end») ≡ declaration (graph S) ℓ
-      there = ap₂ (λ x y. declared x y) v e ∙ declared-at S n names nameNode nameEnd (p .named) ℓ h
+    go : (b : Bool) (l : List Use) → length l ≤ 1 → length (wordsOf (map (ofUse 0 ℓ) (onlyIf b l))) ≤ 1
+    go true l h = omega (arith, length-map (map (ofUse 0 ℓ) l) (λ f. f .word), length-map l (ofUse 0 ℓ))
+    go false l h = omega arith
 
-      code-told : (r : Walked) → Finds (graph S) d (usesOf S U ℓ) r → r .first ≡ codeOf found
-      unfolding found firstUnassignedUse
-      code-told r f = f ∙ (λ i. codeOf (onlyIf (t .due i) (firstEmptyRead (liveAfterWrites (graph S) (there i) (usesOf S U ℓ)) [] (usesOf S U ℓ))))
+-- "at most the node count"
+pub figure-few : (S U : List ℕ) (ℓ : ℕ) → markFigure S U ℓ ≤ nodeCount (graph S)
+unfolding markFigure
+figure-few S U ℓ = go (isDue (localAt S ℓ) (allFound (usesOf S U ℓ))) (nodeCount (graph S)) (zeros (nodeCount (graph S)) (liveAfterWrites (graph S) (declaration (graph S) ℓ) (usesOf S U ℓ)))
+  where
+    go : (b : Bool) (n k : ℕ) → cond b (n - k) 0 ≤ n
+    go true n k = omega arith
+    go false n k = omega arith
 
-      found-few : length found ≤ 1
-      unfolding found unassignedOf
-      found-few = omega (arith, unassigned-few S U ℓ, length-map (firstUnassignedUse (graph S) (localAt S ℓ) (declaration (graph S) ℓ) (usesOf S U ℓ)) (ofUse 0 ℓ))
+-- ---- the columns of a pass
 
-      found-own : (x : Use) → List·Memᴰ x found → List·Memᴰ x (usesOf S U ℓ)
-      unfolding found firstUnassignedUse
-      found-own x m =
-          let us : List Use = usesOf S U ℓ in
-          let live : List ℕ = liveAfterWrites (graph S) (declaration (graph S) ℓ) us in
-          first-own live [] us x (only-own (tracked (localAt S ℓ) && allFound us && noValue (localAt S ℓ)) (firstEmptyRead live [] us) x m)
+module _ {S U : List ℕ} {n names : ℕ} {first second start nameNode nameEnd facts starts byLocal : List ℕ} (p : Pass (usesOf S U) S U n names first second start nameNode nameEnd facts starts byLocal) (ℓ : ℕ) (h : ℓ < names) where
+  module _ (d : Declaration) where
+    abbrev columns : Graph
+    columns = chart n first second start
 
-      pub local-findings : (r : Walked) → Finds (graph S) d (usesOf S U ℓ) r → findingsAt ℓ spans (r .first) ≡ unassignedOf S U ℓ
-      unfolding unassignedOf found
-      local-findings r f =
-          ap (findingsAt ℓ spans) (code-told r f)
-          ∙ findings-are ℓ spans found found-few (λ x m. span-of S U n names words spans nodes lost (p .located) ℓ x (found-own x m))
+    abbrev own : List Use
+    own = usesOf S U ℓ
 
-      pub local-adds : (r : Walked) → Finds (graph S) d (usesOf S U ℓ) r → {count k : ℕ} {fw fs fw′ fs′ : List ℕ} → Listed (findingsAt ℓ spans (r .first)) count fw fs fw′ fs′ → k ≡ count + length (findingsAt ℓ spans (r .first)) → Added (unassignedOf S U ℓ) count fw fs k fw′ fs′
-      local-adds r f l q =
-          let e = local-findings r f in
-          record { counted = rw (← e) q; entered = rw (← e) l }
+    -- a walk over the columns marks the nodes of the graph
+    walk-live : liveAfterWrites columns d (usesIn (partAt ℓ starts byLocal)) ≡ liveAfterWrites (graph S) d own
+    walk-live =
+        ap (liveAfterWrites columns d) (p .parts .holds ℓ h)
+        ∙ renumbered-live keeps columns d own
+        ∙ nodes-live columns (graph S) (charted-nodes (p .charted .charts)) d own
+
+    -- and finds the same use
+    walk-first : codeOf (firstEmpty columns d (usesIn (partAt ℓ starts byLocal))) ≡ codeOf (firstEmpty (graph S) d own)
+    walk-first =
+        ap₂ (λ (live : List ℕ) (us : List Use). codeOf (firstEmptyRead live [] us)) walk-live (p .parts .holds ℓ h)
+        ∙ ap codeOf (renumbered-first keeps (liveAfterWrites (graph S) d own) [] own)
+        ∙ code-kept (firstEmpty (graph S) d own)
+
+  -- what the walk with the facts, declaration and uses that were read gives
+  module _ (due : Bool) (e : due ≡ isDue (localAt S ℓ) (allFound (usesOf S U ℓ))) (d : Declaration) (t : d ≡ declaration (graph S) ℓ) (mine : List ℕ) (m : mine ≡ partAt ℓ starts byLocal) where
+    pub local-words : unassignedWords due ℓ (chart n first second start) d (usesIn mine) ≡ wordsOf (unassignedOf S U ℓ)
+    unfolding unassignedOf firstUnassignedUse
+    local-words =
+        let us : List Use = usesOf S U ℓ in
+        let d′ : Declaration = declaration (graph S) ℓ in
+        ap (λ (l : List ℕ). wordsAt ℓ (cond due (codeOf (firstEmpty (chart n first second start) d (usesIn l))) 0)) m
+        ∙ ap (λ (c : ℕ). wordsAt ℓ (cond due c 0)) (walk-first d)
+        ∙ ap₂ (λ (b : Bool) (x : Declaration). wordsAt ℓ (cond b (codeOf (firstEmpty (graph S) x us)) 0)) e t
+        ∙ words-are ℓ (isDue (localAt S ℓ) (allFound us)) (firstEmpty (graph S) d′ us) (first-few (liveAfterWrites (graph S) d′ us) [] us)
+
+    pub local-figure : visits due n (chart n first second start) d (usesIn mine) ≡ markFigure S U ℓ
+    unfolding markFigure
+    local-figure =
+        ap (λ (l : List ℕ). visits due n (chart n first second start) d (usesIn l)) m
+        ∙ ap (λ (l : List ℕ). cond due (n - zeros n l) 0) (walk-live d)
+        ∙ (λ i. visits (e i) (sym (p .charted .count) i) (graph S) (t i) (usesOf S U ℓ))

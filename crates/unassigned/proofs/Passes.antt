@@ -1,60 +1,85 @@
 -- The pass, local by local: the findings of the locals below ℓ are listed, and their mark figures written.
 -- Assumes nothing.
-use Prim.Native.Nat.{ℕ, _+_, _<_, _≤_}
+use Prim.Native.Nat.{ℕ, zero, suc, _+_, _<_, _≤_}
 use mathlib.Core.Path.{_≡_, refl, sym, ap, _∙_}
-use mathlib.Core.List.{List}
+use mathlib.Core.List.{List, _++_, map-append}
 use native.Mathlib.Omega.{arith}
 use native.Mathlib.Numerals.{add-one}
 use native.Mathlib.Decide.{ℕ-discrete}
-use lib.ListN.{length, drop, length-set}
+use lib.ListN.{length, set, drop, length-set, length-append}
 use lib.Seq.{getD-set-same, getD-set-other, drop-set-lt, drop-drop}
-use Rattle.flow.specs.Findings.{unassignedOf, ofEach}
+use Rattle.flow.specs.Findings.{unassignedOf, ofEach, wordsOf}
+use Rattle.live_walk.specs.Walk.{Ready}
 use Rattle.locals.specs.Entries.{Room, Added}
-use Rattle.locals.proofs.Entries.{added-none, added-append}
-use Rattle.locals.proofs.Room.{unassigned-few, each-few}
-use Rattle.unassigned.specs.Pass.{Marked, Noted, Ready}
+use Rattle.locals.proofs.Entries.{added-none, added-more, added-long}
+use Rattle.unassigned.specs.Words.{markFigure}
+use Rattle.unassigned.specs.Pass.{Figures}
+use Rattle.unassigned.proofs.Locals.{unassigned-few}
 
--- ---- the mark figures
-
-pub marked-none : {n : ℕ} {mark : List ℕ} → Marked n 0 mark mark
-marked-none = record { figure = λ ℓ h. absurd (omega arith); rest = refl; long = refl }
-
-pub marked-more : {n ℓ : ℕ} {old mid new : List ℕ} → ℓ < length old → Marked n ℓ old mid → Noted n ℓ mid new → Marked n (ℓ + 1) old new
-marked-more {n} {ℓ} {old} {mid} {new} h m w = record {
-  figure = λ k l. rw (w .stored) (elim (ℕ-discrete k ℓ) [
-    | yes e ↦ rw (e, getD-set-same mid ℓ (w .figure) 0 (omega (arith, m .long))) (w .few)
-    | no q ↦ rw (getD-set-other mid ℓ k (w .figure) 0 q) (m .figure k (omega arith))
-  ]);
-  rest = rw (w .stored)
-      (drop-set-lt (ℓ + 1) mid ℓ (w .figure) (omega arith)
-      ∙ sym (drop-drop 1 ℓ mid) ∙ ap (drop 1) (m .rest) ∙ drop-drop 1 ℓ old);
-  long = ap length (w .stored) ∙ length-set mid ℓ (w .figure) ∙ m .long;
-}
-
--- ---- the findings
-
--- the locals below ℓ are passed, and `count` findings are listed, whatever the sheets
-pub record Going (n names : ℕ) (visited₀ stack₀ words₀ spans₀ mark₀ visited stack words spans mark : List ℕ) (count ℓ : ℕ) : Type 0 where
+-- marks and stack are ready for the next local, whatever the sheets
+pub record Going (n names : ℕ) (visited₀ stack₀ visited stack : List ℕ) (ℓ : ℕ) : Type 0 where
   pub within : ℓ ≤ names
-  pub few : count ≤ ℓ
-  pub ready : Ready n ℓ visited stack
-  pub marked : Marked n ℓ mark₀ mark
+  pub ready : Ready (ℓ + 1) n visited stack
   pub visited-long : length visited ≡ length visited₀
   pub stack-long : length stack ≡ length stack₀
-  pub words-long : length words ≡ length words₀
-  pub spans-long : length spans ≡ length spans₀
 
--- those of the sheets
-abbrev pub Listing : List ℕ → List ℕ → ℕ → List ℕ → List ℕ → ℕ → List ℕ → List ℕ → Type 0
-Listing S U ℓ words₀ spans₀ count words spans = Added (ofEach (unassignedOf S U) ℓ) 0 words₀ spans₀ count words spans
+pub going-more : {n names : ℕ} {visited₀ stack₀ visited stack visited′ stack′ : List ℕ} {ℓ : ℕ} → Going n names visited₀ stack₀ visited stack ℓ → ℓ < names → Ready (ℓ + 2) n visited′ stack′ → length visited′ ≡ length visited → length stack′ ≡ length stack → Going n names visited₀ stack₀ visited′ stack′ (ℓ + 1)
+going-more {ℓ = ℓ} g h r v s =
+    let e : ℓ + 1 + 1 ≡ ℓ + 2 = omega arith in
+    record { within = omega arith; ready = rw e r; visited-long = v ∙ g .visited-long; stack-long = s ∙ g .stack-long }
 
 module _ (S U : List ℕ) where
-  pub listing-none : {words spans : List ℕ} → Listing S U 0 words spans 0 words spans
-  unfolding ofEach
-  listing-none = added-none
+  -- ---- the mark figures
 
-  pub listing-more : {names ℓ count k : ℕ} {words₀ spans₀ words spans words′ spans′ : List ℕ} → Room names 0 words₀ spans₀ → ℓ ≤ names → Listing S U ℓ words₀ spans₀ count words spans → Added (unassignedOf S U ℓ) count words spans k words′ spans′ → Listing S U (ℓ + 1) words₀ spans₀ k words′ spans′
+  figures-none : {mark : List ℕ} → Figures S U 0 mark mark
+  figures-none = record { figure = λ ℓ h. absurd (omega arith); rest = refl; long = refl }
+
+  figures-more : {ℓ : ℕ} {old mid new : List ℕ} → ℓ < length old → Figures S U ℓ old mid → new ≡ set mid ℓ (markFigure S U ℓ) → Figures S U (ℓ + 1) old new
+  figures-more {ℓ} {old} {mid} {new} h m e =
+      let x : ℕ = markFigure S U ℓ in
+      rw e (record {
+        figure = λ k l. elim (ℕ-discrete k ℓ) [
+          | yes q ↦ rw q (getD-set-same mid ℓ x 0 (omega (arith, m .long)))
+          | no q ↦ getD-set-other mid ℓ k x 0 q ∙ m .figure k (omega arith)
+        ];
+        rest = drop-set-lt (ℓ + 1) mid ℓ x (omega arith) ∙ sym (drop-drop 1 ℓ mid) ∙ ap (drop 1) (m .rest) ∙ drop-drop 1 ℓ old;
+        long = length-set mid ℓ x ∙ m .long;
+      })
+
+  -- ---- the findings
+
+  -- the words of the locals below ℓ
+  abbrev words : ℕ → List ℕ
+  words ℓ = wordsOf (ofEach (unassignedOf S U) ℓ)
+
+  words-next : (ℓ : ℕ) → words (suc ℓ) ≡ words ℓ ++ wordsOf (unassignedOf S U ℓ)
   unfolding ofEach
-  listing-more {ℓ = ℓ} room h l a =
-      let few : length (ofEach (unassignedOf S U) ℓ) ≤ ℓ = each-few (unassignedOf S U) (unassigned-few S U) ℓ in
-      rw (add-one ℓ) (added-append (omega (arith, l .counted, room .words-hold)) (omega (arith, l .counted, room .spans-hold)) l a)
+  words-next ℓ = map-append (λ f. f .word) (ofEach (unassignedOf S U) ℓ) (unassignedOf S U ℓ)
+
+  words-few : (ℓ : ℕ) → length (words ℓ) ≤ ℓ
+  unfolding ofEach
+  words-few zero = omega arith
+  words-few (suc ℓ) = omega (arith, ap length (words-next ℓ), length-append (words ℓ) (wordsOf (unassignedOf S U ℓ)), words-few ℓ, unassigned-few S U ℓ)
+
+  -- the locals below ℓ are listed, with `count` findings
+  pub record Listing (ℓ : ℕ) (words₀ mark₀ words mark : List ℕ) (count : ℕ) : Type 0 where
+    pub listed : Added (wordsOf (ofEach (unassignedOf S U) ℓ)) 0 words₀ count words
+    pub figures : Figures S U ℓ mark₀ mark
+
+  pub listing-none : (ws mark : List ℕ) → Listing 0 ws mark ws mark 0
+  unfolding ofEach
+  listing-none ws mark = record { listed = added-none 0 ws; figures = figures-none }
+
+  module _ {ℓ : ℕ} {words₀ mark₀ ws mark : List ℕ} {count : ℕ} (l : Listing ℓ words₀ mark₀ ws mark count) where
+    -- at most one finding each
+    pub listing-few : count ≤ ℓ
+    listing-few = omega (arith, l .listed .counted, words-few ℓ)
+
+    pub listing-long : Room ℓ 0 words₀ → length ws ≡ length words₀
+    listing-long room = added-long (l .listed) (omega (arith, words-few ℓ))
+
+    pub listing-more : {r : ℕ} {words′ mark′ : List ℕ} → Room ℓ 0 words₀ → ℓ < length mark₀ → Added (wordsOf (unassignedOf S U ℓ)) count ws r words′ → mark′ ≡ set mark ℓ (markFigure S U ℓ) → Listing (ℓ + 1) words₀ mark₀ words′ mark′ r
+    listing-more room h a e = record {
+      listed = rw (add-one ℓ, words-next ℓ) (added-more (l .listed) (omega (arith, words-few ℓ)) a);
+      figures = figures-more h (l .figures) e;
+    }

@@ -1,2 +1,2 @@
-pub mod Findings
+pub mod Words
 pub mod Pass

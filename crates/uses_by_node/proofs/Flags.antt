@@ -1,25 +1,26 @@
 -- What a flag ahead says of the marks.
 -- Assumes nothing.
 use Prim.Native.Nat.{ℕ, _≤_, _<_}
-use mathlib.Core.Path.{_≡_, refl, ap, _∙_}
+use mathlib.Core.Path.{_≡_, refl, sym, ap, _∙_}
 use mathlib.Core.Bool.{Bool, true, false, _&&_, _||_, not}
 use mathlib.Core.List.{List, [], _∷_}
 use native.Mathlib.Omega.{arith}
 use native.Mathlib.Decide.{decLt}
 use borrow.Author.Tests.{lt-ltb, le-ltb}
 use lib.Dec.{eqb, ltb}
-use lib.ListN.{length, getD, take}
+use lib.ListN.{length, getD}
 use lib.Seq.{getD-take, length-take-le}
 use Rattle.search.specs.Search.{filter}
-use Rattle.search.specs.Stamps.{flagOf, flagsOf}
-use Rattle.search.proofs.Stamps.{flag-at}
-use Rattle.flow.specs.Graph.{Graph, nodeCount}
+use Rattle.search.specs.Stamps.{flagsOf}
+use Rattle.search.proofs.Stamps.{flag-at, flag-test}
+use Rattle.flow.specs.Graph.{Graph}
 use Rattle.flow.specs.Reachable.{successors}
 use Rattle.flow.specs.Findings.{Ahead, anyFlag, isOverwrittenUnread}
+use Rattle.live_steps.specs.Walk.{chart}
 
-flag-test : (b : Bool) → eqb (flagOf b) 1 ≡ b
-flag-test true = refl
-flag-test false = refl
+or-false : (b : Bool) → (b || false) ≡ b
+or-false true = refl
+or-false false = refl
 
 module _ (stamp n : ℕ) (marks : List ℕ) where
   -- whether v is a node that is marked
@@ -37,16 +38,18 @@ module _ (stamp n : ℕ) (marks : List ℕ) where
   unfolding anyFlag
   none-left = refl
 
-  or-false : (b : Bool) → (b || false) ≡ b
-  or-false true = refl
-  or-false false = refl
+  -- whether a successor of v is marked, by the two cells
+  module _ (first second start : List ℕ) (v : ℕ) (l : n ≤ length first) (h : v < n) (x y : ℕ) (p : x ≡ getD first v 0) (q : y ≡ getD second v 0) where
+    any-marked : anyFlag (flagsOf stamp n marks) (successors (chart n first second start) v) ≡ (markedAt x || markedAt y)
+    any-marked =
+        rw (length-take-le n first l, getD-take n first v 0 h, getD-take n second v 0 h, ← p, ← q)
+        (one-more x (y ∷ []) ∙ ap (λ (b : Bool). markedAt x || b) (one-more y [] ∙ ap (λ (b : Bool). markedAt y || b) none-left ∙ or-false (markedAt y)))
 
-  -- some successor of v is marked
-  pub any-marked : (first second : List ℕ) (v : ℕ) → n ≤ length first → v < n → (g : Graph) → g .nodes .first ≡ take n first → g .nodes .second ≡ take n second → anyFlag (flagsOf stamp n marks) (successors g v) ≡ (markedAt (getD first v 0) || markedAt (getD second v 0))
-  any-marked first second v l h g e f =
-      let count : nodeCount g ≡ n = ap length e ∙ length-take-le n first l in
-      rw (count, e, f, getD-take n first v 0 h, getD-take n second v 0 h)
-      (one-more (getD first v 0) (getD second v 0 ∷ []) ∙ ap (λ (b : Bool). markedAt (getD first v 0) || b) (one-more (getD second v 0) [] ∙ ap (λ (b : Bool). markedAt (getD second v 0) || b) none-left ∙ or-false (markedAt (getD second v 0))))
+    pub first-marked : markedAt x ≡ true → true ≡ anyFlag (flagsOf stamp n marks) (successors (chart n first second start) v)
+    first-marked e = sym (any-marked ∙ ap (λ (b : Bool). b || markedAt y) e)
+
+    pub second-decides : markedAt x ≡ false → markedAt y ≡ anyFlag (flagsOf stamp n marks) (successors (chart n first second start) v)
+    second-decides e = sym (any-marked ∙ ap (λ (b : Bool). b || markedAt y) e)
 
 and-not-true : (b : Bool) → false ≡ (b && not true)
 and-not-true true = refl

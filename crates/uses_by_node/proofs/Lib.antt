@@ -1,4 +1,3 @@
-pub mod Sorting
+pub mod ByNode
 pub mod Places
 pub mod Flags
-pub mod Callers

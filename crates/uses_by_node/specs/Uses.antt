@@ -1,16 +1,17 @@
--- A local's uses by node, as a list and as columns hold them: use k has its kind in word k and its node in cell k.
+-- A local's uses by node: their words in a column, and the marks of what is ahead in two others.
 -- Assumes nothing: these are definitions.
-use Prim.Native.Nat.{ℕ, zero, suc, _+_, _<_}
-use mathlib.Core.Path.{_≡_}
+use Prim.Native.Nat.{ℕ, zero, suc, _+_, _<_, _≤_}
 use mathlib.Core.Bool.{Bool, true, _&&_, not}
-use mathlib.Core.List.{List, [], _∷_, _++_, map, List·Memᴰ}
-use lib.ListN.{length, getD, drop}
+use mathlib.Core.List.{List, [], _∷_, _++_}
+use lib.ListN.{length, getD}
 use lib.Dec.{eqb, ltb}
 use Rattle.search.specs.Lent.{Column, held}
-use Rattle.flow.specs.Sheet.{useKindOf}
+use Rattle.search.specs.Stamps.{flagsOf}
 use Rattle.flow.specs.Graph.{Graph}
 use Rattle.flow.specs.Locals.{onlyIf}
 use Rattle.flow.specs.Findings.{Use, node, Ahead, isOverwritten}
+use Rattle.use_words.specs.Words.{nodeIn}
+use Rattle.live_steps.specs.Walk.{chart}
 
 -- the uses at the node v, in order
 abbrev pub usesAt : ℕ → List Use → List Use
@@ -22,59 +23,26 @@ abbrev pub byNode : ℕ → List Use → List Use
 byNode zero us = []
 byNode (suc n) us = byNode n us ++ usesAt n us
 
--- the node and the kind of the use that stands at place i of `sorted`
-abbrev pub nodeAt : List ℕ → List ℕ → ℕ → ℕ
-nodeAt nodes sorted i = getD nodes (getD sorted i 0) 0
-
-abbrev pub kindAt : List ℕ → List ℕ → ℕ → ℕ
-kindAt words sorted i = useKindOf (getD words (getD sorted i 0) 0)
+-- words of uses whose nodes rise
+abbrev pub Rising : List ℕ → Type 0
+Rising ws = (i : ℕ) → i + 1 < length ws → nodeIn (getD ws i 0) ≤ nodeIn (getD ws (i + 1) 0)
 
 -- whether the next place holds a use at the same node
-unfoldable pub nextInNode : List ℕ → List ℕ → ℕ → Bool
-nextInNode nodes sorted i = ltb (i + 1) (length sorted) && eqb (nodeAt nodes sorted i) (nodeAt nodes sorted (i + 1))
+unfoldable pub nextInNode : List ℕ → ℕ → Bool
+nextInNode ws i = ltb (i + 1) (length ws) && eqb (nodeIn (getD ws i 0)) (nodeIn (getD ws (i + 1) 0))
 
 -- whether place i is the first of its node
-abbrev pub opensNode : List ℕ → List ℕ → ℕ → Bool
-opensNode nodes sorted zero = true
-opensNode nodes sorted (suc i) = not (nextInNode nodes sorted i)
+abbrev pub opensNode : List ℕ → ℕ → Bool
+opensNode ws zero = true
+opensNode ws (suc i) = not (nextInNode ws i)
 
--- each use has its cell, and its node is below n
-pub record Placed (n : ℕ) (nodes sorted : List ℕ) : Type 0 where
-  pub numbers : (i : ℕ) → i < length sorted → getD sorted i 0 < length nodes
-  pub below : (i : ℕ) → i < length sorted → nodeAt nodes sorted i < n
+-- the graph of two columns of edges
+abbrev pub edges : ℕ → Column → Column → Graph
+edges n first second = chart n (held first) (held second) []
 
--- the cells that hold the stamp are the nodes of the first i uses
-pub record Used (stamp : ℕ) (nodes sorted : List ℕ) (i : ℕ) (cells : List ℕ) : Type 0 where
-  pub sound : (v : ℕ) → getD cells v 0 ≡ stamp → (j : ℕ) × (j < i) × (nodeAt nodes sorted j ≡ v)
-  pub complete : (j : ℕ) → j < i → getD cells (nodeAt nodes sorted j) 0 ≡ stamp
-
--- the columns of a local's uses: words and nodes by use number, and its use numbers
-pub record Table : Type 0 where
-  pub words : List ℕ
-  pub nodes : List ℕ
-  pub sorted : List ℕ
-
-abbrev pub table : List ℕ → List ℕ → List ℕ → Table
-table w v s = record { words = w; nodes = v; sorted = s }
-
--- of lent columns, as a call finds them
-abbrev pub tableOf : Column → Column → Column → Table
-tableOf w v s = table (held w) (held v) (held s)
-
--- a local's uses are placed, and each has its word
-pub record Listed (n : ℕ) (t : Table) : Type 0 where
-  pub placed : Placed n (t .nodes) (t .sorted)
-  pub worded : (i : ℕ) → i < length (t .sorted) → getD (t .sorted) i 0 < length (t .words)
-
--- `sorted` rearranges us by node: at each node the same uses in the same order, each with its kind
-pub record Sorted (n : ℕ) (t : Table) (us : List Use) : Type 0 where
-  pub listed : t .sorted ≡ map (λ u. u .number) (byNode n us)
-  pub kinds : (u : Use) → List·Memᴰ u us → u .kind ≡ useKindOf (getD (t .words) (u .number) 0)
-  pub places : (u : Use) → List·Memᴰ u us → node u ≡ getD (t .nodes) (u .number) 0
-
--- P holds of the use at place i by node, and of those after it
-abbrev pub AtPlace : ℕ → List Use → ℕ → (Use → List Use → Type 0) → Type 0
-AtPlace n us i P = (u : Use) (after : List Use) → drop i (byNode n us) ≡ u ∷ after → P u after
+-- what is ahead, by the marks in two columns
+abbrev pub marked : ℕ → ℕ → Column → Column → Ahead
+marked stamp n reads writes = record { reads = flagsOf stamp n (held reads); writes = flagsOf stamp n (held writes) }
 
 -- the overwritten writes of a list, in its order
 abbrev pub overwrittenIn : Graph → Ahead → List Use → List Use

@@ -19,7 +19,7 @@ use Rattle.flow.specs.Findings.{findings, judge}
 use Rattle.flow.proofs.NodeCount.{graph-count}
 use Rattle.flow.proofs.CodeNodes.{code-node}
 use Rattle.flow.proofs.Admission.{admitted, of-sheet, of-pair}
-use Rattle.judge.proofs.Few.{findings-few}
+use Rattle.flow.proofs.Few.{findings-few}
 use Rattle.answer_words.specs.Words.{orNone, runNode, CountsFit}
 
 -- a refusal has no values

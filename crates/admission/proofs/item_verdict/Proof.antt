@@ -8,11 +8,12 @@ use lib.Dec.{ltb}
 use lib.ListN.{length}
 use borrow.Author.Tests.{not-false}
 use denote.Ref.{now}
+use Rattle.search.proofs.Bools.{and-both}
 use Rattle.flow.specs.declared.Refusal.the-variants.{TooDeep, BadNesting, OffTheLine, BadName}
 use Rattle.flow.specs.Refusals.{outnumbered, pairsUp, sideBySide, inLine, held, namesFit, badItem, tooDeep, badNesting, offTheLine, badName, Test, firstApplying, itemTests}
 use Rattle.flow.specs.Sheet.{Item, all, zip, items, outerEnd}
 use Rattle.flow.specs.Kinds.{itemFits}
-use Rattle.sheet_tests.proofs.Bools.{and-parts}
+
 use Rattle.admission.proofs.Parts.{long-enough, on-items}
 use Rattle.admission.proofs.Verdicts.{applies-first, passes-first}
 use Rattle.admission.proofs.item_verdict.Statement.{statement}
@@ -133,7 +134,7 @@ returns-3 c = sym (behind-4 (c .before .before) ∙ applies-first _ _ (nesting-i
 off-the-line-requires : tie.Need-off-the-line-requires
 off-the-line-requires c κs =
     let deep = c .before .before in
-    (lengths (parts-5 (c .before)), (sym (deep .before .too-deep .ensures) ∙ deep .if2 .left, and-parts _ _ (not-false _ (sym (c .before .bad-nesting .ensures) ∙ c .if3 .left)) .0))
+    (lengths (parts-5 (c .before)), (sym (deep .before .too-deep .ensures) ∙ deep .if2 .left, and-both _ _ (not-false _ (sym (c .before .bad-nesting .ensures) ∙ c .if3 .left)) .0))
 
 returns-4 : tie.Need-returns-4
 returns-4 c = sym (behind-5 (c .before .before) ∙ applies-first _ _ (line-is (c .before) ∙ c .if4 .taken))

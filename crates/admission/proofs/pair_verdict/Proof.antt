@@ -5,9 +5,10 @@ use mathlib.Core.Bool.{Bool, false, _||_}
 use mathlib.Core.List.{List, [], _∷_}
 use mathlib.Core.Path.{_≡_, sym, ap, _∙_}
 use denote.Ref.{now}
+use Rattle.search.proofs.Bools.{neither}
 use Rattle.flow.specs.Refusals.{leadingTests, Test, miscount, badUse, firstApplying, pairTests, pairVerdict}
 use Rattle.flow.specs.declared.Refusal.the-variants.{BadUse}
-use Rattle.flow.proofs.Tests.{neither, passed}
+use Rattle.flow.proofs.Tests.{passed}
 use Rattle.sheet_parts.proofs.Parts.{counted}
 use Rattle.admission.proofs.Verdicts.{applies-first, passes-first, refused-before, admitted-before}
 use Rattle.admission.proofs.pair_verdict.Statement.{statement}

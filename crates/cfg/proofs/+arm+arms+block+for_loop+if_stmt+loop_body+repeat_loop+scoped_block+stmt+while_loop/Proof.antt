@@ -7,7 +7,8 @@ use Rattle.cfg.proofs.Rooms.{do-room, while-room, repeat-room, for-room
 use Rattle.cfg.proofs.Choices.{armed-none, armed-more, armed-chosen, chosen-last, arm-else, elseif-built, else-built, opened-stepped, do-stepped, simple-stepped}
 use Rattle.cfg.proofs.Statements.{withItem, good-item, withCursor, good-cursor, while-opened, repeat-opened, for-opened, if-opened}
 use Rattle.cfg.proofs.Scopes.{good-within, entered-room, scoped, looped}
-use Rattle.cfg.proofs.Blocks.{labels-inside, Going, going-none, going-room, going-more, going-ended, ender-done, end-done, closed-at}
+use Rattle.flow.proofs.Builds.{labels-inside}
+use Rattle.cfg.proofs.Blocks.{Going, going-none, going-room, going-more, going-ended, ender-done, end-done, closed-at}
 use Rattle.cfg.specs.Steps.{bare, Armed}
 use Rattle.cfg_steps.proofs.Simple.{stands}
 use Rattle.cfg_steps.specs.Columns.{cols}

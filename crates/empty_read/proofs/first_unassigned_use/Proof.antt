@@ -2,108 +2,104 @@
 -- Assumes nothing.
 use Prim.Native.Nat.{ℕ, _+_, _-_, _<_}
 use mathlib.Core.Path.{_≡_, refl, sym, ap, subst, _∙_}
-use mathlib.Core.Bool.{Bool, false}
 use mathlib.Core.List.{List, []}
 use native.Mathlib.Omega.{arith}
 use borrow.Author.Needs.{needs}
 use denote.Ref.{now}
 use lib.ListN.{length, getD, drop}
-use Rattle.flow.specs.Findings.{Use, node, isWrite, isEmptyRead, firstEmptyRead}
-use Rattle.live_steps.specs.Stamps.{flagsOf, Fresh}
-use Rattle.live_steps.specs.Walk.{useAt, OfLocal}
-use Rattle.empty_read.specs.FirstRead.{markIf}
-use Rattle.empty_read.proofs.EmptyReads.{fresh-if, found, passed, ended}
+use Rattle.search.specs.Stamps.{flagsOf, Stamped}
+use Rattle.flow.specs.Findings.{isWrite, isEmptyRead, firstEmptyRead}
+use Rattle.use_words.specs.Words.{nodeIn, useOf, usesIn, AllPlaced}
+use Rattle.empty_read.specs.FirstRead.{markIf, codeOf}
+use Rattle.empty_read.proofs.EmptyReads.{bounded-if, found, passed, ended}
 use Rattle.empty_read.proofs.first_unassigned_use.Statement.{statement}
 use Rattle.empty_read.proofs.first_unassigned_use.Tie as tie
 
 abbrev Inv-loop : tie.InvT-loop
-Inv-loop use-word use-node captured mine visited₀ stamp i₀ visited i =
-    (length visited ≡ length visited₀) × ((n : ℕ) → Fresh (stamp + 1) n visited₀ → Fresh (stamp + 1) n visited) × ((n : ℕ) (us : List Use) → OfLocal captured n us mine use-word use-node → firstEmptyRead (flagsOf stamp n visited₀) [] us ≡ firstEmptyRead (flagsOf stamp n visited) [] (drop i us))
+Inv-loop mine visited₀ stamp i₀ visited i =
+    (length visited ≡ length visited₀) × (Stamped stamp visited₀ → Stamped stamp visited) × ((n : ℕ) → AllPlaced n mine → firstEmptyRead (flagsOf stamp n visited₀) [] (usesIn mine) ≡ firstEmptyRead (flagsOf stamp n visited) [] (usesIn (drop i mine)))
 
 abbrev μ-loop : tie.MeasureT-loop
-μ-loop use-word use-node captured mine visited₀ stamp i₀ visited i = length mine - i
+μ-loop mine visited₀ stamp i₀ visited i = length mine - i
 
 loop-holds : tie.Need-loop-holds Inv-loop μ-loop
-loop-holds c = (refl, λ n f. f, λ n us o. refl)
+loop-holds c = (refl, λ f. f, λ n p. refl)
 
-mul-wide : tie.Need-mul-wide Inv-loop μ-loop
-mul-wide c = omega arith
+mul-word : tie.Need-mul-word Inv-loop μ-loop
+mul-word c = omega arith
 
-shared-slice-read-wide : tie.Need-shared-slice-read-wide Inv-loop μ-loop
-shared-slice-read-wide c = omega arith
+shared-slice-read-word : tie.Need-shared-slice-read-word Inv-loop μ-loop
+shared-slice-read-word c = omega arith
 
-wide-requires : tie.Need-wide-requires Inv-loop μ-loop
-wide-requires c κs = search needs
+-- ---- the places: in a turn, the loop's head that it begins at, and the function's start
+
+abbrev entered : tie.In-loop Inv-loop μ-loop → tie.Start Inv-loop μ-loop
+entered c = c .before .before .before .before
+
+abbrev tried : tie.After-is-empty-read Inv-loop μ-loop → tie.In-loop Inv-loop μ-loop
+tried c = c .before .before .before
+
+abbrev turned : tie.After-mark-write Inv-loop μ-loop → tie.After-is-empty-read Inv-loop μ-loop
+turned c = c .before .before .before
 
 -- ---- the use at place i
 
-abbrev entered : tie.At-loop Inv-loop μ-loop → tie.Start Inv-loop μ-loop
-entered c = c .before .before .before .before .before
+abbrev word : tie.In-loop Inv-loop μ-loop → ℕ
+word c = getD (now (entered c .args .mine)) (c .before .loop .i) 0
+
+inside : (c : tie.In-loop Inv-loop μ-loop) → nodeIn (word c) < length (c .before .loop .visited)
+inside c = rw (c .before .loop .inv .0) (entered c .pre (c .before .loop .i) (c .loop-test .taken))
 
 is-empty-read-requires : tie.Need-is-empty-read-requires Inv-loop μ-loop
-is-empty-read-requires c κs =
-    let t = c .before .before .before .before in
-    rw (c .before .wide .ensures, t .loop .inv .0) (entered t .pre (t .loop .i) (c .before .before .before .loop-test .taken))
+is-empty-read-requires c κs = inside (c .before .before)
 
-abbrev used : Bool → tie.At-loop Inv-loop μ-loop → Use
-used b c = let a = entered c .args in useAt b (now (a .use-word)) (now (a .use-node)) (getD (now (a .mine)) (c .loop .i) 0)
+number-of-requires : tie.Need-number-of-requires Inv-loop μ-loop
+number-of-requires c κs = search needs
 
-abbrev OfThis : tie.At-loop Inv-loop μ-loop → ℕ → List Use → Type 0
-OfThis c n us = let a = entered c .args in OfLocal (a .captured) n us (now (a .mine)) (now (a .use-word)) (now (a .use-node))
+add-result : tie.Need-add-result Inv-loop μ-loop
+add-result c = omega (arith, c .number-of .ensures)
 
-abbrev flagged : tie.At-loop Inv-loop μ-loop → ℕ → List ℕ
-flagged c n = flagsOf (entered c .args .stamp) n (c .loop .visited)
-
-abbrev tried : tie.After-is-empty-read Inv-loop μ-loop → tie.At-loop Inv-loop μ-loop
-tried c = c .before .before .before .before .before
-
-told : (c : tie.After-is-empty-read Inv-loop μ-loop) (n : ℕ) (us : List Use) → OfThis (tried c) n us → c .is-empty-read .result ≡ isEmptyRead (flagged (tried c) n) [] (used (entered (tried c) .args .captured) (tried c))
-told c n us o =
-    (rw (c .before .before .wide .ensures) at (c .is-empty-read .ensures)) n (o .placed (tried c .loop .i) (c .before .before .before .before .loop-test .taken) .placed)
+told : (c : tie.After-is-empty-read Inv-loop μ-loop) (n : ℕ) → AllPlaced n (now (entered (tried c) .args .mine)) → c .is-empty-read .result ≡ isEmptyRead (flagsOf (entered (tried c) .args .stamp) n (tried c .before .loop .visited)) [] (useOf (word (tried c)))
+told c n p = c .is-empty-read .ensures n (p (tried c .before .loop .i) (tried c .loop-test .taken))
 
 same-length : tie.Need-same-length Inv-loop μ-loop
-same-length c = c .before .before .before .before .before .before .loop .inv .0
+same-length c = tried (c .before .before) .before .loop .inv .0
 
 returns : tie.Need-returns Inv-loop μ-loop
 returns c =
-    let t = tried (c .before) in
+    let r = c .before .before in
+    let t = tried r in
     let a = entered t .args in
-    let i = c .before .before .before .before .before .loop-test .taken in (
-      λ n us o. t .loop .inv .2 n us o ∙ found (a .captured) (a .stamp) n us (now (a .mine)) (now (a .use-word)) (now (a .use-node)) (t .loop .visited) o (t .loop .i) i (sym (told (c .before) n us o) ∙ c .if1 .taken),
-      (i, t .loop .inv .1),
+    let l = t .before .loop in (
+      λ n p. ap (λ (x : ℕ). x + 1) (c .number-of .ensures) ∙ found (a .stamp) n (l .visited) (now (a .mine)) (l .i) (t .loop-test .taken) (sym (told r n p) ∙ c .before .if1 .taken) ∙ ap codeOf (sym (l .inv .2 n p)),
+      l .inv .1,
     )
 
 mark-write-requires : tie.Need-mark-write-requires Inv-loop μ-loop
-mark-write-requires c κs =
-    let t = tried (c .before .before) in
-    rw (c .before .before .before .before .wide .ensures, t .loop .inv .0) (entered t .pre (t .loop .i) (c .before .before .before .before .before .before .loop-test .taken))
+mark-write-requires c κs = inside (tried (c .before .before))
 
 -- ---- after a turn
 
-abbrev turned : tie.After-mark-write Inv-loop μ-loop → tie.At-loop Inv-loop μ-loop
-turned c = tried (c .before .before .before)
-
 add-i : tie.Need-add-i Inv-loop μ-loop
-add-i c = omega (arith, c .before .before .before .before .before .before .before .before .before .loop-test .taken, entered (turned (c .before .before)) .good .1 .1 .1 .0)
+add-i c = let t = tried (turned (c .before .before)) in omega (arith, t .loop-test .taken, entered t .good .0)
 
 loop-less : tie.Need-loop-less Inv-loop μ-loop
-loop-less c = omega (arith, c .before .before .before .before .before .before .before .before .before .loop-test .taken)
+loop-less c = omega (arith, tried (turned (c .before .before)) .loop-test .taken)
 
-marked : (c : tie.After-mark-write Inv-loop μ-loop) → markIf (isWrite (used false (turned c))) (node (used false (turned c))) (entered (turned c) .args .stamp) (turned c .loop .visited) ≡ c .mark-write .last .1 .1 .0
-marked c = sym (rw (c .before .before .before .before .before .wide .ensures) at (c .mark-write .ensures))
-
-inside : (c : tie.After-mark-write Inv-loop μ-loop) → node (used false (turned c)) < length (turned c .loop .visited)
-inside c = rw (turned c .loop .inv .0) (entered (turned c) .pre (turned c .loop .i) (c .before .before .before .before .before .before .before .loop-test .taken) .placed)
+marked : (c : tie.After-mark-write Inv-loop μ-loop) → let t = tried (turned c) in markIf (isWrite (useOf (word t))) (nodeIn (word t)) (entered t .args .stamp) (t .before .loop .visited) ≡ c .mark-write .last .0
+marked c = sym (c .mark-write .ensures)
 
 loop-again : tie.Need-loop-again Inv-loop μ-loop
 loop-again c =
     let m = c .before .before in
-    let t = turned m in
+    let r = turned m in
+    let t = tried r in
     let a = entered t .args in
-    let i = c .before .before .before .before .before .before .before .before .before .loop-test .taken in (
-      c .before .before .mark-write .kept .1 .1 .0 ∙ t .loop .inv .0,
-      λ n f. subst (Fresh (a .stamp + 1) n) (marked m) (fresh-if (a .stamp) (node (used false t)) (t .loop .visited) (isWrite (used false t)) (t .loop .inv .1 n f) (inside m)),
-      λ n us o. t .loop .inv .2 n us o ∙ passed (a .captured) (a .stamp) n us (now (a .mine)) (now (a .use-word)) (now (a .use-node)) (t .loop .visited) o (t .loop .i) i (inside m) (sym (told (c .before .before .before .before .before) n us o) ∙ c .before .before .before .before .if1 .left) ∙ ap (λ (l : List ℕ). firstEmptyRead (flagsOf (a .stamp) n l) [] (drop (t .loop .i + 1) us)) (marked m),
+    let l = t .before .loop in
+    let w = word t in (
+      m .mark-write .kept .0 ∙ l .inv .0,
+      λ f. subst (Stamped (a .stamp)) (marked m) (bounded-if (a .stamp) (nodeIn w) (l .visited) (isWrite (useOf w)) (inside t) (l .inv .1 f)),
+      λ n p. l .inv .2 n p ∙ passed (a .stamp) n (l .visited) (now (a .mine)) (l .i) (t .loop-test .taken) p (inside t) (sym (told r n p) ∙ m .before .before .if1 .left) ∙ ap (λ (x : List ℕ). firstEmptyRead (flagsOf (a .stamp) n x) [] (usesIn (drop (l .i + 1) (now (a .mine))))) (marked m),
     )
 
 same-length-2 : tie.Need-same-length-2 Inv-loop μ-loop
@@ -111,9 +107,9 @@ same-length-2 c = c .before .loop .inv .0
 
 returns-2 : tie.Need-returns-2 Inv-loop μ-loop
 returns-2 c =
-    let t = c .before in
-    let a = entered t .args in
-    (λ n us o. t .loop .inv .2 n us o ∙ ended (a .captured) (a .stamp) n us (now (a .mine)) (now (a .use-word)) (now (a .use-node)) (t .loop .visited) o (t .loop .i) (c .loop-test .left), (tt, t .loop .inv .1))
+    let l = c .before .loop in
+    let a = c .before .before .before .before .args in
+    (λ n p. ended (a .stamp) n (l .visited) (now (a .mine)) (l .i) (c .loop-test .left) ∙ ap codeOf (sym (l .inv .2 n p)), l .inv .1)
 
 pub first-unassigned-use-spec : {M : Type 1} → statement M
 first-unassigned-use-spec =
@@ -122,10 +118,11 @@ first-unassigned-use-spec =
     Inv-loop
     μ-loop
     loop-holds
-    mul-wide
-    shared-slice-read-wide
-    wide-requires
+    mul-word
+    shared-slice-read-word
     is-empty-read-requires
+    number-of-requires
+    add-result
     same-length
     returns
     mark-write-requires

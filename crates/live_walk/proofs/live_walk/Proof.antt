@@ -1,31 +1,31 @@
--- `live_walk::live_walk` meets its contract: the law of a search with stamps, from after the writes.
+-- `live_walk::live_walk` meets its contract: the law of a search by a stamp that counts its turns, from after the writes.
 -- Assumes nothing.
 use mathlib.Core.Path.{_≡_, refl, _∙_}
 use native.Mathlib.Omega.{arith}
-use borrow.Author.Needs.{needs}
 use denote.Ref.{now}
 use lib.ListN.{length}
+use Rattle.search.specs.Worklist.{State, st, pop, topmost}
+use Rattle.search.specs.Stamps.{flagged, stampAll}
 use Rattle.search.proofs.Worklist.{Search, measure}
-use Rattle.live_steps.specs.Stamps.{view}
-use Rattle.live_steps.specs.Walk.{declared, usesAt}
-use Rattle.live_steps.proofs.Stamps.{fresh-ready}
+use Rattle.search.proofs.Stamps.{Counted, ready-empty, node-below, top-in, pop-ready, stamp-falls, stamp-end, count-begin, count-turn, count-end}
+use Rattle.use_words.specs.Words.{usesIn}
+use Rattle.live_steps.specs.Walk.{declared}
 use Rattle.live_walk.proofs.Walk.{fromWrites, walked-is}
-use Rattle.live_walk.proofs.Walking.{Walking, walking-begins, walking-ready, walking-node, walking-less, walking-on, walking-ends, walking-count}
 use Rattle.live_walk.proofs.live_walk.Statement.{statement}
 use Rattle.live_walk.proofs.live_walk.Tie as tie
 
 abbrev Inv-loop : tie.InvT-loop
-Inv-loop first second start use-word use-node mine visited₀ stack₀ n node scope-end stamp top₀ count₀ visited stack top count =
-    (length visited ≡ length visited₀) × (length stack ≡ length stack₀) × Walking (fromWrites n first second start (declared node scope-end) (usesAt use-word use-node mine)) stamp visited stack top count
+Inv-loop first second start mine visited₀ stack₀ n declaration stamp top₀ count₀ visited stack top count =
+    (length visited ≡ length visited₀) × (length stack ≡ length stack₀) × Counted stamp (fromWrites n first second start (declared declaration) (usesIn mine)) (st visited stack top) count
 
 abbrev μ-loop : tie.MeasureT-loop
-μ-loop first second start use-word use-node mine visited₀ stack₀ n node scope-end stamp top₀ count₀ visited stack top count =
-    measure n (view stamp n visited stack top)
+μ-loop first second start mine visited₀ stack₀ n declaration stamp top₀ count₀ visited stack top count =
+    measure n (flagged stamp n (st visited stack top))
 
--- ---- the places: after the call of seed and at the loop's head, and the start that they go back to
+-- ---- the places: after the call of seed, at the loop's head and after a turn's pushes
 
 abbrev entered : tie.After-seed Inv-loop μ-loop → tie.Start Inv-loop μ-loop
-entered c = c .before .before .before .before .before .before .before .before .before .before .before
+entered c = c .before .before .before .before .before .before .before .before .before
 
 abbrev seeded : tie.At-loop Inv-loop μ-loop → tie.After-seed Inv-loop μ-loop
 seeded c = c .before .before .before .before .before
@@ -33,87 +33,109 @@ seeded c = c .before .before .before .before .before
 abbrev begun : tie.At-loop Inv-loop μ-loop → tie.Start Inv-loop μ-loop
 begun c = entered (seeded c)
 
-abbrev turned : tie.After-expand Inv-loop μ-loop → tie.At-loop Inv-loop μ-loop
-turned c = c .before .before .before .before .before .before
+abbrev turned : tie.After-expand Inv-loop μ-loop → tie.In-loop Inv-loop μ-loop
+turned c = c .before .before .before .before .before
+
+-- the search, and what it has come to
 
 abbrev walk : tie.Start Inv-loop μ-loop → Search
 walk c =
     let a = c .args in
-    fromWrites (a .n) (now (a .first)) (now (a .second)) (now (a .start)) (declared (a .node) (a .scope-end)) (usesAt (now (a .use-word)) (now (a .use-node)) (now (a .mine)))
+    fromWrites (a .n) (now (a .first)) (now (a .second)) (now (a .start)) (declared (a .declaration)) (usesIn (now (a .mine)))
+
+abbrev here : tie.At-loop Inv-loop μ-loop → State
+here c = st (c .loop .visited) (c .loop .stack) (c .loop .top)
+
+abbrev after : tie.After-expand Inv-loop μ-loop → State
+after c = let l = c .expand .last .1 .1 .1 in st (l .0) (l .1 .0) (c .expand .result)
 
 -- ---- before the loop
 
 seed-requires : tie.Need-seed-requires Inv-loop μ-loop
 seed-requires c κs =
-    let a = c .before .before .before .before .before .before .before .before .before .before .args in
-    let p = c .before .before .before .before .before .before .before .before .before .before .pre in
-    (fresh-ready (a .stamp) (a .n) (now (a .visited)) (now (a .stack)) (p .1 .1 .0) (p .0 .1) (p .1 .1 .1), (p .0 .0, p .1 .0))
+    let e = c .before .before .before .before .before .before .before .before in
+    let a = e .args in
+    let p = e .pre in
+    ((ready-empty (a .stamp) (a .n) (now (a .visited)) (now (a .stack)) (p .0 .0 .marks-hold) (p .0 .0 .stack-holds), p .0 .1), p .1)
 
 loop-holds : tie.Need-loop-holds Inv-loop μ-loop
 loop-holds c =
     let m = c .before .before .before .before in
     let e = entered m in
     let a = e .args in
-    let p = e .pre in
-    let l = m .seed .last .1 .1 .1 .1 .1 .1 in
-    (refl, refl, walking-begins (walk e) (a .stamp) (now (a .visited)) (now (a .stack)) (l .0) (l .1 .0) (m .seed .result) (p .0 .1) (p .1 .1 .0) (p .1 .1 .1) (m .seed .ensures))
+    let r = e .pre .0 .0 in
+    let l = m .seed .last .1 .1 .1 .1 in
+    (refl, refl, count-begin (a .stamp) (walk e) (now (a .visited)) (now (a .stack)) (st (l .0) (l .1 .0) (m .seed .result)) (r .marks-hold) (r .stack-holds) (r .fresh) (m .seed .ensures))
 
 -- ---- a turn
 
 sub-top : tie.Need-sub-top Inv-loop μ-loop
 sub-top c = omega arith
 
-mul-wide : tie.Need-mul-wide Inv-loop μ-loop
-mul-wide c = omega (arith, c .before .loop .inv .2 .few, c .before .loop .inv .2 .counted)
-
-slice-read-wide : tie.Need-slice-read-wide Inv-loop μ-loop
-slice-read-wide c = omega (arith, c .before .before .loop .inv .2 .long, c .before .before .loop .inv .2 .counted, c .before .loop-test .taken)
-
-wide-requires : tie.Need-wide-requires Inv-loop μ-loop
-wide-requires c κs = search needs
+cell-requires : tie.Need-cell-requires Inv-loop μ-loop
+cell-requires c κs =
+    let t = c .before .before in
+    let e = begun t in
+    omega (arith, c .before .loop-test .taken, top-in (e .args .stamp) (walk e) {s = here t} (t .loop .inv .2 .underway))
 
 expand-requires : tie.Need-expand-requires Inv-loop μ-loop
 expand-requires c κs =
-    let t = c .before .before .before .before .before in
+    let m = c .before .before .before .before in
+    let t = m .before in
     let e = begun t in
-    let p = c .before .before .before .before .loop-test .taken in
-    (walking-ready (walk e) (e .args .stamp) (t .loop .inv .2) p, (e .pre .0 .0, rw (c .before .before .wide .ensures) (walking-node (walk e) (e .args .stamp) (t .loop .inv .2) p)))
+    let s = e .args .stamp in
+    let w = t .loop .inv .2 .underway in
+    let p = m .loop-test .taken in
+    ((pop-ready s (walk e) {s = here t} w p, e .pre .0 .1), (e .pre .1 .0, rw (c .before .before .cell .ensures) (node-below s (walk e) {s = here t} w _ (omega arith))))
+
+-- what the turn's pushes lead to
+pushes : (c : tie.After-expand Inv-loop μ-loop) → after c ≡ stampAll (begun (turned c .before) .args .stamp) (walk (begun (turned c .before)) .next (topmost (here (turned c .before)))) (pop (here (turned c .before)))
+pushes c = rw (c .before .before .before .cell .ensures) at (c .expand .ensures)
 
 add-count : tie.Need-add-count Inv-loop μ-loop
 add-count c =
-    let t = turned (c .before .before .before .before) in
-    omega (arith, t .loop .inv .2 .few, t .loop .inv .2 .counted)
+    let t = turned (c .before .before .before .before) .before in
+    omega (arith, t .loop .inv .2 .counted, begun t .pre .0 .1)
 
 loop-less : tie.Need-loop-less Inv-loop μ-loop
 loop-less c =
-    let m = c .before .before .before .before in
-    let t = turned m in
+    let w = c .before .before .before .before in
+    let m = turned w in
+    let t = m .before in
     let e = begun t in
-    walking-less (walk e) (e .args .stamp) (t .loop .inv .2) (m .before .before .before .before .before .loop-test .taken) (rw (m .before .before .before .wide .ensures) at (m .expand .ensures))
+    stamp-falls (e .args .stamp) (walk e) {s = here t} (t .loop .inv .2 .underway) (m .loop-test .taken) (after w) (pushes w)
 
 loop-again : tie.Need-loop-again Inv-loop μ-loop
-loop-again c = (
-  c .before .before .before .before .expand .kept .1 .1 .1 .0 ∙ c .before .before .before .before .before .before .before .before .before .before .loop .inv .0,
-  c .before .before .before .before .expand .kept .1 .1 .1 .1 .0 ∙ c .before .before .before .before .before .before .before .before .before .before .loop .inv .1,
-  walking-on (walk (begun (turned (c .before .before .before .before)))) (begun (turned (c .before .before .before .before)) .args .stamp) (turned (c .before .before .before .before) .loop .inv .2) (c .before .before .before .before .before .before .before .before .before .loop-test .taken) (rw (c .before .before .before .before .before .before .before .wide .ensures) at (c .before .before .before .before .expand .ensures)),
-)
+loop-again c =
+    let w = c .before .before .before .before in
+    let m = turned w in
+    let t = m .before in
+    let e = begun t in (
+      w .expand .kept .1 .1 .1 .0 ∙ t .loop .inv .0,
+      w .expand .kept .1 .1 .1 .1 .0 ∙ t .loop .inv .1,
+      count-turn (e .args .stamp) (walk e) {s = here t} (t .loop .inv .2) (m .loop-test .taken) (after w) (pushes w),
+    )
 
 -- ---- after the loop
 
 same-length : tie.Need-same-length Inv-loop μ-loop
-same-length c = c .before .loop .inv .0 ∙ seeded (c .before) .seed .kept .1 .1 .1 .1 .1 .1 .0
+same-length c = c .before .loop .inv .0 ∙ seeded (c .before) .seed .kept .1 .1 .1 .1 .0
 
 same-length-2 : tie.Need-same-length-2 Inv-loop μ-loop
-same-length-2 c = c .before .loop .inv .1 ∙ seeded (c .before) .seed .kept .1 .1 .1 .1 .1 .1 .1 .0
+same-length-2 c = c .before .loop .inv .1 ∙ seeded (c .before) .seed .kept .1 .1 .1 .1 .1 .0
 
 returns : tie.Need-returns Inv-loop μ-loop
 returns c =
-    let e = begun (c .before) in
+    let t = c .before in
+    let e = begun t in
     let a = e .args in
-    let w = c .before .loop .inv .2 in (
-      λ g us s. walking-ends (walk e) (a .stamp) w (omega arith) ∙ walked-is g (declared (a .node) (a .scope-end)) (a .n) (now (a .first)) (now (a .second)) (now (a .start)) (now (a .use-word)) (now (a .use-node)) (now (a .mine)) us (e .pre .0 .0 .firsts) (s .charts) (s .spells),
-      ((w .fresh, w .long), walking-count (walk e) (a .stamp) w (omega arith)),
-    )
+    let w = t .loop .inv .2 in
+    let is = walked-is (a .n) (now (a .first)) (now (a .second)) (now (a .start)) (declared (a .declaration)) (usesIn (now (a .mine))) (e .pre .1 .0 .firsts) in
+    record {
+      marks = stamp-end (a .stamp) (walk e) {s = here t} (w .underway) (omega arith) ∙ is;
+      count = rw (← is) (count-end (a .stamp) (walk e) {s = here t} w (omega arith));
+      stamped = w .underway .bounded;
+    }
 
 pub live-walk-spec : {M : Type 1} → statement M
 live-walk-spec =
@@ -124,9 +146,7 @@ live-walk-spec =
     seed-requires
     loop-holds
     sub-top
-    mul-wide
-    slice-read-wide
-    wide-requires
+    cell-requires
     expand-requires
     add-count
     loop-less

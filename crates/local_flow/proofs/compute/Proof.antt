@@ -7,11 +7,11 @@ use lib.ListN.{length, length-replicate}
 use denote.Ref.{now}
 use borrow.Author.Tests.{not-true}
 use Rattle.flow.specs.Locals.{locals}
-use Rattle.flow.specs.Findings.{findings}
+use Rattle.flow.specs.Findings.{findings, wordsOf}
 use Rattle.locals.specs.Entries.{Added}
-use Rattle.unassigned.specs.Pass.{Marked}
+use Rattle.unassigned.specs.Pass.{Figures}
 use Rattle.local_flow.specs.Sheets.{Sheets, Given}
-use Rattle.local_flow.proofs.Columns.{counted, known, few-names, given, nothing-found, zero-marked}
+use Rattle.local_flow.proofs.Columns.{counted, known, few-names, given, nothing-found, zero-figures}
 use borrow.Author.Needs.{needs}
 use Rattle.local_flow.proofs.compute.Statement.{statement}
 use Rattle.local_flow.proofs.compute.Tie as tie
@@ -19,10 +19,10 @@ use Rattle.local_flow.proofs.compute.Tie as tie
 -- ---- where the facts of the names are known
 
 abbrev begun : tie.After-find-names → tie.Start
-begun c = let k = c .before .before .before .before in k .before .before .before .before .before .before .before .before .before .before .before .before
+begun c = let k = c .before .before .before in k .before .before .before .before .before .before .before .before .before .before .before
 
 few : (c : tie.After-find-names) → c .find-names .result ≤ 1024
-few c = few-names (begun c .pre .0 .sheets) (c .find-names .ensures)
+few c = few-names (begun c .pre .0 .2) (c .find-names .ensures)
 
 long : (c : tie.After-find-names) → c .find-names .result ≤ length (c .find-names .last .1 .0)
 long c = omega (arith, few c, c .find-names .kept .1 .0, length-replicate {A = ℕ} 1024 0)
@@ -30,22 +30,26 @@ long c = omega (arith, few c, c .find-names .kept .1 .0, length-replicate {A = �
 abbrev SheetsHere : tie.After-find-names → List ℕ → List ℕ → Type 0
 SheetsHere c S U =
     let a = begun c .args in
-    Sheets S U (a .n) (a .codes) (now (a .kinds)) (now (a .first)) (now (a .second)) (now (a .start)) (now (a .code-span)) (now (a .code-node)) (now (a .name-span)) (now (a .name-node)) (now (a .name-end)) (now (a .use-word)) (now (a .use-span))
+    Sheets S U (a .n) (a .codes) (now (a .kinds)) (now (a .first)) (now (a .second)) (now (a .start)) (now (a .code-span)) (now (a .code-node)) (now (a .name-node)) (now (a .name-end)) (now (a .use-word)) (now (a .use-span))
 
 abbrev GivenHere : tie.After-find-names → List ℕ → List ℕ → Type 0
 GivenHere c S U =
     let a = begun c .args in
-    Given S U (a .n) (a .codes) (c .find-names .result) (now (a .first)) (now (a .second)) (now (a .start)) (now (a .code-span)) (now (a .code-node)) (now (a .name-span)) (now (a .name-node)) (now (a .name-end)) (c .find-names .last .1 .0) (now (a .use-word)) (now (a .use-span))
+    Given S U (a .n) (a .codes) (c .find-names .result) (now (a .first)) (now (a .second)) (now (a .start)) (now (a .code-span)) (now (a .code-node)) (now (a .name-node)) (now (a .name-end)) (now (a .use-word)) (now (a .use-span)) (c .find-names .last .1 .0)
 
 given-here : (c : tie.After-find-names) → (S U : List ℕ) → SheetsHere c S U → GivenHere c S U
 given-here c S U p = given p (c .find-names .ensures) (long c)
 
-given-now : (c : tie.After-find-names) → let j = begun c .pre .0 in GivenHere c (j .sheet) (j .uses)
-given-now c = let j = begun c .pre .0 in given-here c (j .sheet) (j .uses) (j .sheets)
-
 -- what is found for the facts is found for the sheets
-found : (c : tie.After-find-names) {r : ℕ} {words spans words′ spans′ marks marks′ : List ℕ} → ((S U : List ℕ) → GivenHere c S U → Added (findings S U) 0 words spans r words′ spans′) → Marked (begun c .args .n) (c .find-names .result) marks marks′ → (S U : List ℕ) → SheetsHere c S U → Added (findings S U) 0 words spans r words′ spans′ × Marked (begun c .args .n) (length (locals S)) marks marks′
-found c f m S U p = (f S U (given-here c S U p), rw (counted p (c .find-names .ensures)) m)
+abbrev FoundHere : (c : tie.After-find-names) (names r : ℕ) (words words′ marks marks′ : List ℕ) → List ℕ → List ℕ → Type 0
+FoundHere c names r words words′ marks marks′ S U = Added (wordsOf (findings S U)) 0 words r words′ × Figures S U names marks marks′
+
+found : (c : tie.After-find-names) {r : ℕ} {words words′ marks marks′ : List ℕ} → ((S U : List ℕ) → GivenHere c S U → FoundHere c (c .find-names .result) r words words′ marks marks′ S U) → (S U : List ℕ) → SheetsHere c S U → FoundHere c (length (locals S)) r words words′ marks marks′ S U
+found c f S U p = let q = f S U (given-here c S U p) in (q .0, rw (counted p (c .find-names .ensures)) (q .1))
+
+-- where no local is tracked
+abbrev untracked : tie.After-clear → tie.After-find-names
+untracked c = c .before .before .before .before .before .before
 
 slice-aggregate-find-names : tie.Need-slice-aggregate-find-names
 slice-aggregate-find-names c = search needs
@@ -60,15 +64,24 @@ any-tracked-requires : tie.Need-any-tracked-requires
 any-tracked-requires c κs = long (c .before .before)
 
 clear-requires : tie.Need-clear-requires
-clear-requires c κs = omega (arith, begun (c .before .before .before .before .before) .pre .1 .1, few (c .before .before .before .before .before))
+clear-requires c κs =
+    let d = c .before .before .before .before .before in
+    omega (arith, begun d .pre .1 .1, few d)
 
 same-length : tie.Need-same-length
 same-length c = search needs
 
 returns : tie.Need-returns
 returns c =
-    let s = c .before .before .before .before .before .before .before .before .find-names .ensures in
-    λ S U p. (nothing-found S U (counted p s) (known p s) (c .before .before .before .before .before .any-tracked .ensures (not-true (c .before .before .before .before .before .any-tracked .result) (c .before .before .before .before .if1 .taken))), rw (counted p s) (zero-marked (omega (arith, begun (c .before .before .before .before .before .before .before .before) .pre .1 .1, few (c .before .before .before .before .before .before .before .before))) (c .before .before .clear .ensures)))
+    let k : tie.After-clear = c .before .before in
+    let d = untracked k in
+    let a : tie.After-any-tracked = k .before .before .before in
+    let facts = d .find-names .last .1 .0 in
+    let none = a .any-tracked .ensures (not-true (a .any-tracked .result) (k .before .before .if1 .taken)) in
+    λ S U p. (
+      nothing-found S U facts (counted p (d .find-names .ensures)) (known p (d .find-names .ensures)) none (now (begun d .args .finding-word)),
+      rw (counted p (d .find-names .ensures)) (zero-figures S U facts (counted p (d .find-names .ensures)) (known p (d .find-names .ensures)) none (omega (arith, begun d .pre .1 .1, few d)) (k .clear .ensures)),
+    )
 
 is-small-requires : tie.Need-is-small-requires
 is-small-requires c κs = search needs
@@ -78,9 +91,10 @@ slice-aggregate-compute-small c = search needs
 
 compute-small-requires : tie.Need-compute-small-requires
 compute-small-requires c κs =
-    let d = c .before .before .before .before .before .before .before .before .before .before in
+    let d : tie.After-find-names = c .before .before .before .before .before .before .before .before .before in
     let j = begun d .pre .0 in
-    (record { sheet = j .sheet; uses = j .uses; given = given-now d }, (begun d .pre .1, c .before .before .before .before .before .is-small .ensures (c .before .before .before .before .if2 .taken)))
+    let small = c .before .before .before .before .is-small .ensures (c .before .before .before .if2 .taken) in
+    ((j .0, j .1, given-here d (j .0) (j .1) (j .2)), (begun d .pre .1 .0, begun d .pre .1 .1, small .0, small .1, small .2))
 
 same-length-2 : tie.Need-same-length-2
 same-length-2 c = search needs
@@ -88,32 +102,30 @@ same-length-2 c = search needs
 same-length-3 : tie.Need-same-length-3
 same-length-3 c = search needs
 
-same-length-4 : tie.Need-same-length-4
-same-length-4 c = search needs
-
 returns-2 : tie.Need-returns-2
-returns-2 c = let k = c .before .before .before .before .before .before in found (k .before .before .before .before .before .before .before .before .before .before .before) (k .compute-small .ensures .0) (k .compute-small .ensures .1)
+returns-2 c =
+    let k : tie.After-compute-small = c .before .before .before .before .before in
+    found (k .before .before .before .before .before .before .before .before .before .before) (k .compute-small .ensures)
 
 slice-aggregate-compute-large : tie.Need-slice-aggregate-compute-large
 slice-aggregate-compute-large c = search needs
 
 compute-large-requires : tie.Need-compute-large-requires
 compute-large-requires c κs =
-    let d = c .before .before .before .before .before .before .before .before .before .before in
+    let d : tie.After-find-names = c .before .before .before .before .before .before .before .before .before in
     let j = begun d .pre .0 in
-    (record { sheet = j .sheet; uses = j .uses; given = given-now d }, begun d .pre .1)
+    ((j .0, j .1, given-here d (j .0) (j .1) (j .2)), begun d .pre .1)
+
+same-length-4 : tie.Need-same-length-4
+same-length-4 c = search needs
 
 same-length-5 : tie.Need-same-length-5
 same-length-5 c = search needs
 
-same-length-6 : tie.Need-same-length-6
-same-length-6 c = search needs
-
-same-length-7 : tie.Need-same-length-7
-same-length-7 c = search needs
-
 returns-3 : tie.Need-returns-3
-returns-3 c = let k = c .before .before .before .before .before .before in found (k .before .before .before .before .before .before .before .before .before .before .before) (k .compute-large .ensures .0) (k .compute-large .ensures .1)
+returns-3 c =
+    let k : tie.After-compute-large = c .before .before .before .before .before in
+    found (k .before .before .before .before .before .before .before .before .before .before) (k .compute-large .ensures)
 
 pub compute-spec : {M : Type 1} → statement M
 compute-spec =
@@ -131,11 +143,9 @@ compute-spec =
     compute-small-requires
     same-length-2
     same-length-3
-    same-length-4
     returns-2
     slice-aggregate-compute-large
     compute-large-requires
+    same-length-4
     same-length-5
-    same-length-6
-    same-length-7
     returns-3)

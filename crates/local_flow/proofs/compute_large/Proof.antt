@@ -1,60 +1,70 @@
--- `local_flow::compute_large` meets its contract: columns of 1,600 cells are memory for any sheet.
+-- `local_flow::compute_large` meets its contract: columns of 1,600 cells, and of 1,024 for uses, are memory for it.
 -- Assumes nothing.
 use native.Mathlib.Omega.{arith}
-use Rattle.local_flow.proofs.Columns.{sorting-room, walking-room}
+use Rattle.local_flow.proofs.Columns.{pair, tables-room, walking-room}
 use borrow.Author.Needs.{needs}
 use Rattle.local_flow.proofs.compute_large.Statement.{statement}
 use Rattle.local_flow.proofs.compute_large.Tie as tie
 
-slice-aggregate-compute-in : tie.Need-slice-aggregate-compute-in
-slice-aggregate-compute-in c = search needs
+-- ---- the places: as the call begins, and after the tables are made
 
-slice-aggregate-compute-in-2 : tie.Need-slice-aggregate-compute-in-2
-slice-aggregate-compute-in-2 c = search needs
+abbrev begun : tie.After-by-node → tie.Start
+begun c = let k : tie.After-slice-known = c .before .before .before .before .before .before .before in k .before .before .before .before .before .before .before .before .before .before
 
-slice-aggregate-compute-in-3 : tie.Need-slice-aggregate-compute-in-3
-slice-aggregate-compute-in-3 c = search needs
+abbrev made : tie.After-list-findings-arg3 → tie.After-make-tables
+made c = let k : tie.After-list-findings-arg = c .before .before .before .before .before .before .before .before .before .before .before in k .before .before .before .before .before .before .before
 
-slice-aggregate-compute-in-4 : tie.Need-slice-aggregate-compute-in-4
-slice-aggregate-compute-in-4 c = search needs
+slice-aggregate-make-tables : tie.Need-slice-aggregate-make-tables
+slice-aggregate-make-tables c = search needs
 
-slice-aggregate-compute-in-5 : tie.Need-slice-aggregate-compute-in-5
-slice-aggregate-compute-in-5 c = search needs
+slice-aggregate-make-tables-2 : tie.Need-slice-aggregate-make-tables-2
+slice-aggregate-make-tables-2 c = search needs
 
-slice-aggregate-compute-in-6 : tie.Need-slice-aggregate-compute-in-6
-slice-aggregate-compute-in-6 c = search needs
+slice-aggregate-make-tables-3 : tie.Need-slice-aggregate-make-tables-3
+slice-aggregate-make-tables-3 c = search needs
 
-slice-aggregate-compute-in-7 : tie.Need-slice-aggregate-compute-in-7
-slice-aggregate-compute-in-7 c = search needs
+slice-aggregate-make-tables-4 : tie.Need-slice-aggregate-make-tables-4
+slice-aggregate-make-tables-4 c = search needs
 
-slice-aggregate-compute-in-8 : tie.Need-slice-aggregate-compute-in-8
-slice-aggregate-compute-in-8 c = search needs
+make-tables-requires : tie.Need-make-tables-requires
+make-tables-requires c κs =
+    let g = begun c .pre .0 .2 in
+    let r = begun c .pre .1 in
+    ((g .code-table, g .use-table), ((omega (arith, g .charted .some), g .charted .few, g .named .few), tables-room 1600 1024 (g .facts-long) (g .charted .few) (omega (arith, g .named .few)) (g .use-table .few)))
 
-slice-aggregate-compute-in-9 : tie.Need-slice-aggregate-compute-in-9
-slice-aggregate-compute-in-9 c = search needs
+slice-aggregate-list-findings : tie.Need-slice-aggregate-list-findings
+slice-aggregate-list-findings c = search needs
 
-slice-aggregate-compute-in-10 : tie.Need-slice-aggregate-compute-in-10
-slice-aggregate-compute-in-10 c = search needs
+slice-aggregate-list-findings-2 : tie.Need-slice-aggregate-list-findings-2
+slice-aggregate-list-findings-2 c = search needs
 
-slice-aggregate-compute-in-11 : tie.Need-slice-aggregate-compute-in-11
-slice-aggregate-compute-in-11 c = search needs
+slice-aggregate-list-findings-3 : tie.Need-slice-aggregate-list-findings-3
+slice-aggregate-list-findings-3 c = search needs
 
-slice-aggregate-compute-in-12 : tie.Need-slice-aggregate-compute-in-12
-slice-aggregate-compute-in-12 c = search needs
+slice-aggregate-list-findings-4 : tie.Need-slice-aggregate-list-findings-4
+slice-aggregate-list-findings-4 c = search needs
 
-slice-aggregate-compute-in-13 : tie.Need-slice-aggregate-compute-in-13
-slice-aggregate-compute-in-13 c = search needs
+slice-aggregate-list-findings-5 : tie.Need-slice-aggregate-list-findings-5
+slice-aggregate-list-findings-5 c = search needs
 
-slice-aggregate-compute-in-14 : tie.Need-slice-aggregate-compute-in-14
-slice-aggregate-compute-in-14 c = search needs
+slice-aggregate-list-findings-6 : tie.Need-slice-aggregate-list-findings-6
+slice-aggregate-list-findings-6 c = search needs
 
-compute-in-requires : tie.Need-compute-in-requires
-compute-in-requires c κs =
-    let i = c .before .before .before .before .before .before .before .before .before .before .before in
-    let j = i .before .before .before .before .before .before .before .before .before .before in
-    let s = j .before .before .before .before .before .before .before .before .before .before in
-    let p = s .pre .0 .given in
-    (s .pre .0, (s .pre .1, record { sorting = sorting-room 1600 (p .charted .few) (omega (arith, p .named .few)) (omega (arith, p .use-table .few)); walks = walking-room 1600 (p .charted .few) }))
+slice-aggregate-list-findings-7 : tie.Need-slice-aggregate-list-findings-7
+slice-aggregate-list-findings-7 c = search needs
+
+slice-aggregate-list-findings-8 : tie.Need-slice-aggregate-list-findings-8
+slice-aggregate-list-findings-8 c = search needs
+
+slice-aggregate-list-findings-9 : tie.Need-slice-aggregate-list-findings-9
+slice-aggregate-list-findings-9 c = search needs
+
+list-findings-requires : tie.Need-list-findings-requires
+list-findings-requires c κs =
+    let s = begun (made c .before) .pre in
+    let g = s .0 .2 in
+    let r = s .1 in
+    ((s .0 .0, s .0 .1, pair g (made c .make-tables .ensures (s .0 .0) (s .0 .1) (g .sources))), (walking-room 1600 (g .charted .few), (omega (arith, r .0, g .named .few), omega (arith, r .1, g .named .few))))
 
 same-length : tie.Need-same-length
 same-length c = search needs
@@ -66,27 +76,29 @@ same-length-3 : tie.Need-same-length-3
 same-length-3 c = search needs
 
 returns : tie.Need-returns
-returns c = search needs
+returns c =
+    let l : tie.After-list-findings = c .before .before .before .before .before .before .before .before .before .before in
+    λ S U q. l .list-findings .ensures S U (pair q (made (l .before) .make-tables .ensures S U (q .sources)))
 
 pub compute-large-spec : {M : Type 1} → statement M
 compute-large-spec =
     tie.close
     (tie.spec
-    slice-aggregate-compute-in
-    slice-aggregate-compute-in-2
-    slice-aggregate-compute-in-3
-    slice-aggregate-compute-in-4
-    slice-aggregate-compute-in-5
-    slice-aggregate-compute-in-6
-    slice-aggregate-compute-in-7
-    slice-aggregate-compute-in-8
-    slice-aggregate-compute-in-9
-    slice-aggregate-compute-in-10
-    slice-aggregate-compute-in-11
-    slice-aggregate-compute-in-12
-    slice-aggregate-compute-in-13
-    slice-aggregate-compute-in-14
-    compute-in-requires
+    slice-aggregate-make-tables
+    slice-aggregate-make-tables-2
+    slice-aggregate-make-tables-3
+    slice-aggregate-make-tables-4
+    make-tables-requires
+    slice-aggregate-list-findings
+    slice-aggregate-list-findings-2
+    slice-aggregate-list-findings-3
+    slice-aggregate-list-findings-4
+    slice-aggregate-list-findings-5
+    slice-aggregate-list-findings-6
+    slice-aggregate-list-findings-7
+    slice-aggregate-list-findings-8
+    slice-aggregate-list-findings-9
+    list-findings-requires
     same-length
     same-length-2
     same-length-3

@@ -3,58 +3,80 @@
 use Prim.Native.Nat.{_-_}
 use native.Mathlib.Omega.{arith}
 use denote.Ref.{now}
+use mathlib.Core.List.{[]}
 use lib.ListN.{length}
-use Rattle.uses_by_node.specs.Uses.{Table, table}
-use Rattle.local_values.proofs.Writes.{Passed, passed-none, room-left, passed-turn, passed-end}
+use Rattle.search.specs.Stamps.{flagsOf}
+use Rattle.flow.specs.Graph.{Graph}
+use Rattle.flow.specs.Findings.{Ahead}
+use Rattle.live_steps.specs.Walk.{chart}
+use Rattle.local_values.proofs.Writes.{Passed, passed-none, passed-long, passed-count, room-left, passed-turn, passed-end}
 use Rattle.local_values.proofs.list_writes.Statement.{statement}
 use Rattle.local_values.proofs.list_writes.Tie as tie
 
 abbrev Inv-loop : tie.InvT-loop
-Inv-loop first second use-word use-node use-span sorted reads writes finding-word₀ finding-span₀ n stamp local before count₀ i₀ finding-word finding-span count i =
-    Passed stamp n local first second (table use-word use-node sorted) use-span reads writes before finding-word₀ finding-span₀ count i finding-word finding-span
+Inv-loop first second sorted reads writes finding-word₀ n stamp local before count₀ i₀ finding-word count i =
+    Passed (chart n first second []) (record { reads = flagsOf stamp n reads; writes = flagsOf stamp n writes }) local sorted before finding-word₀ count i finding-word
 
 abbrev μ-loop : tie.MeasureT-loop
-μ-loop first second use-word use-node use-span sorted reads writes finding-word₀ finding-span₀ n stamp local before count₀ i₀ finding-word finding-span count i = length sorted - i
+μ-loop first second sorted reads writes finding-word₀ n stamp local before count₀ i₀ finding-word count i = length sorted - i
 
-abbrev uses : tie.Start Inv-loop μ-loop → Table
-uses c = table (now (c .args .use-word)) (now (c .args .use-node)) (now (c .args .sorted))
+-- ---- the places: the loop's head, and the start that it goes back to
+
+abbrev begun : tie.At-loop Inv-loop μ-loop → tie.Start Inv-loop μ-loop
+begun c = c .before .before .before .before .before .before .before
+
+abbrev turned : tie.After-push-if-overwritten Inv-loop μ-loop → tie.At-loop Inv-loop μ-loop
+turned c = c .before .before .before
+
+-- the graph of the columns, and what the marks say is ahead
+
+abbrev nodes : tie.Start Inv-loop μ-loop → Graph
+nodes c = chart (c .args .n) (now (c .args .first)) (now (c .args .second)) []
+
+abbrev seen : tie.Start Inv-loop μ-loop → Ahead
+seen c = record { reads = flagsOf (c .args .stamp) (c .args .n) (now (c .args .reads)); writes = flagsOf (c .args .stamp) (c .args .n) (now (c .args .writes)) }
 
 loop-holds : tie.Need-loop-holds Inv-loop μ-loop
 loop-holds c =
-    let a = c .before .before .before .before .before .before .before .before .before .before .args in
-    passed-none (a .stamp) (a .n) (a .local) (now (a .first)) (now (a .second)) (uses (c .before .before .before .before .before .before .before .before .before .before)) (now (a .use-span)) (now (a .reads)) (now (a .writes)) (a .before) (now (a .finding-word)) (now (a .finding-span))
+    let b = c .before .before .before .before .before .before in
+    let a = b .args in
+    passed-none (nodes b) (seen b) (a .local) (now (a .sorted)) (a .before) (now (a .finding-word))
 
 push-if-overwritten-requires : tie.Need-push-if-overwritten-requires Inv-loop μ-loop
 push-if-overwritten-requires c κs =
-    let a = c .before .before .before .before .before .before .before .before .before .before .before .before .before .before .args in
-    let l = c .before .before .before .loop in
-    (c .before .before .before .before .before .before .before .before .before .before .before .before .before .before .pre .0, (c .before .before .before .before .before .before .before .before .before .before .before .before .before .before .pre .1 .0, ((c .before .before .loop-test .taken, c .before .before .before .before .before .before .before .before .before .before .before .before .before .before .pre .1 .1 .0), room-left (a .stamp) (a .n) (a .local) (now (a .first)) (now (a .second)) (uses (c .before .before .before .before .before .before .before .before .before .before .before .before .before .before)) (now (a .use-span)) (now (a .reads)) (now (a .writes)) (a .before) (now (a .finding-word)) (now (a .finding-span)) (c .before .before .before .before .before .before .before .before .before .before .before .before .before .before .pre .1 .1 .1) (l .count) (l .i) (l .finding-word) (l .finding-span) (l .inv) (c .before .before .loop-test .taken))))
+    let l = c .before .before in
+    let b = begun l in
+    let a = b .args in
+    let t = c .before .loop-test .taken in
+    (b .pre .0, (t, b .pre .1 .0, room-left (nodes b) (seen b) (a .local) (now (a .sorted)) (a .before) (now (a .finding-word)) (b .pre .1 .1) (l .loop .inv) t))
 
 add-i : tie.Need-add-i Inv-loop μ-loop
-add-i c = omega (arith, c .before .before .before .before .before .before .before .loop-test .taken, c .before .before .before .before .before .before .before .before .before .before .before .before .before .before .before .before .before .before .before .good)
+add-i c = omega (arith, c .before .before .before .before .loop-test .taken, begun (turned (c .before .before)) .good)
 
 loop-less : tie.Need-loop-less Inv-loop μ-loop
-loop-less c = omega (arith, c .before .before .before .before .before .before .before .loop-test .taken)
+loop-less c = omega (arith, c .before .before .before .before .loop-test .taken)
 
 loop-again : tie.Need-loop-again Inv-loop μ-loop
 loop-again c =
-    let a = c .before .before .before .before .before .before .before .before .before .before .before .before .before .before .before .before .before .before .before .args in
-    let l = c .before .before .before .before .before .before .before .before .loop in
-    let p = c .before .before .before .before .push-if-overwritten in
-    passed-turn (a .stamp) (a .n) (a .local) (now (a .first)) (now (a .second)) (uses (c .before .before .before .before .before .before .before .before .before .before .before .before .before .before .before .before .before .before .before)) (now (a .use-span)) (now (a .reads)) (now (a .writes)) (a .before) (now (a .finding-word)) (now (a .finding-span)) (c .before .before .before .before .before .before .before .before .before .before .before .before .before .before .before .before .before .before .before .pre .1 .1 .1) (l .count) (l .i) (l .finding-word) (l .finding-span) (l .inv) (c .before .before .before .before .before .before .before .loop-test .taken) (p .result) (p .last .1 .1 .1 .1 .1 .1 .1 .1 .0) (p .last .1 .1 .1 .1 .1 .1 .1 .1 .1 .0) (p .ensures .0) (c .before .before .before .finding-word .given) (c .before .finding-span .given) (p .ensures .1)
+    let m = c .before .before in
+    let l = turned m in
+    let b = begun l in
+    let a = b .args in
+    passed-turn (nodes b) (seen b) (a .local) (now (a .sorted)) (a .before) (now (a .finding-word)) (b .pre .1 .1) (l .loop .inv) (m .before .before .loop-test .taken) (m .push-if-overwritten .ensures)
 
 same-length : tie.Need-same-length Inv-loop μ-loop
-same-length c = c .before .loop .inv .words-long
-
-same-length-2 : tie.Need-same-length-2 Inv-loop μ-loop
-same-length-2 c = c .before .loop .inv .spans-long
+same-length c =
+    let b = begun (c .before) in
+    let a = b .args in
+    passed-long (nodes b) (seen b) (a .local) (now (a .sorted)) (a .before) (now (a .finding-word)) (b .pre .1 .1) (c .before .loop .inv)
 
 returns : tie.Need-returns Inv-loop μ-loop
 returns c =
-    let a = c .before .before .before .before .before .before .before .before .before .before .before .before .args in
-    let l = c .before .loop in (
-      omega (arith, l .inv .few, l .inv .counted),
-      passed-end (a .stamp) (a .n) (a .local) (now (a .first)) (now (a .second)) (uses (c .before .before .before .before .before .before .before .before .before .before .before .before)) (now (a .use-span)) (now (a .reads)) (now (a .writes)) (a .before) (now (a .finding-word)) (now (a .finding-span)) (c .before .before .before .before .before .before .before .before .before .before .before .before .pre .1 .1 .1) (l .count) (l .i) (l .finding-word) (l .finding-span) (l .inv) (omega (arith, c .loop-test .left)),
+    let l = c .before .loop .inv in
+    let b = begun (c .before) in
+    let a = b .args in (
+      passed-end (nodes b) (seen b) (a .local) (now (a .sorted)) (a .before) (now (a .finding-word)) (b .pre .1 .1) l (omega (arith, c .loop-test .left)),
+      omega (arith, passed-count (nodes b) (seen b) (a .local) (now (a .sorted)) (a .before) (now (a .finding-word)) (b .pre .1 .1) l, l .few),
     )
 
 pub list-writes-spec : {M : Type 1} → statement M
@@ -69,5 +91,4 @@ list-writes-spec =
     loop-less
     loop-again
     same-length
-    same-length-2
     returns)

@@ -7,31 +7,40 @@ use denote.Ref.{now}
 use lib.ListN.{length, length-set}
 use Rattle.search.specs.Stamps.{Stamped}
 use Rattle.search.proofs.Stamps.{set-bounded, fresh-stamped}
-use Rattle.uses_by_node.specs.Uses.{nodeAt, Used}
+use Rattle.next_uses.specs.Backwards.{Used}
 use Rattle.next_uses.proofs.Turns.{used-none, used-turn}
 use Rattle.next_uses.proofs.mark_used.Statement.{statement}
 use Rattle.next_uses.proofs.mark_used.Tie as tie
 
 abbrev Inv-loop : tie.InvT-loop
-Inv-loop use-node sorted used₀ stamp i₀ used i = (i ≤ length sorted) × (length used ≡ length used₀) × Used stamp use-node sorted i used × Stamped stamp used
+Inv-loop sorted used₀ stamp i₀ used i = (i ≤ length sorted) × (length used ≡ length used₀) × Used stamp sorted i used × Stamped stamp used
 
 abbrev μ-loop : tie.MeasureT-loop
-μ-loop use-node sorted used₀ stamp i₀ used i = length sorted - i
+μ-loop sorted used₀ stamp i₀ used i = length sorted - i
+
+abbrev begun : tie.At-loop Inv-loop μ-loop → tie.Start Inv-loop μ-loop
+begun c = c .before .before .before
 
 loop-holds : tie.Need-loop-holds Inv-loop μ-loop
-loop-holds c = (omega arith, refl, used-none (c .before .before .before .args .stamp) (now (c .before .before .before .args .use-node)) (now (c .before .before .before .args .sorted)) (now (c .before .before .before .args .used)) (c .before .before .before .pre .1), fresh-stamped (c .before .before .before .args .stamp) (now (c .before .before .before .args .used)) (c .before .before .before .pre .1))
+loop-holds c =
+    let s = c .before .before in
+    let a = s .args in
+    (omega arith, refl, used-none (a .stamp) (now (a .sorted)) (now (a .used)) (s .pre .1), fresh-stamped (a .stamp) (now (a .used)) (s .pre .1))
 
-cell-requires : tie.Need-cell-requires Inv-loop μ-loop
-cell-requires c κs = omega arith
+mul-node-of : tie.Need-mul-node-of Inv-loop μ-loop
+mul-node-of c = omega arith
 
-cell-requires-2 : tie.Need-cell-requires-2 Inv-loop μ-loop
-cell-requires-2 c κs = omega (arith, c .before .before .before .before .before .before .pre .0 .numbers (c .before .before .loop .i) (c .before .loop-test .taken), c .cell .ensures)
+shared-slice-read-node-of : tie.Need-shared-slice-read-node-of Inv-loop μ-loop
+shared-slice-read-node-of c = omega arith
 
-node-is : (c : tie.After-cell2 Inv-loop μ-loop) → c .cell2 .result ≡ nodeAt (now (c .before .before .before .before .before .before .before .args .use-node)) (now (c .before .before .before .before .before .before .before .args .sorted)) (c .before .before .before .loop .i)
-node-is c = rw (← c .before .cell .ensures) (c .cell2 .ensures)
+node-of-requires : tie.Need-node-of-requires Inv-loop μ-loop
+node-of-requires c κs = tt
 
-node-below : (c : tie.After-cell2 Inv-loop μ-loop) → c .cell2 .result < length (c .before .before .before .loop .used)
-node-below c = omega (arith, node-is c, c .before .before .before .before .before .before .before .pre .0 .below (c .before .before .before .loop .i) (c .before .before .loop-test .taken), c .before .before .before .loop .inv .1)
+-- the node that is marked
+node-below : (c : tie.After-node-of Inv-loop μ-loop) → c .node-of .result < length (c .before .before .before .loop .used)
+node-below c =
+    let l = c .before .before .before in
+    omega (arith, c .node-of .ensures, begun l .pre .0 (l .loop .i) (c .before .before .loop-test .taken), l .loop .inv .1)
 
 mul-used : tie.Need-mul-used Inv-loop μ-loop
 mul-used c = omega (arith, node-below c)
@@ -40,20 +49,20 @@ slice-write-used : tie.Need-slice-write-used Inv-loop μ-loop
 slice-write-used c = node-below c
 
 add-i : tie.Need-add-i Inv-loop μ-loop
-add-i c = omega (arith, c .before .before .loop-test .taken, c .before .before .before .before .before .before .before .good)
+add-i c = omega (arith, c .before .before .loop-test .taken, begun (c .before .before .before) .good)
 
 loop-less : tie.Need-loop-less Inv-loop μ-loop
 loop-less c = omega (arith, c .before .before .loop-test .taken)
 
 loop-again : tie.Need-loop-again Inv-loop μ-loop
 loop-again c =
-    let a = c .before .before .before .before .before .before .before .args in
+    let a = begun (c .before .before .before) .args in
     let l = c .before .before .before .loop in
-    let v = c .cell2 .result in
+    let v = c .node-of .result in
     let h = node-below c in (
       omega (arith, c .before .before .loop-test .taken),
       simp length-set (l .inv .1),
-      used-turn (a .stamp) (now (a .use-node)) (now (a .sorted)) (l .i) (l .used) v (node-is c) h (l .inv .2),
+      used-turn (a .stamp) (now (a .sorted)) (l .i) (l .used) v (c .node-of .ensures) h (l .inv .2),
       set-bounded (a .stamp) (l .used) v h (l .inv .3),
     )
 
@@ -62,10 +71,10 @@ same-length c = c .before .loop .inv .1
 
 returns : tie.Need-returns Inv-loop μ-loop
 returns c =
-    let a = c .before .before .before .before .before .args in
+    let a = begun (c .before) .args in
     let l = c .before .loop in
     let e : l .i ≡ length (now (a .sorted)) = omega (arith, c .loop-test .left, l .inv .0) in
-    (subst (λ (k : ℕ). Used (a .stamp) (now (a .use-node)) (now (a .sorted)) k (l .used)) e (l .inv .2), l .inv .3)
+    (subst (λ (k : ℕ). Used (a .stamp) (now (a .sorted)) k (l .used)) e (l .inv .2), l .inv .3)
 
 pub mark-used-spec : {M : Type 1} → statement M
 mark-used-spec =
@@ -74,8 +83,9 @@ mark-used-spec =
     Inv-loop
     μ-loop
     loop-holds
-    cell-requires
-    cell-requires-2
+    mul-node-of
+    shared-slice-read-node-of
+    node-of-requires
     mul-used
     slice-write-used
     add-i

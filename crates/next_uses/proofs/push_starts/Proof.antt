@@ -11,70 +11,78 @@ use Rattle.search.specs.Search.{cons-if}
 use Rattle.search.specs.Worklist.{State, st}
 use Rattle.search.specs.Stamps.{stampAll, Ready}
 use Rattle.search.proofs.Stamps.{all-ready, push-room, ready-empty, when-one, when-nodes}
-use Rattle.uses_by_node.specs.Uses.{Table, table, nodeAt}
-use Rattle.predecessors.specs.Scope.{Scope, scope}
+use Rattle.live_steps.specs.Walk.{declared}
+use Rattle.uses_by_node.proofs.Places.{nodeAt}
 use Rattle.next_uses.specs.Backwards.{startsHere, startsTo}
 use Rattle.next_uses.proofs.Turns.{starts-turn}
 use Rattle.next_uses.proofs.push_starts.Statement.{statement}
 use Rattle.next_uses.proofs.push_starts.Tie as tie
 
 abbrev Inv-loop : tie.InvT-loop
-Inv-loop start use-word use-node sorted marks₀ stack₀ n node scope-end stamp pure top₀ i₀ marks stack top i =
-    (i ≤ length sorted) × Ready stamp n (st marks stack top) × (st marks stack top ≡ stampAll stamp (startsTo (scope start node scope-end) (table use-word use-node sorted) pure i) (st marks₀ stack₀ 0)) × (length marks ≡ length marks₀) × (length stack ≡ length stack₀)
+Inv-loop start sorted marks₀ stack₀ n declaration stamp pure top₀ i₀ marks stack top i =
+    (i ≤ length sorted) × Ready stamp n (st marks stack top) × (st marks stack top ≡ stampAll stamp (startsTo start (declared declaration) sorted pure i) (st marks₀ stack₀ 0)) × (length marks ≡ length marks₀) × (length stack ≡ length stack₀)
 
 abbrev μ-loop : tie.MeasureT-loop
-μ-loop start use-word use-node sorted marks₀ stack₀ n node scope-end stamp pure top₀ i₀ marks stack top i = length sorted - i
+μ-loop start sorted marks₀ stack₀ n declaration stamp pure top₀ i₀ marks stack top i = length sorted - i
 
-abbrev scoped : tie.Start Inv-loop μ-loop → Scope
-scoped c = scope (now (c .args .start)) (c .args .node) (c .args .scope-end)
-
-abbrev uses : tie.Start Inv-loop μ-loop → Table
-uses c = table (now (c .args .use-word)) (now (c .args .use-node)) (now (c .args .sorted))
-
-abbrev begun : tie.Start Inv-loop μ-loop → State
-begun c = st (now (c .args .marks)) (now (c .args .stack)) 0
+abbrev begun : tie.At-loop Inv-loop μ-loop → tie.Start Inv-loop μ-loop
+begun c = c .before .before .before .before .before
 
 abbrev here : tie.At-loop Inv-loop μ-loop → State
 here c = st (c .loop .marks) (c .loop .stack) (c .loop .top)
 
+-- the state that the call began with
+abbrev empty : tie.Start Inv-loop μ-loop → State
+empty c = st (now (c .args .marks)) (now (c .args .stack)) 0
+
 abbrev after : tie.After-push-start Inv-loop μ-loop → State
-after c = st (c .push-start .last .1 .1 .1 .1 .0) (c .push-start .last .1 .1 .1 .1 .1 .0) (c .push-start .result)
+after c = st (c .push-start .last .1 .1 .0) (c .push-start .last .1 .1 .1 .0) (c .push-start .result)
+
+-- the turn, seen from after its call
+abbrev turn : tie.After-push-start Inv-loop μ-loop → tie.In-loop Inv-loop μ-loop
+turn c = c .before .before .before
 
 -- the node of the place
 abbrev place : tie.In-loop Inv-loop μ-loop → ℕ
-place c = nodeAt (now (c .before .before .before .before .before .before .before .before .args .use-node)) (now (c .before .before .before .before .before .before .before .before .args .sorted)) (c .before .loop .i)
+place c = nodeAt (now (begun (c .before) .args .sorted)) (c .before .loop .i)
 
-below : (c : tie.In-loop Inv-loop μ-loop) → place c < c .before .before .before .before .before .before .before .before .args .n
-below c = c .before .before .before .before .before .before .before .before .pre .1 .placed .below (c .before .loop .i) (c .loop-test .taken)
+below : (c : tie.In-loop Inv-loop μ-loop) → place c < begun (c .before) .args .n
+below c = begun (c .before) .pre .1 (c .before .loop .i) (c .loop-test .taken)
 
 loop-holds : tie.Need-loop-holds Inv-loop μ-loop
 loop-holds c =
-    let a = c .before .before .before .before .before .before .args in
-    let p = c .before .before .before .before .before .before .pre .0 in
-    (omega arith, ready-empty (a .stamp) (a .n) (now (a .marks)) (now (a .stack)) (p .2) (p .3), refl, refl, refl)
+    let s = c .before .before .before .before in
+    let a = s .args in
+    (omega arith, ready-empty (a .stamp) (a .n) (now (a .marks)) (now (a .stack)) (s .pre .0 .2) (s .pre .0 .3), refl, refl, refl)
 
 push-start-requires : tie.Need-push-start-requires Inv-loop μ-loop
 push-start-requires c κs =
     let t = c .before .before in
-    let p = c .before .before .before .before .before .before .before .before .before .before .pre in
-    let r = c .before .before .before .loop .inv .1 in
-    ((c .before .before .loop-test .taken, p .0 .1, r .long, p .0 .0), (p .1, λ q. omega (arith, push-room (c .before .before .before .before .before .before .before .before .before .before .args .stamp) (c .before .before .before .before .before .before .before .before .before .before .args .n) (place t) (below t) r q, r .fits .stack-long)))
+    let s = begun (t .before) in
+    let r = t .before .loop .inv .1 in (
+      (t .loop-test .taken, omega (arith, below t, s .pre .0 .1), omega (arith, below t, r .long)),
+      λ q. omega (arith, push-room (s .args .stamp) (s .args .n) (place t) (below t) r q, r .fits .stack-long),
+    )
 
 add-i : tie.Need-add-i Inv-loop μ-loop
-add-i c = omega (arith, c .before .before .before .before .before .before .before .loop-test .taken, c .before .before .before .before .before .before .before .before .before .before .before .before .before .before .before .good)
+add-i c =
+    let t = turn (c .before .before .before .before) in
+    omega (arith, t .loop-test .taken, begun (t .before) .good)
 
 loop-less : tie.Need-loop-less Inv-loop μ-loop
-loop-less c = omega (arith, c .before .before .before .before .before .before .before .loop-test .taken)
+loop-less c = omega (arith, turn (c .before .before .before .before) .loop-test .taken)
 
 loop-again : tie.Need-loop-again Inv-loop μ-loop
 loop-again c =
-    let a = c .before .before .before .before .before .before .before .before .before .before .before .before .before .before .before in
-    let l = c .before .before .before .before .before .before .before .before in
-    let t = c .before .before .before .before .before .before .before in
-    let b : Bool = startsHere (scoped a) (uses a) (a .args .pure) (l .loop .i) in (
-      omega (arith, c .before .before .before .before .before .before .before .loop-test .taken),
-      all-ready (a .args .stamp) (a .args .n) (cons-if b (place t) []) (when-nodes (a .args .n) b (place t) (below t)) (l .loop .inv .1) (c .before .before .before .before .push-start .ensures ∙ when-one (a .args .stamp) b (place t) (here l)),
-      starts-turn (scoped a) (uses a) (a .args .pure) (a .args .stamp) (l .loop .i) (begun a) (here l) (after (c .before .before .before .before)) (l .loop .inv .2) (c .before .before .before .before .push-start .ensures),
+    let p = c .before .before .before .before in
+    let t = turn p in
+    let l = t .before in
+    let s = begun l in
+    let a = s .args in
+    let b : Bool = startsHere (now (a .start)) (declared (a .declaration)) (now (a .sorted)) (a .pure) (l .loop .i) in (
+      omega (arith, t .loop-test .taken),
+      all-ready (a .stamp) (a .n) (cons-if b (place t) []) (when-nodes (a .n) b (place t) (below t)) (l .loop .inv .1) (p .push-start .ensures ∙ when-one (a .stamp) b (place t) (here l)),
+      starts-turn (now (a .start)) (declared (a .declaration)) (now (a .sorted)) (a .pure) (a .stamp) (l .loop .i) (empty s) (here l) (after p) (l .loop .inv .2) (p .push-start .ensures),
       c .before .before .before .marks .given ∙ l .loop .inv .3,
       c .before .stack .given ∙ l .loop .inv .4,
     )
@@ -87,10 +95,11 @@ same-length-2 c = c .before .loop .inv .4
 
 returns : tie.Need-returns Inv-loop μ-loop
 returns c =
-    let a = c .before .before .before .before .before .before .before .before in
     let l = c .before in
-    let e : l .loop .i ≡ length (now (a .args .sorted)) = omega (arith, c .loop-test .left, l .loop .inv .0) in
-    subst (λ (k : ℕ). here l ≡ stampAll (a .args .stamp) (startsTo (scoped a) (uses a) (a .args .pure) k) (begun a)) e (l .loop .inv .2)
+    let s = begun l in
+    let a = s .args in
+    let e : l .loop .i ≡ length (now (a .sorted)) = omega (arith, c .loop-test .left, l .loop .inv .0) in
+    subst (λ (k : ℕ). here l ≡ stampAll (a .stamp) (startsTo (now (a .start)) (declared (a .declaration)) (now (a .sorted)) (a .pure) k) (empty s)) e (l .loop .inv .2)
 
 pub push-starts-spec : {M : Type 1} → statement M
 push-starts-spec =

@@ -1,7 +1,7 @@
 -- `predecessors::passes` meets its contract: the two cases of its test.
 -- Assumes nothing.
 use borrow.Author.Tests.{eq-eqb, ne-eqb}
-use Rattle.predecessors.specs.Scope.{passes}
+use Rattle.predecessors.specs.Predecessors.{passes}
 use borrow.Author.Needs.{needs}
 use Rattle.predecessors.proofs.passes.Statement.{statement}
 use Rattle.predecessors.proofs.passes.Tie as tie

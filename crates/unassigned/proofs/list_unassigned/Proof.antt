@@ -1,64 +1,124 @@
 -- `unassigned::list_unassigned` meets its contract: at the loop's head the findings and mark figures of the locals below `local` are written.
 -- Assumes nothing.
 use Prim.Native.Nat.{ℕ, _-_}
-use mathlib.Core.Path.{_≡_, refl, _∙_}
+use mathlib.Core.Path.{_≡_, refl, ap, _∙_}
 use mathlib.Core.List.{List}
 use native.Mathlib.Omega.{arith}
-use Rattle.locals.proofs.Room.{unassigned-few}
-use Rattle.unassigned.specs.Pass.{Pass}
-use Rattle.unassigned.proofs.Passes.{marked-none, marked-more, Going, Listing, listing-none, listing-more}
+use native.Mathlib.Nat.{lt-of-lt-of-le}
+use lib.ListN.{set}
+use Rattle.flow.specs.Locals.{localAt}
+use Rattle.flow.specs.Findings.{usesOf, allFound}
+use Rattle.locals.specs.Columns.{Pass}
+use Rattle.locals.proofs.Columns.{part-cut, declared-at}
+use Rattle.unassigned.proofs.Locals.{local-words, local-figure}
+use Rattle.unassigned.proofs.Passes.{Going, going-more, Listing, listing-none, listing-few, listing-long, listing-more}
 use Rattle.unassigned.proofs.list_unassigned.Statement.{statement}
 use Rattle.unassigned.proofs.list_unassigned.Tie as tie
 
 abbrev Inv-loop : tie.InvT-loop
-Inv-loop first second start name-node name-end facts use-word use-span use-node lost starts by-local visited₀ stack₀ finding-word₀ finding-span₀ mark₀ n names count₀ local₀ visited stack finding-word finding-span mark count local =
-    Going n names visited₀ stack₀ finding-word₀ finding-span₀ mark₀ visited stack finding-word finding-span mark count local
-    × ((S U : List ℕ) → Pass S U n names first second start name-node name-end facts use-word use-span use-node lost starts by-local → Listing S U local finding-word₀ finding-span₀ count finding-word finding-span)
+Inv-loop first second start name-node name-end facts starts by-local visited₀ stack₀ finding-word₀ mark₀ n names count₀ local₀ visited stack finding-word mark count local =
+    Going n names visited₀ stack₀ visited stack local
+    × ((S U : List ℕ) → Pass (usesOf S U) S U n names first second start name-node name-end facts starts by-local → Listing S U local finding-word₀ mark₀ finding-word mark count)
 
 abbrev μ-loop : tie.MeasureT-loop
-μ-loop first second start name-node name-end facts use-word use-span use-node lost starts by-local visited₀ stack₀ finding-word₀ finding-span₀ mark₀ n names count₀ local₀ visited stack finding-word finding-span mark count local =
+μ-loop first second start name-node name-end facts starts by-local visited₀ stack₀ finding-word₀ mark₀ n names count₀ local₀ visited stack finding-word mark count local =
     names - local
 
+-- ---- the places: where the function starts, the loop's head, its turn, and the call
+
+abbrev begun : tie.After-slice-known4 Inv-loop μ-loop → tie.Start Inv-loop μ-loop
+begun c = c .before .before .before .before .before .before .before .before .before .before .before .before
+
+abbrev started : tie.At-loop Inv-loop μ-loop → tie.Start Inv-loop μ-loop
+started c = begun (c .before)
+
+abbrev turned : tie.After-is-due Inv-loop μ-loop → tie.In-loop Inv-loop μ-loop
+turned c = c .before .before .before .before
+
+abbrev asked : tie.After-list-local-arg4 Inv-loop μ-loop → tie.After-is-due Inv-loop μ-loop
+asked c = c .before .before .before .before
+
+abbrev listed : tie.After-slice-known8 Inv-loop μ-loop → tie.After-list-local Inv-loop μ-loop
+listed c = c .before .before .before .before .before .before .before .before
+
 loop-holds : tie.Need-loop-holds Inv-loop μ-loop
-loop-holds c = (record { within = omega arith; few = omega arith; ready = c .before .before .before .before .before .before .before .before .before .before .before .before .before .before .before .before .before .pre .1 .0 .0; marked = marked-none; visited-long = refl; stack-long = refl; words-long = refl; spans-long = refl }, λ S U p. listing-none S U)
+loop-holds c =
+    let s = begun c in
+    (record { within = omega arith; ready = s .pre .1 .0; visited-long = refl; stack-long = refl }, λ S U p. listing-none S U _ _)
+
+declaration-at-requires : tie.Need-declaration-at-requires Inv-loop μ-loop
+declaration-at-requires c κs =
+    let p = started (c .before) .pre .0 .2 in
+    (omega (arith, c .loop-test .taken, p .named .nodes-long), omega (arith, c .loop-test .taken, p .named .ends-long))
+
+part-of-requires : tie.Need-part-of-requires Inv-loop μ-loop
+part-of-requires c κs =
+    let t = c .before in
+    part-cut (started (t .before) .pre .0 .2 .parts) _ (omega (arith, t .loop-test .taken))
+
+mul-is-due : tie.Need-mul-is-due Inv-loop μ-loop
+mul-is-due c =
+    let t = c .before .before in
+    omega (arith, t .loop-test .taken, started (t .before) .pre .0 .2 .named .few)
+
+shared-slice-read-is-due : tie.Need-shared-slice-read-is-due Inv-loop μ-loop
+shared-slice-read-is-due c =
+    let t = c .before .before .before in
+    lt-of-lt-of-le (t .loop-test .taken) (started (t .before) .pre .0 .2 .known .long)
+
+is-due-requires : tie.Need-is-due-requires Inv-loop μ-loop
+is-due-requires c κs = tt
 
 list-local-requires : tie.Need-list-local-requires Inv-loop μ-loop
 list-local-requires c κs =
-    let v = c .before .before .before .before .before .before .loop .inv .0 in
-    let t = c .before .before .before .before .before .loop-test .taken in
-    let room = c .before .before .before .before .before .before .before .before .before .before .before .before .before .before .before .before .before .before .before .before .before .before .before .before .pre .1 .1 in (
-      record { names = c .before .before .before .before .before .before .before .before .before .before .before .before .before .before .before .before .before .before .before .before .before .before .before .before .args .names; inside = t; judges = c .before .before .before .before .before .before .before .before .before .before .before .before .before .before .before .before .before .before .before .before .before .before .before .before .pre .0 },
+    let e = asked c in
+    let t = turned e in
+    let h = t .loop-test .taken in
+    let v = t .before .loop .inv in
+    let s = started (t .before) in
+    let p = s .pre .0 .2 in
+    let l = v .1 (s .pre .0 .0) (s .pre .0 .1) p in (
+      (v .0 .ready, p .charted .few, lt-of-lt-of-le h (p .named .few), omega (arith, h, l .figures .long, s .pre .1 .1)),
       (
-        (v .ready, omega (arith, v .marked .long, t, c .before .before .before .before .before .before .before .before .before .before .before .before .before .before .before .before .before .before .before .before .before .before .before .before .pre .1 .0 .1)),
-        record { words-hold = omega (arith, v .few, v .words-long, room .words-hold, t); spans-hold = omega (arith, v .few, v .spans-long, room .spans-hold, t) },
+        (p .charted .long, rw (e .before .before .part-of .ensures) (p .parts .placed (t .before .loop .local) h)),
+        omega (arith, h, listing-few _ _ l, listing-long _ _ l (omega (arith, h, s .pre .1 .2)), s .pre .1 .2),
       ),
     )
 
 add-local : tie.Need-add-local Inv-loop μ-loop
-add-local c = omega (arith, c .before .before .before .before .before .before .before .before .before .before .before .before .before .before .before .before .loop-test .taken, c .before .before .before .before .before .before .before .before .before .before .before .before .before .before .before .before .before .before .before .before .before .before .before .before .before .before .before .before .before .before .before .before .before .before .before .pre .0 .pass .named .few)
+add-local c =
+    let t = turned (asked (listed c .before)) in
+    omega (arith, t .loop-test .taken, started (t .before) .pre .0 .2 .named .few)
 
 loop-less : tie.Need-loop-less Inv-loop μ-loop
-loop-less c = omega (arith, c .before .before .before .before .before .before .before .before .before .before .before .before .before .before .before .before .loop-test .taken)
+loop-less c = omega (arith, turned (asked (listed c .before)) .loop-test .taken)
 
 loop-again : tie.Need-loop-again Inv-loop μ-loop
 loop-again c =
-    let v = c .before .before .before .before .before .before .before .before .before .before .before .before .before .before .before .before .before .loop .inv .0 in
-    let t = c .before .before .before .before .before .before .before .before .before .before .before .before .before .before .before .before .loop-test .taken in
-    let j = c .before .before .before .before .before .before .before .before .before .before .before .before .before .before .before .before .before .before .before .before .before .before .before .before .before .before .before .before .before .before .before .before .before .before .before .pre .0 in
-    let ℓ = c .before .before .before .before .before .before .before .before .before .before .before .before .before .before .before .before .before .loop .local in
-    let q = c .before .before .before .before .before .before .before .before .before .before .list-local .ensures in (
-      record {
-        within = omega (arith, t);
-        few = omega (arith, v .few, q .0 (j .sheet) (j .uses) _ t (j .pass) .counted, unassigned-few (j .sheet) (j .uses) ℓ);
-        ready = q .1 .0;
-        marked = marked-more (omega (arith, t, c .before .before .before .before .before .before .before .before .before .before .before .before .before .before .before .before .before .before .before .before .before .before .before .before .before .before .before .before .before .before .before .before .before .before .before .pre .1 .0 .1)) (v .marked) (q .1 .1);
-        visited-long = c .before .before .before .before .before .before .before .before .before .before .list-local .kept .1 .1 .1 .1 .1 .1 .1 .1 .1 .1 .1 .1 .0 ∙ v .visited-long;
-        stack-long = c .before .before .before .before .before .before .before .before .before .before .list-local .kept .1 .1 .1 .1 .1 .1 .1 .1 .1 .1 .1 .1 .1 .0 ∙ v .stack-long;
-        words-long = c .before .before .before .before .before .before .before .before .before .before .list-local .kept .1 .1 .1 .1 .1 .1 .1 .1 .1 .1 .1 .1 .1 .1 .0 ∙ v .words-long;
-        spans-long = c .before .before .before .before .before .before .before .before .before .before .list-local .kept .1 .1 .1 .1 .1 .1 .1 .1 .1 .1 .1 .1 .1 .1 .1 .0 ∙ v .spans-long;
-      },
-      λ S U p. listing-more S U (c .before .before .before .before .before .before .before .before .before .before .before .before .before .before .before .before .before .before .before .before .before .before .before .before .before .before .before .before .before .before .before .before .before .before .before .pre .1 .1) (v .within) (c .before .before .before .before .before .before .before .before .before .before .before .before .before .before .before .before .before .loop .inv .1 S U p) (q .0 S U _ t p),
+    let q = listed c .list-local in
+    let k = q .kept .1 .1 .1 .1 in
+    let e = asked (listed c .before) in
+    let m = e .before .before .part-of in
+    let d = e .before .before .before .declaration-at in
+    let t = turned e in
+    let h = t .loop-test .taken in
+    let ℓ = t .before .loop .local in
+    let v = t .before .loop .inv in
+    let s = started (t .before) in (
+      going-more (v .0) h (q .ensures .1 .1) (k .0) (k .1 .0),
+      λ S U p.
+          let due = e .is-due .ensures (localAt S ℓ) (allFound (usesOf S U ℓ)) (p .known .facts-are ℓ h) in
+          let there = declared-at (p .named) ℓ h (d .result) (d .ensures .0) (d .ensures .1) in
+          listing-more S U (v .1 S U p) (omega (arith, h, s .pre .1 .2)) (omega (arith, h, s .pre .1 .1)) (rw (local-words p ℓ h _ due _ there _ (m .ensures)) at (q .ensures .0)) (q .ensures .1 .0 ∙ ap (set (t .before .loop .mark) ℓ) (local-figure p ℓ h _ due _ there _ (m .ensures))),
     )
+
+-- the pass is over when `local` is `names`
+all-listed : (c : tie.After-loop Inv-loop μ-loop) → c .before .loop .local ≡ started (c .before) .args .names
+all-listed c = omega (arith, c .before .loop .inv .0 .within, c .loop-test .left)
+
+-- what is listed of the sheets that the columns stand for
+abbrev ours : (c : tie.At-loop Inv-loop μ-loop) → Listing (started c .pre .0 .0) (started c .pre .0 .1) (c .loop .local) (started c .args .finding-word .now) (started c .args .mark .now) (c .loop .finding-word) (c .loop .mark) (c .loop .count)
+ours c = let j = started c .pre .0 in c .loop .inv .1 (j .0) (j .1) (j .2)
 
 same-length : tie.Need-same-length Inv-loop μ-loop
 same-length c = c .before .loop .inv .0 .visited-long
@@ -67,19 +127,16 @@ same-length-2 : tie.Need-same-length-2 Inv-loop μ-loop
 same-length-2 c = c .before .loop .inv .0 .stack-long
 
 same-length-3 : tie.Need-same-length-3 Inv-loop μ-loop
-same-length-3 c = c .before .loop .inv .0 .words-long
+same-length-3 c = listing-long _ _ (ours (c .before)) (omega (arith, all-listed c, started (c .before) .pre .1 .2))
 
 same-length-4 : tie.Need-same-length-4 Inv-loop μ-loop
-same-length-4 c = c .before .loop .inv .0 .spans-long
-
-same-length-5 : tie.Need-same-length-5 Inv-loop μ-loop
-same-length-5 c = c .before .loop .inv .0 .marked .long
+same-length-4 c = ours (c .before) .figures .long
 
 returns : tie.Need-returns Inv-loop μ-loop
-returns c =
-    let v = c .before .loop .inv .0 in
-    let e : c .before .loop .local ≡ c .before .before .before .before .before .before .before .before .before .before .before .before .before .before .before .before .before .before .before .args .names = omega (arith, v .within, c .loop-test .left) in
-    (λ S U p. rw e at (c .before .loop .inv .1 S U p), (rw e at (v .few), rw e at (v .marked), rw e at (v .ready)))
+returns c = (
+  λ S U p. let l = rw (all-listed c) at (c .before .loop .inv .1 S U p) in (l .listed, l .figures),
+  omega (arith, all-listed c, listing-few _ _ (ours (c .before))),
+)
 
 pub list-unassigned-spec : {M : Type 1} → statement M
 list-unassigned-spec =
@@ -88,6 +145,11 @@ list-unassigned-spec =
     Inv-loop
     μ-loop
     loop-holds
+    declaration-at-requires
+    part-of-requires
+    mul-is-due
+    shared-slice-read-is-due
+    is-due-requires
     list-local-requires
     add-local
     loop-less
@@ -96,5 +158,4 @@ list-unassigned-spec =
     same-length-2
     same-length-3
     same-length-4
-    same-length-5
     returns)

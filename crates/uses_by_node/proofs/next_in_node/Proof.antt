@@ -1,6 +1,5 @@
 -- `uses_by_node::next_in_node` meets its contract: the two cases of its test.
 -- Assumes nothing.
-use native.Mathlib.Omega.{arith}
 use borrow.Author.Tests.{lt-ltb, le-ltb}
 use Rattle.uses_by_node.specs.Uses.{nextInNode}
 use borrow.Author.Needs.{needs}
@@ -10,21 +9,27 @@ use Rattle.uses_by_node.proofs.next_in_node.Tie as tie
 add-next : tie.Need-add-next
 add-next c = search needs
 
-cell-requires : tie.Need-cell-requires
-cell-requires c κs = search needs
+mul-node-of : tie.Need-mul-node-of
+mul-node-of c = search needs
 
-cell-requires-2 : tie.Need-cell-requires-2
-cell-requires-2 c κs = search needs
+shared-slice-read-node-of : tie.Need-shared-slice-read-node-of
+shared-slice-read-node-of c = search needs
 
-cell-requires-3 : tie.Need-cell-requires-3
-cell-requires-3 c κs = omega (arith, c .before .before .before .before .before .pre .1 (c .before .before .before .before .before .args .i) (c .before .before .before .before .before .pre .0), c .before .cell .ensures)
+node-of-requires : tie.Need-node-of-requires
+node-of-requires c κs = search needs
 
-cell-requires-4 : tie.Need-cell-requires-4
-cell-requires-4 c κs = omega (arith, c .before .before .before .before .before .before .pre .1 _ (c .before .before .before .if1 .taken), c .before .cell2 .ensures)
+mul-node-of-2 : tie.Need-mul-node-of-2
+mul-node-of-2 c = search needs
+
+shared-slice-read-node-of-2 : tie.Need-shared-slice-read-node-of-2
+shared-slice-read-node-of-2 c = search needs
+
+node-of-requires-2 : tie.Need-node-of-requires-2
+node-of-requires-2 c κs = search needs
 
 returns : tie.Need-returns
 unfolding nextInNode
-returns c = rw (lt-ltb _ _ (c .before .before .before .before .if1 .taken), c .before .cell3 .ensures, c .cell4 .ensures, c .before .before .before .cell .ensures, c .before .before .cell2 .ensures)
+returns c = rw (lt-ltb _ _ (c .before .before .before .before .if1 .taken), c .before .before .node-of .ensures, c .node-of2 .ensures)
 
 returns-2 : tie.Need-returns-2
 unfolding nextInNode
@@ -35,9 +40,11 @@ next-in-node-spec =
     tie.close
     (tie.spec
     add-next
-    cell-requires
-    cell-requires-2
-    cell-requires-3
-    cell-requires-4
+    mul-node-of
+    shared-slice-read-node-of
+    node-of-requires
+    mul-node-of-2
+    shared-slice-read-node-of-2
+    node-of-requires-2
     returns
     returns-2)

@@ -10,9 +10,9 @@ use borrow.Author.Needs.{needs}
 use Rattle.uses_by_node.proofs.opens_node.Statement.{statement}
 use Rattle.uses_by_node.proofs.opens_node.Tie as tie
 
-later : (nodes sorted : List ℕ) (i : ℕ) → (i ≡ 0 → ⊥) → not (nextInNode nodes sorted (i - 1)) ≡ opensNode nodes sorted i
-later nodes sorted zero q = absurd (q refl)
-later nodes sorted (suc i) q = let e : suc i - 1 ≡ i = omega arith in rw e
+later : (ws : List ℕ) (i : ℕ) → (i ≡ 0 → ⊥) → not (nextInNode ws (i - 1)) ≡ opensNode ws i
+later ws zero q = absurd (q refl)
+later ws (suc i) q = let e : suc i - 1 ≡ i = omega arith in rw e
 
 sub-next-in-node : tie.Need-sub-next-in-node
 sub-next-in-node c = search needs
@@ -24,7 +24,7 @@ returns : tie.Need-returns
 returns c = rw (c .if1 .taken)
 
 returns-2 : tie.Need-returns-2
-returns-2 c = ap not (c .next-in-node .ensures) ∙ later _ _ _ (c .before .if1 .left)
+returns-2 c = ap not (c .next-in-node .ensures) ∙ later _ _ (c .before .if1 .left)
 
 pub opens-node-spec : {M : Type 1} → statement M
 opens-node-spec = tie.close (tie.spec sub-next-in-node next-in-node-requires returns returns-2)
