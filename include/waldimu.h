@@ -13,9 +13,9 @@
    THE STACK. The proofs say nothing of it. In KB of 1,000 bytes, measured by compare/stack.c, the most found last:
 
      sheet                     chart  judge    run  label check
-     1,024 PLAIN                   2     49     94           18
-     an IF with 1,022 ELSEIF       3     50     95           18
-     64 nested IF                 59    106    151           18
+     1,024 PLAIN                   2     61     94           18
+     an IF with 1,022 ELSEIF       3     62     95           18
+     64 nested IF                 59    118    151           18
 */
 #ifndef WALDIMU_H
 #define WALDIMU_H

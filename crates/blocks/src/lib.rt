@@ -2,25 +2,21 @@
 ghost use mathlib.Core.Path.{_≡_};
 ghost use Prim.Native.Nat.{_-_, _<_};
 ghost use Rattle.blocks.specs.Open.{isLabel, endsAt, depthAfter};
-
-const IF: u64 = 5;
-
-const ELSEIF: u64 = 6;
-
-const END: u64 = 8;
-
-const UNTIL: u64 = 9;
-
-const LABEL: u64 = 12;
+use words::ARGUMENT;
+use words::kind::ELSEIF;
+use words::kind::END;
+use words::kind::IF;
+use words::kind::LABEL;
+use words::kind::UNTIL;
 
 // Whether an item is a label that has a name.
 pub fn is_label(w: u64) -> bool
     ensures { λ r. ⌜ r ≡ isLabel w ⌝ }
 {
-    if w % 256 != LABEL {
+    if w % ARGUMENT != LABEL {
         return false;
     }
-    w / 256 != 0
+    w / ARGUMENT != 0
 }
 
 // Whether an item of a kind ends the block that a scan started in.

@@ -28,7 +28,7 @@ six (a ∷ b ∷ c ∷ d ∷ e ∷ f ∷ es) h = record { nodes = refl; past = r
 
 -- the builder at the start
 abbrev pub first : GraphBuilder
-first = record { item = 0; nodes = 6; codes = 0; names = 0; labels = 0; cursor = 5; «scope_end» = 0; «break_target» = 1; «continue_target» = 0 }
+first = record { item = 0; nodes = 6; codes = 0; names = 0; cursor = 5; settings = record { labels = 0; «scope_end» = 0; «break_target» = 1; «continue_target» = 0 } }
 
 module _ (e c n l e' : List ℕ) (w : Wide (cols e c n l)) (s : Started e e') where
   pub first-good : Good first (cols e' c n l)

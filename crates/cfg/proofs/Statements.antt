@@ -28,11 +28,8 @@ withItem j b = record {
   nodes = b .nodes;
   codes = b .codes;
   names = b .names;
-  labels = b .labels;
   cursor = b .cursor;
-  «scope_end» = b .«scope_end»;
-  «break_target» = b .«break_target»;
-  «continue_target» = b .«continue_target»;
+  settings = b .settings;
 }
 
 pub good-item : {b : GraphBuilder} {x : Cols} (j : ℕ) → b .item ≤ j → j ≤ 1024 → Good b x → Good (withItem j b) x
@@ -95,11 +92,8 @@ withCursor v b = record {
   nodes = b .nodes;
   codes = b .codes;
   names = b .names;
-  labels = b .labels;
   cursor = v;
-  «scope_end» = b .«scope_end»;
-  «break_target» = b .«break_target»;
-  «continue_target» = b .«continue_target»;
+  settings = b .settings;
 }
 
 pub moved-cursor : {ks : List ℕ} {b r : GraphBuilder} {x y : Cols} (v : ℕ) → Good (withCursor v r) y → Moved ks b x r y → Moved ks b x (withCursor v r) y

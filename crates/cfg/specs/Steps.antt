@@ -37,7 +37,7 @@ pub record Moved (ks : List ℕ) (b : GraphBuilder) (x : Cols) (r : GraphBuilder
   pub grown : Grown b x r y
   pub forward : b .item ≤ r .item
   pub within : r .item ≤ length ks
-  pub labels : r .labels ≡ b .labels
+  pub labels : r .settings .labels ≡ b .settings .labels
   pub settings : settingsOf r y ≡ settingsOf b x
 
 -- one statement is built

@@ -9,8 +9,20 @@ ghost use Rattle.cfg_steps.specs.Columns.{cols, colsAt, Good};
 ghost use Rattle.cfg.specs.Steps.{Sane, ForSpans, Stepped, Opened, Finished, Scoped, Looped, Arm, ArmBuilt, Chosen, BlockRoom, EnteredRoom, AtStmt, PastHead, AtEnd, AtArm, Started, Wide, WholeRoom, Whole};
 use blocks::ends_at;
 use cfg_edges::literal_truth;
+use cfg_steps::BlockSettings;
 use cfg_steps::GraphBuilder;
 use flow::Truth;
+use words::ARGUMENT;
+use words::NO_SUCCESSORS;
+use words::SCOPE_END;
+use words::exit;
+use words::kind::DO;
+use words::kind::ELSE;
+use words::kind::ELSEIF;
+use words::kind::FOR;
+use words::kind::IF;
+use words::kind::REPEAT;
+use words::kind::WHILE;
 
 // The place past the item that ends a block, if there is one.
 fn past(at: usize, len: usize) -> usize
@@ -38,7 +50,7 @@ fn block(
     let mut t = b;
     let mut at = t.item;
     while at < kinds.len() {
-        let kind = kinds[at] % 256;
+        let kind = kinds[at] % ARGUMENT;
         if ends_at(kind, 0) {
             return t;
         }
@@ -61,11 +73,10 @@ fn scoped_block(
     requires { ⌜ Sane (now kinds) × Good b (cols (now edges) (now codes) (now names) (now labels)) × (b .item ≤ length (now kinds)) × BlockRoom (now kinds) b × («scope_end» < 4294967296) ⌝ }
     ensures { λ r. ⌜ ForSpans (held kinds) (λ ks ss. Scoped ks ss «scope_end» b (colsAt held edges codes names labels) r (colsAt left edges codes names labels)) ⌝ }
 {
-    let mut t = b;
-    t.scope_end = scope_end;
+    let t = b.enter_scope(scope_end);
     let e = t.enter_block(kinds, edges, labels);
     let r = block(kinds, edges, codes, names, labels, e);
-    r.return_to(b)
+    r.return_to(b.settings)
 }
 
 // A loop's body: BREAK goes to break_target, CONTINUE and the body's end to continue_target.
@@ -84,12 +95,10 @@ fn loop_body(
     requires { ⌜ («break_target» < b .nodes) × («continue_target» < b .nodes) ⌝ }
     ensures { λ r. ⌜ ForSpans (held kinds) (λ ks ss. Looped ks ss «scope_end» «break_target» «continue_target» b (colsAt held edges codes names labels) r (colsAt left edges codes names labels)) ⌝ }
 {
-    let mut t = b;
-    t.break_target = break_target;
-    t.continue_target = continue_target;
+    let t = b.enter_loop(break_target, continue_target);
     let s = scoped_block(kinds, edges, codes, names, labels, t, scope_end);
     let r = s.close_into(edges, continue_target);
-    r.return_to(b)
+    r.return_to(b.settings)
 }
 
 // The WHILE of item i.
@@ -105,8 +114,8 @@ fn while_loop(
     requires { ⌜ PastHead (now kinds) i 2 b (cols (now edges) (now codes) (now names) (now labels)) ⌝ }
     ensures { λ r. ⌜ ForSpans (held kinds) (λ ks ss. Opened ks ss i b (colsAt held edges codes names labels) r (colsAt left edges codes names labels)) ⌝ }
 {
-    let argument = kinds[i] / 256;
-    let truth = literal_truth(argument % 32);
+    let argument = kinds[i] / ARGUMENT;
+    let truth = literal_truth(argument % SCOPE_END);
     let head = b.nodes;
     let h = b.while_head(edges, codes, i, truth);
     let mut s = loop_body(
@@ -116,7 +125,7 @@ fn while_loop(
         names,
         labels,
         h,
-        argument / 32,
+        argument / SCOPE_END,
         head + 1,
         head,
     );
@@ -138,8 +147,8 @@ fn repeat_loop(
     requires { ⌜ PastHead (now kinds) i 3 b (cols (now edges) (now codes) (now names) (now labels)) ⌝ }
     ensures { λ r. ⌜ ForSpans (held kinds) (λ ks ss. Opened ks ss i b (colsAt held edges codes names labels) r (colsAt left edges codes names labels)) ⌝ }
 {
-    let argument = kinds[i] / 256;
-    let truth = literal_truth(argument % 32);
+    let argument = kinds[i] / ARGUMENT;
+    let truth = literal_truth(argument % SCOPE_END);
     let body = b.nodes;
     let h = b.repeat_head(edges);
     let mut s = loop_body(
@@ -149,7 +158,7 @@ fn repeat_loop(
         names,
         labels,
         h,
-        argument / 32,
+        argument / SCOPE_END,
         body + 2,
         body + 1,
     );
@@ -171,7 +180,7 @@ fn for_loop(
     requires { ⌜ PastHead (now kinds) i 4 b (cols (now edges) (now codes) (now names) (now labels)) ⌝ }
     ensures { λ r. ⌜ ForSpans (held kinds) (λ ks ss. Opened ks ss i b (colsAt held edges codes names labels) r (colsAt left edges codes names labels)) ⌝ }
 {
-    let argument = kinds[i] / 256;
+    let argument = kinds[i] / ARGUMENT;
     let head = b.nodes + 1;
     let h = b.for_head(edges, codes, i);
     let mut s = loop_body(
@@ -181,7 +190,7 @@ fn for_loop(
         names,
         labels,
         h,
-        argument / 32,
+        argument / SCOPE_END,
         head + 1,
         head,
     );
@@ -203,7 +212,7 @@ fn if_stmt(
     requires { ⌜ PastHead (now kinds) i 5 b (cols (now edges) (now codes) (now names) (now labels)) ⌝ }
     ensures { λ r. ⌜ ForSpans (held kinds) (λ ks ss. Opened ks ss i b (colsAt held edges codes names labels) r (colsAt left edges codes names labels)) ⌝ }
 {
-    let scope_end = kinds[i] / 256 / 32;
+    let scope_end = kinds[i] / ARGUMENT / SCOPE_END;
     let test = b.nodes;
     let h = b.code_and_after(edges, codes, i);
     let s = scoped_block(kinds, edges, codes, names, labels, h, scope_end);
@@ -227,11 +236,11 @@ fn arm_follows(kinds: &[u64], at: usize) -> bool
     if kinds.len() <= at {
         return false;
     }
-    let kind = kinds[at] % 256;
-    if kind == 6 {
+    let kind = kinds[at] % ARGUMENT;
+    if kind == ELSEIF {
         return true;
     }
-    kind == 7
+    kind == ELSE
 }
 
 // The arms from the item that ends the block above on, and the last end. Without ELSE the last test goes on to the join.
@@ -281,10 +290,10 @@ fn arm(
 {
     let at = s.builder.item;
     let w = kinds[at];
-    let scope_end = w / 256 / 32;
+    let scope_end = w / ARGUMENT / SCOPE_END;
     let mut t = s.builder;
     t.item = at + 1;
-    if w % 256 == 6 {
+    if w % ARGUMENT == ELSEIF {
         let n = t.nodes;
         let h = t.arm_test(edges, codes, at, s.test);
         let b = scoped_block(kinds, edges, codes, names, labels, h, scope_end);
@@ -319,25 +328,33 @@ fn stmt(
 {
     let i = b.item;
     let w = kinds[i];
-    let kind = w % 256;
+    let kind = w % ARGUMENT;
     let mut t = b;
     t.item = i + 1;
-    if kind == 1 {
-        let mut s = scoped_block(kinds, edges, codes, names, labels, t, w / 256 / 32);
+    if kind == DO {
+        let mut s = scoped_block(
+            kinds,
+            edges,
+            codes,
+            names,
+            labels,
+            t,
+            w / ARGUMENT / SCOPE_END,
+        );
         let end = s.item;
         s.item = past(end, kinds.len());
         return s;
     }
-    if kind == 2 {
+    if kind == WHILE {
         return while_loop(kinds, edges, codes, names, labels, t, i);
     }
-    if kind == 3 {
+    if kind == REPEAT {
         return repeat_loop(kinds, edges, codes, names, labels, t, i);
     }
-    if kind == 4 {
+    if kind == FOR {
         return for_loop(kinds, edges, codes, names, labels, t, i);
     }
-    if kind == 5 {
+    if kind == IF {
         return if_stmt(kinds, edges, codes, names, labels, t, i);
     }
     t.simple_stmt(edges, codes, names, labels, w, i)
@@ -348,12 +365,12 @@ fn start_nodes(edges: &mut [u64])
     requires { ⌜ 6 ≤ length (now edges) ⌝ }
     ensures { λ _. ⌜ Started (held edges) (left edges) ⌝ }
 {
-    edges[0] = 18446744073709551615;
-    edges[1] = 18446744073709551615;
-    edges[2] = 18446744073709551615;
-    edges[3] = 18446744073709551615;
-    edges[4] = 18446744073709551615;
-    edges[5] = 18446744073709551615;
+    edges[exit::END] = NO_SUCCESSORS;
+    edges[exit::BREAK] = NO_SUCCESSORS;
+    edges[exit::RETURN_VALUE] = NO_SUCCESSORS;
+    edges[exit::RETURN_EMPTY] = NO_SUCCESSORS;
+    edges[exit::ERROR] = NO_SUCCESSORS;
+    edges[exit::ENTRY] = NO_SUCCESSORS;
 }
 
 // The graph of a sheet's kinds, whatever the columns held before.
@@ -377,16 +394,18 @@ pub fn of_block(
         labels,
         GraphBuilder {
             item: 0,
-            nodes: 6,
+            nodes: exit::START_NODES,
             codes: 0,
             names: 0,
-            labels: 0,
-            cursor: 5,
-            scope_end: 0,
-            break_target: 1,
-            continue_target: 0,
+            cursor: exit::ENTRY,
+            settings: BlockSettings {
+                labels: 0,
+                scope_end: 0,
+                break_target: exit::BREAK,
+                continue_target: exit::END,
+            },
         },
         scope_end,
     );
-    s.close_into(edges, 0)
+    s.close_into(edges, exit::END)
 }

@@ -9,6 +9,17 @@ ghost use Rattle.flow.specs.Graph.{labelNode};
 ghost use Rattle.cfg_edges.specs.Halves.{joined, labelList, mayFail, mayHold};
 use flow::Found;
 use flow::Truth;
+use words::ABSENT;
+use words::HALF;
+use words::NO_NODE;
+
+// The conditions 0 and 1 are false, those up to 8 true, and no other is known.
+const LAST_FALSE: u64 = 1;
+
+const LAST_TRUE: u64 = 8;
+
+// The argument of a CALL that raises: of bare `error`, whose span holds a reference of that name.
+const RAISES: u64 = 6;
 
 // An edge, in the first free place of the node that it leaves; none right after a jump.
 pub fn connect(edges: &mut [u64], from: usize, to: usize)
@@ -16,16 +27,16 @@ pub fn connect(edges: &mut [u64], from: usize, to: usize)
     requires { ⌜ to < 2 ^ 32 ⌝ }
     ensures { λ _. ⌜ now (edges .exit) ≡ joined from to (now (edges .entry)) ⌝ }
 {
-    if from == 4294967295 {
+    if from == NO_NODE {
         return;
     }
     let w = edges[from];
-    let first = w % 0x1_0000_0000;
-    let second = w / 0x1_0000_0000;
-    if first == 4294967295 {
-        edges[from] = to as u64 + second * 0x1_0000_0000;
-    } else if second == 4294967295 {
-        edges[from] = first + to as u64 * 0x1_0000_0000;
+    let first = w % HALF;
+    let second = w / HALF;
+    if first == ABSENT {
+        edges[from] = to as u64 + second * HALF;
+    } else if second == ABSENT {
+        edges[from] = first + to as u64 * HALF;
     }
 }
 
@@ -48,8 +59,8 @@ pub fn label_node(labels: &[u64], count: usize, name: u64) -> Found
     while 0 < k {
         k -= 1;
         let w = labels[k];
-        if name == w % 0x1_0000_0000 {
-            return Found::At((w / 0x1_0000_0000) as usize);
+        if name == w % HALF {
+            return Found::At((w / HALF) as usize);
         }
     }
     Found::Nothing
@@ -59,10 +70,10 @@ pub fn label_node(labels: &[u64], count: usize, name: u64) -> Found
 pub fn literal_truth(condition: u64) -> Truth
     ensures { λ r. ⌜ r ≡ literalTruth condition ⌝ }
 {
-    if condition <= 1 {
+    if condition <= LAST_FALSE {
         return Truth::False;
     }
-    if condition <= 8 {
+    if condition <= LAST_TRUE {
         return Truth::True;
     }
     Truth::Unknown
@@ -93,5 +104,5 @@ pub fn may_hold(truth: Truth) -> bool
 pub fn call_raises(argument: u64) -> bool
     ensures { λ r. ⌜ r ≡ raises argument ⌝ }
 {
-    argument == 6
+    argument == RAISES
 }

@@ -170,7 +170,7 @@ grown-same b x = record {
   labelsLength = refl;
 }
 
-pub grown-trans : {b t r : GraphBuilder} {x y z : Cols} → b .labels ≤ t .labels → Grown b x t y → Grown t y r z → Grown b x r z
+pub grown-trans : {b t r : GraphBuilder} {x y z : Cols} → b .settings .labels ≤ t .settings .labels → Grown b x t y → Grown t y r z → Grown b x r z
 grown-trans {b} {t} {r} {x} {y} {z} l p q = record {
   nodes = omega arith;
   codes = omega arith;
@@ -179,7 +179,7 @@ grown-trans {b} {t} {r} {x} {y} {z} l p q = record {
   codesPast = q .codesPast ∙ drop-more {n = t .codes} {m = r .codes} (y .codes) (x .codes) (q .codes) (p .codesPast);
   namesPast = q .namesPast ∙ drop-more {n = t .names} {m = r .names} (y .names) (x .names) (q .names) (p .namesPast);
   labelsPast = q .labelsPast ∙ drop-more {n = t .nodes} {m = r .nodes} (y .labels) (x .labels) (q .nodes) (p .labelsPast);
-  labelsKept = take-less {n = b .labels} {m = t .labels} (z .labels) (y .labels) l (q .labelsKept) ∙ p .labelsKept;
+  labelsKept = take-less {n = b .settings .labels} {m = t .settings .labels} (z .labels) (y .labels) l (q .labelsKept) ∙ p .labelsKept;
   edgesLength = q .edgesLength ∙ p .edgesLength;
   codesLength = q .codesLength ∙ p .codesLength;
   namesLength = q .namesLength ∙ p .namesLength;
@@ -248,11 +248,8 @@ module _ (ks : List ℕ) (b : GraphBuilder) (e c n l : List ℕ) (ok : Good b (c
     nodes = b .nodes;
     codes = b .codes;
     names = b .names;
-    labels = b .labels;
     cursor = v;
-    «scope_end» = b .«scope_end»;
-    «break_target» = b .«break_target»;
-    «continue_target» = b .«continue_target»;
+    settings = b .settings;
   }
 
   -- an edge from a to t, after which v is current
@@ -334,11 +331,8 @@ module _ (ks : List ℕ) (b : GraphBuilder) (e c n l : List ℕ) (ok : Good b (c
     nodes = nodes;
     codes = codes;
     names = names;
-    labels = b .labels;
     cursor = v;
-    «scope_end» = b .«scope_end»;
-    «break_target» = b .«break_target»;
-    «continue_target» = b .«continue_target»;
+    settings = b .settings;
   }
 
   abbrev free : ℕ
@@ -493,7 +487,7 @@ module _ (ks : List ℕ) (b : GraphBuilder) (e c n l : List ℕ) (ok : Good b (c
 
   -- a name's word at its place
   abbrev pub nameWord : ℕ → ℕ
-  nameWord i = b .cursor % 65536 + i * 65536 + b .«scope_end» * 2 ^ 32
+  nameWord i = b .cursor % 65536 + i * 65536 + b .settings .«scope_end» * 2 ^ 32
 
   name-node : (i : ℕ) → i < 1024 → nameNode (nameWord i) ≡ b .cursor
   name-node i h = go (ok .cursor)
@@ -513,7 +507,7 @@ module _ (ks : List ℕ) (b : GraphBuilder) (e c n l : List ℕ) (ok : Good b (c
   declare-did i hi' below h =
       let long : b .names < length n = omega (arith, ok .wideNames, ok .items) in
       let an-item : nameItem (nameWord i) ≡ i = omega (arith, ok .scopeEnd) in
-      let an-end : hi (nameWord i) ≡ b .«scope_end» = omega arith in
+      let an-end : hi (nameWord i) ≡ b .settings .«scope_end» = omega arith in
       record {
         good = record {
           wideEdges = ok .wideEdges;
@@ -572,11 +566,8 @@ pub full-code-did : (ks : List ℕ) (b : GraphBuilder) (e c n l e' : List ℕ) �
       nodes = b .nodes + 1;
       codes = b .codes + 1;
       names = b .names;
-      labels = b .labels;
       cursor = b .nodes;
-      «scope_end» = b .«scope_end»;
-      «break_target» = b .«break_target»;
-      «continue_target» = b .«continue_target»;
+      settings = b .settings;
     }) (cols e' (set c (b .codes) (b .nodes + i * 2 ^ 32)) n l)
 unfolding code
 full-code-did ks b e c n l e' ok i below hn hc hs q =

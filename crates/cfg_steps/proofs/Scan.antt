@@ -63,7 +63,7 @@ entered-trans {ks} as' bs {b} {t} {r} {x} {y} {z} p q = record {
   continueTarget = q .continueTarget ∙ p .continueTarget;
   nodes = omega (arith, length-append as' bs);
   labels = omega (arith, length-append as' bs);
-  inForce = q .inForce ∙ rw (p .inForce, p .nodes) (sym (with-append as' bs (b .nodes) (labelList (b .labels) (x .labels))));
+  inForce = q .inForce ∙ rw (p .inForce, p .nodes) (sym (with-append as' bs (b .nodes) (labelList (b .settings .labels) (x .labels))));
   built = λ ss. q .built ss ∙ ap (newNodes bs) (p .built ss) ∙ sym (new-append as' bs (graphOf ks ss b x));
 }
 
@@ -79,23 +79,20 @@ pub label-entered : (ks : List ℕ) (b : GraphBuilder) (e c n l : List ℕ) (a :
       nodes = b .nodes + 1;
       codes = b .codes;
       names = b .names;
-      labels = b .labels + 1;
       cursor = b .cursor;
-      «scope_end» = b .«scope_end»;
-      «break_target» = b .«break_target»;
-      «continue_target» = b .«continue_target»;
-    }) (cols (set e (b .nodes) 18446744073709551615) c n (set l (b .labels) (a + b .nodes * 2 ^ 32)))
+      settings = record { labels = b .settings .labels + 1; «scope_end» = b .settings .«scope_end»; «break_target» = b .settings .«break_target»; «continue_target» = b .settings .«continue_target» };
+    }) (cols (set e (b .nodes) 18446744073709551615) c n (set l (b .settings .labels) (a + b .nodes * 2 ^ 32)))
 unfolding newNodes withLabels graphOf
 label-entered ks b e c n l a ok hn ha =
     let d = new-did ks b e c n l ok hn in
-    let long : b .labels < length l = omega (arith, ok .wideLabels, ok .labels) in
+    let long : b .settings .labels < length l = omega (arith, ok .wideLabels, ok .labels) in
     let g = d .good in
     record {
       good = record {
         wideEdges = g .wideEdges;
         wideCodes = g .wideCodes;
         wideNames = g .wideNames;
-        wideLabels = omega (arith, ok .wideLabels, length-set l (b .labels) (a + b .nodes * 2 ^ 32));
+        wideLabels = omega (arith, ok .wideLabels, length-set l (b .settings .labels) (a + b .nodes * 2 ^ 32));
         items = g .items;
         nodes = g .nodes;
         exits = g .exits;
@@ -109,9 +106,9 @@ label-entered ks b e c n l a ok hn ha =
         codeNodes = g .codeNodes;
         codeItems = g .codeItems;
         nameItems = g .nameItems;
-        labelNodes = λ k q. elim (ℕ-discrete k (b .labels)) [
-          | yes p ↦ rw (p, getD-set-same l (b .labels) (a + b .nodes * 2 ^ 32) 0 long, hi-of a (b .nodes) ha) (omega arith)
-          | no p ↦ rw (getD-set-other l (b .labels) k (a + b .nodes * 2 ^ 32) 0 p) (omega (arith, ok .labelNodes k (omega arith)))
+        labelNodes = λ k q. elim (ℕ-discrete k (b .settings .labels)) [
+          | yes p ↦ rw (p, getD-set-same l (b .settings .labels) (a + b .nodes * 2 ^ 32) 0 long, hi-of a (b .nodes) ha) (omega arith)
+          | no p ↦ rw (getD-set-other l (b .settings .labels) k (a + b .nodes * 2 ^ 32) 0 p) (omega (arith, ok .labelNodes k (omega arith)))
         ];
       };
       grown = record {
@@ -121,12 +118,12 @@ label-entered ks b e c n l a ok hn ha =
         edgesPast = d .grown .edgesPast;
         codesPast = refl;
         namesPast = refl;
-        labelsPast = drop-set-lt (b .nodes + 1) l (b .labels) _ (omega (arith, ok .labels));
-        labelsKept = take-set-le (b .labels) l (b .labels) _ (omega arith);
+        labelsPast = drop-set-lt (b .nodes + 1) l (b .settings .labels) _ (omega (arith, ok .labels));
+        labelsKept = take-set-le (b .settings .labels) l (b .settings .labels) _ (omega arith);
         edgesLength = d .grown .edgesLength;
         codesLength = refl;
         namesLength = refl;
-        labelsLength = length-set l (b .labels) _;
+        labelsLength = length-set l (b .settings .labels) _;
       };
       item = refl;
       codes = refl;
@@ -137,7 +134,7 @@ label-entered ks b e c n l a ok hn ha =
       continueTarget = refl;
       nodes = omega arith;
       labels = omega arith;
-      inForce = list-more (b .labels) l a (b .nodes) long ha;
+      inForce = list-more (b .settings .labels) l a (b .nodes) long ha;
       built = d .built;
     }
 

@@ -65,8 +65,8 @@ found-node n a v (suc k) ls h e = go (eqb a _) (found-node n a v k ls (λ j r. h
     go true r q = let z : hi (getD ls k 0) ≡ v = cc in rw (← z) (h k (omega arith))
     go false r q = r q
 
-pub label-below : {b : GraphBuilder} {x : Cols} {v : ℕ} (a : ℕ) → Good b x → labelNode a (labelList (b .labels) (x .labels)) ≡ At v → v < b .nodes
-label-below {b} {x} {v} a ok e = found-node (b .nodes) a v (b .labels) (x .labels) (ok .labelNodes) e
+pub label-below : {b : GraphBuilder} {x : Cols} {v : ℕ} (a : ℕ) → Good b x → labelNode a (labelList (b .settings .labels) (x .labels)) ≡ At v → v < b .nodes
+label-below {b} {x} {v} a ok e = found-node (b .nodes) a v (b .settings .labels) (x .labels) (ok .labelNodes) e
 
 module _ (a : ℕ) (ls : List Label) (s : ℕ) (g : Graph) where
   pub labelled-none : a ≡ 0 → g ≡ labelled a ls s g
@@ -125,11 +125,11 @@ module _ (k a s : ℕ) (b : GraphBuilder) (x : Cols) (g : Graph) where
   unfolding simpleStmt
   simple-name e = rw e
 
-  pub simple-label : k ≡ 12 → labelled a (labelList (b .labels) (x .labels)) s g ≡ simpleStmt k a s (settingsOf b x) g
+  pub simple-label : k ≡ 12 → labelled a (labelList (b .settings .labels) (x .labels)) s g ≡ simpleStmt k a s (settingsOf b x) g
   unfolding simpleStmt labelled settingsOf
   simple-label e = rw e
 
-  pub simple-goto : k ≡ 13 → jump s (orBreak (labelNode a (labelList (b .labels) (x .labels)))) g ≡ simpleStmt k a s (settingsOf b x) g
+  pub simple-goto : k ≡ 13 → jump s (orBreak (labelNode a (labelList (b .settings .labels) (x .labels)))) g ≡ simpleStmt k a s (settingsOf b x) g
   unfolding simpleStmt settingsOf
   simple-goto e = rw e
 
@@ -137,7 +137,7 @@ module _ (k a s : ℕ) (b : GraphBuilder) (x : Cols) (g : Graph) where
   unfolding simpleStmt
   simple-empty e = rw e
 
-  pub simple-code : (k ≡ 11 → ⊥) → (k ≡ 12 → ⊥) → (k ≡ 13 → ⊥) → (k ≡ 19 → ⊥) → coded k a (b .«break_target») (b .«continue_target») s g ≡ simpleStmt k a s (settingsOf b x) g
+  pub simple-code : (k ≡ 11 → ⊥) → (k ≡ 12 → ⊥) → (k ≡ 13 → ⊥) → (k ≡ 19 → ⊥) → coded k a (b .settings .«break_target») (b .settings .«continue_target») s g ≡ simpleStmt k a s (settingsOf b x) g
   unfolding simpleStmt coded settingsOf
   simple-code p q r t = rw (ne-eqb k 11 p, ne-eqb k 12 q, ne-eqb k 13 r, ne-eqb k 19 t)
 

@@ -14,6 +14,7 @@ use Rattle.flow.specs.Kinds.{kinds, raises}
 use Rattle.flow.specs.Graph.{exits, newNodes, withLabels, standAt, labelNode, orBreak, jump, code, connect, setCurrent, recordCode, unlessTrue, unlessFalse, simpleStmt, Graph, Settings, Label, absent}
 use Rattle.blocks.specs.Open.{Scanned}
 use Rattle.cfg_edges.specs.Halves.{lo, hi, labelList}
+use Rattle.cfg_steps.specs.declared.BlockSettings.{BlockSettings}
 use Rattle.cfg_steps.specs.declared.GraphBuilder.{GraphBuilder}
 open record exits using (ReturnValue, ReturnEmpty, Error)
 open record kinds using (END, UNTIL, NAME, LABEL, BREAK, CONTINUE, RETURN, CALL, EMPTY)
@@ -71,21 +72,25 @@ graphOf ks ss b x = record {
 }
 
 unfoldable pub settingsOf : GraphBuilder → Cols → Settings
-settingsOf b x = record { breakTo = b .«break_target»; continueTo = b .«continue_target»; scopeEnd = b .«scope_end»; labels = labelList (b .labels) (x .labels) }
+settingsOf b x = record { breakTo = b .settings .«break_target»; continueTo = b .settings .«continue_target»; scopeEnd = b .settings .«scope_end»; labels = labelList (b .settings .labels) (x .labels) }
 
 -- other settings with the same place, counts and current node
-abbrev pub within : ℕ → ℕ → ℕ → ℕ → GraphBuilder → GraphBuilder
-within labels scope breaks continues b = record {
+abbrev pub within : BlockSettings → GraphBuilder → GraphBuilder
+within st b = record {
   item = b .item;
   nodes = b .nodes;
   codes = b .codes;
   names = b .names;
-  labels = labels;
   cursor = b .cursor;
-  «scope_end» = scope;
-  «break_target» = breaks;
-  «continue_target» = continues;
+  settings = st;
 }
+
+-- the settings of a block inside a scope that ends at e, and inside a loop, with the labels outside
+abbrev pub scopeSettings : ℕ → BlockSettings → BlockSettings
+scopeSettings e st = record { labels = st .labels; «scope_end» = e; «break_target» = st .«break_target»; «continue_target» = st .«continue_target» }
+
+abbrev pub loopSettings : ℕ → ℕ → BlockSettings → BlockSettings
+loopSettings after next st = record { labels = st .labels; «scope_end» = st .«scope_end»; «break_target» = after; «continue_target» = next }
 
 -- the columns are wide enough, and all that they hold are nodes and items that were read
 pub record Good (b : GraphBuilder) (x : Cols) : Type 0 where
@@ -98,15 +103,15 @@ pub record Good (b : GraphBuilder) (x : Cols) : Type 0 where
   pub exits : 6 ≤ b .nodes
   pub codes : b .codes ≤ b .item
   pub names : b .names ≤ b .item
-  pub labels : b .labels ≤ b .nodes
+  pub labels : b .settings .labels ≤ b .nodes
   pub cursor : (b .cursor < b .nodes) ⊎ (b .cursor ≡ absent)
-  pub breakTarget : b .«break_target» < b .nodes
-  pub continueTarget : b .«continue_target» < b .nodes
-  pub scopeEnd : b .«scope_end» < 2 ^ 32
+  pub breakTarget : b .settings .«break_target» < b .nodes
+  pub continueTarget : b .settings .«continue_target» < b .nodes
+  pub scopeEnd : b .settings .«scope_end» < 2 ^ 32
   pub codeNodes : (k : ℕ) → k < b .codes → lo (getD (x .codes) k 0) < b .nodes
   pub codeItems : (k : ℕ) → k < b .codes → hi (getD (x .codes) k 0) < b .item
   pub nameItems : (k : ℕ) → k < b .names → nameItem (getD (x .names) k 0) < b .item
-  pub labelNodes : (k : ℕ) → k < b .labels → hi (getD (x .labels) k 0) < b .nodes
+  pub labelNodes : (k : ℕ) → k < b .settings .labels → hi (getD (x .labels) k 0) < b .nodes
 
 -- the current node, if there is one, has its place among the edges
 pub record Standing (b : GraphBuilder) (es : List ℕ) : Type 0 where
@@ -123,7 +128,7 @@ pub record Grown (b : GraphBuilder) (x : Cols) (r : GraphBuilder) (y : Cols) : T
   pub codesPast : drop (r .codes) (y .codes) ≡ drop (r .codes) (x .codes)
   pub namesPast : drop (r .names) (y .names) ≡ drop (r .names) (x .names)
   pub labelsPast : drop (r .nodes) (y .labels) ≡ drop (r .nodes) (x .labels)
-  pub labelsKept : take (b .labels) (y .labels) ≡ take (b .labels) (x .labels)
+  pub labelsKept : take (b .settings .labels) (y .labels) ≡ take (b .settings .labels) (x .labels)
   pub edgesLength : length (y .edges) ≡ length (x .edges)
   pub codesLength : length (y .codes) ≡ length (x .codes)
   pub namesLength : length (y .names) ≡ length (x .names)
@@ -135,7 +140,7 @@ pub record Did (ks : List ℕ) (f : List ℕ → Graph → Graph) (n : ℕ) (b :
   pub grown : Grown b x r y
   pub item : r .item ≡ b .item
   pub nodes : r .nodes ≡ b .nodes + n
-  pub labels : r .labels ≡ b .labels
+  pub labels : r .settings .labels ≡ b .settings .labels
   pub settings : settingsOf r y ≡ settingsOf b x
   pub built : (ss : List ℕ) → graphOf ks ss r y ≡ f ss (graphOf ks ss b x)
 
@@ -165,12 +170,12 @@ pub record Entered (ks as' : List ℕ) (b : GraphBuilder) (x : Cols) (r : GraphB
   pub codes : r .codes ≡ b .codes
   pub names : r .names ≡ b .names
   pub cursor : r .cursor ≡ b .cursor
-  pub scopeEnd : r .«scope_end» ≡ b .«scope_end»
-  pub breakTarget : r .«break_target» ≡ b .«break_target»
-  pub continueTarget : r .«continue_target» ≡ b .«continue_target»
+  pub scopeEnd : r .settings .«scope_end» ≡ b .settings .«scope_end»
+  pub breakTarget : r .settings .«break_target» ≡ b .settings .«break_target»
+  pub continueTarget : r .settings .«continue_target» ≡ b .settings .«continue_target»
   pub nodes : r .nodes ≡ b .nodes + length as'
-  pub labels : r .labels ≡ b .labels + length as'
-  pub inForce : labelList (r .labels) (y .labels) ≡ withLabels as' (b .nodes) (labelList (b .labels) (x .labels))
+  pub labels : r .settings .labels ≡ b .settings .labels + length as'
+  pub inForce : labelList (r .settings .labels) (y .labels) ≡ withLabels as' (b .nodes) (labelList (b .settings .labels) (x .labels))
   pub built : (ss : List ℕ) → graphOf ks ss r y ≡ newNodes as' (graphOf ks ss b x)
 
 -- a call from b to r enters the names as', if the columns are good

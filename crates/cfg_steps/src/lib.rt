@@ -11,7 +11,7 @@ ghost use Rattle.flow.specs.Graph.{newNode, advanceTo, code, closeInto, jump, r
 ghost use Rattle.blocks.specs.Open.{labelsAt, labelsHere};
 ghost use Rattle.cfg_edges.specs.Halves.{labelList};
 ghost use Rattle.search.specs.Lent.{held, left};
-ghost use Rattle.cfg_steps.specs.Columns.{cols, settingsOf, within, Good, Standing, Does, DoesCode, DoesSimple, Enters, LabelsFit, labelled, gone, coded, repeatEnd, simpleMade};
+ghost use Rattle.cfg_steps.specs.Columns.{cols, settingsOf, within, scopeSettings, loopSettings, Good, Standing, Does, DoesCode, DoesSimple, Enters, LabelsFit, labelled, gone, coded, repeatEnd, simpleMade};
 use blocks::depth_after;
 use blocks::ends_at;
 use blocks::is_label;
@@ -23,6 +23,33 @@ use cfg_edges::may_fail;
 use cfg_edges::may_hold;
 use flow::Found;
 use flow::Truth;
+use words::ARGUMENT;
+use words::HALF;
+use words::NO_NODE;
+use words::NO_SUCCESSORS;
+use words::exit;
+use words::kind::BREAK;
+use words::kind::CALL;
+use words::kind::CONTINUE;
+use words::kind::EMPTY;
+use words::kind::GOTO;
+use words::kind::LABEL;
+use words::kind::NAME;
+use words::kind::RETURN;
+
+// A name's word has its node in 16 bits and its item in the next.
+const NAME_NODES: usize = 65536;
+
+const NAME_ITEM: u64 = 65536;
+
+// What holds inside a block and returns to what it was outside as the block closes.
+pub struct BlockSettings {
+    // How many labels are in force.
+    pub labels: usize,
+    pub scope_end: u64,
+    pub break_target: usize,
+    pub continue_target: usize,
+}
 
 // The builder's place in the sheet, its counts and its settings.
 pub struct GraphBuilder {
@@ -31,12 +58,9 @@ pub struct GraphBuilder {
     pub nodes: usize,
     pub codes: usize,
     pub names: usize,
-    pub labels: usize,
-    // The node that the next code runs after, or 4294967295 right after a jump.
+    // The node that the next code runs after, or NO_NODE right after a jump.
     pub cursor: usize,
-    pub scope_end: u64,
-    pub break_target: usize,
-    pub continue_target: usize,
+    pub settings: BlockSettings,
 }
 
 impl GraphBuilder {
@@ -46,7 +70,7 @@ impl GraphBuilder {
         ensures { λ r. ⌜ ((ks c n l : List ℕ) → Does ks (λ ss. newNode) 1 self r (λ at. cols (at edges) c n l)) ⌝ }
     {
         let n = self.nodes;
-        edges[n] = 18446744073709551615;
+        edges[n] = NO_SUCCESSORS;
         self.nodes = n + 1;
         self
     }
@@ -71,18 +95,32 @@ impl GraphBuilder {
     {
         let from = self.cursor;
         connect(edges, from, target);
-        self.cursor = 4294967295;
+        self.cursor = NO_NODE;
         self
     }
 
     // "Break target, continue target and scope end return to their outer settings when a body closes", and so do the labels in force.
-    pub fn return_to(mut self, outer: GraphBuilder) -> GraphBuilder
-        ensures { λ r. ⌜ r ≡ within (outer .labels) (outer .«scope_end») (outer .«break_target») (outer .«continue_target») self ⌝ }
+    pub fn return_to(mut self, outer: BlockSettings) -> GraphBuilder
+        ensures { λ r. ⌜ r ≡ within outer self ⌝ }
     {
-        self.labels = outer.labels;
-        self.scope_end = outer.scope_end;
-        self.break_target = outer.break_target;
-        self.continue_target = outer.continue_target;
+        self.settings = outer;
+        self
+    }
+
+    // Inside a scope that ends at scope_end.
+    pub fn enter_scope(mut self, scope_end: u64) -> GraphBuilder
+        ensures { λ r. ⌜ r ≡ within (scopeSettings «scope_end» (self .settings)) self ⌝ }
+    {
+        self.settings.scope_end = scope_end;
+        self
+    }
+
+    // Inside a loop: where BREAK and CONTINUE go.
+    pub fn enter_loop(mut self, break_target: usize, continue_target: usize) -> GraphBuilder
+        ensures { λ r. ⌜ r ≡ within (loopSettings «break_target» «continue_target» (self .settings)) self ⌝ }
+    {
+        self.settings.break_target = break_target;
+        self.settings.continue_target = continue_target;
         self
     }
 
@@ -94,7 +132,7 @@ impl GraphBuilder {
         ensures { λ r. ⌜ (r .nodes ≡ self .nodes) × (r .cursor ≡ self .cursor) ⌝ }
     {
         let k = self.codes;
-        codes[k] = node as u64 + i as u64 * 0x1_0000_0000;
+        codes[k] = node as u64 + i as u64 * HALF;
         self.codes = k + 1;
         self
     }
@@ -109,8 +147,8 @@ impl GraphBuilder {
     {
         let n = self.nodes;
         let k = self.codes;
-        codes[k] = n as u64 + i as u64 * 0x1_0000_0000;
-        edges[n] = 18446744073709551615;
+        codes[k] = n as u64 + i as u64 * HALF;
+        edges[n] = NO_SUCCESSORS;
         self.codes = k + 1;
         self.nodes = n + 1;
         let from = self.cursor;
@@ -133,12 +171,12 @@ impl GraphBuilder {
     // The name of item i, declared by the code that is current.
     pub fn declare(mut self, names: &mut [u64], i: usize) -> GraphBuilder
         requires { ⌜ (self .names < length (now names)) × (self .names < self .item) ⌝ }
-        requires { ⌜ (i < self .item) × (self .«scope_end» < 2 ^ 32) × (self .item ≤ 1024) ⌝ }
+        requires { ⌜ (i < self .item) × (self .settings .«scope_end» < 2 ^ 32) × (self .item ≤ 1024) ⌝ }
         ensures { λ r. ⌜ ((ks e c l : List ℕ) → Does ks (λ ss. declare (getD ss i 0) (settingsOf self (cols e c (held names) l))) 0 self r (λ at. cols e c (at names) l)) ⌝ }
     {
         let m = self.names;
-        let here = self.cursor % 65536;
-        names[m] = here as u64 + i as u64 * 65536 + self.scope_end * 0x1_0000_0000;
+        let here = self.cursor % NAME_NODES;
+        names[m] = here as u64 + i as u64 * NAME_ITEM + self.settings.scope_end * HALF;
         self.names = m + 1;
         self
     }
@@ -152,10 +190,11 @@ impl GraphBuilder {
         ensures { λ r. ⌜ ((ks c n : List ℕ) → Enters ks (name ∷ []) self r (λ at. cols (at edges) c n (at labels))) ⌝ }
     {
         let n = self.nodes;
-        let k = self.labels;
-        labels[k] = name + n as u64 * 0x1_0000_0000;
-        edges[n] = 18446744073709551615;
-        self.labels = k + 1;
+        let k = self.settings.labels;
+        labels[k] = name + n as u64 * HALF;
+        edges[n] = NO_SUCCESSORS;
+        let in_force = k + 1;
+        self.settings.labels = in_force;
         self.nodes = n + 1;
         self
     }
@@ -172,7 +211,7 @@ impl GraphBuilder {
         if !is_label(w) {
             return self;
         }
-        self.new_label(edges, labels, w / 256)
+        self.new_label(edges, labels, w / ARGUMENT)
     }
 }
 
@@ -189,7 +228,7 @@ impl GraphBuilder {
         let mut j = b.item;
         while j < kinds.len() {
             let w = kinds[j];
-            let kind = w % 256;
+            let kind = w % ARGUMENT;
             if ends_at(kind, depth) {
                 return b;
             }
@@ -213,12 +252,12 @@ impl GraphBuilder {
     ) -> GraphBuilder
         requires { ⌜ ((n : List ℕ) × Good self (cols (now edges) (now codes) n (now labels))) ⌝ }
         requires { ⌜ (self .codes < self .item) × (i < self .item) ⌝ }
-        ensures { λ r. ⌜ ((ks n : List ℕ) → DoesCode ks i false (labelled name (labelList (self .labels) (held labels))) 0 self r (λ at. cols (at edges) (at codes) n (held labels))) ⌝ }
+        ensures { λ r. ⌜ ((ks n : List ℕ) → DoesCode ks i false (labelled name (labelList (self .settings .labels) (held labels))) 0 self r (λ at. cols (at edges) (at codes) n (held labels))) ⌝ }
     {
         if name == 0 {
             return self;
         }
-        let count = self.labels;
+        let count = self.settings.labels;
         let Found::At(node) = label_node(labels, count, name) else {
             return self;
         };
@@ -237,11 +276,11 @@ impl GraphBuilder {
     ) -> GraphBuilder
         requires { ⌜ ((n : List ℕ) × Good self (cols (now edges) (now codes) n (now labels))) ⌝ }
         requires { ⌜ (self .nodes < 1600) × (self .codes < self .item) × (i < self .item) ⌝ }
-        ensures { λ r. ⌜ ((ks n : List ℕ) → DoesCode ks i true (gone name (labelList (self .labels) (held labels))) 1 self r (λ at. cols (at edges) (at codes) n (held labels))) ⌝ }
+        ensures { λ r. ⌜ ((ks n : List ℕ) → DoesCode ks i true (gone name (labelList (self .settings .labels) (held labels))) 1 self r (λ at. cols (at edges) (at codes) n (held labels))) ⌝ }
     {
-        let count = self.labels;
+        let count = self.settings.labels;
         let Found::At(node) = label_node(labels, count, name) else {
-            return self.jump(edges, codes, i, 1);
+            return self.jump(edges, codes, i, exit::BREAK);
         };
         self.jump(edges, codes, i, node)
     }
@@ -257,23 +296,23 @@ impl GraphBuilder {
     ) -> GraphBuilder
         requires { ⌜ ((n l : List ℕ) × Good self (cols (now edges) (now codes) n l)) ⌝ }
         requires { ⌜ (self .nodes < 1600) × (self .codes < self .item) × (i < self .item) ⌝ }
-        ensures { λ r. ⌜ ((ks n l : List ℕ) → DoesCode ks i true (coded kind argument (self .«break_target») (self .«continue_target»)) 1 self r (λ at. cols (at edges) (at codes) n l)) ⌝ }
+        ensures { λ r. ⌜ ((ks n l : List ℕ) → DoesCode ks i true (coded kind argument (self .settings .«break_target») (self .settings .«continue_target»)) 1 self r (λ at. cols (at edges) (at codes) n l)) ⌝ }
     {
-        if kind == 14 {
-            let after = self.break_target;
+        if kind == BREAK {
+            let after = self.settings.break_target;
             return self.jump(edges, codes, i, after);
         }
-        if kind == 15 {
-            let next = self.continue_target;
+        if kind == CONTINUE {
+            let next = self.settings.continue_target;
             return self.jump(edges, codes, i, next);
         }
-        if kind == 16 {
+        if kind == RETURN {
             let exit = return_exit(argument);
             return self.jump(edges, codes, i, exit);
         }
-        if kind == 17 {
+        if kind == CALL {
             if call_raises(argument) {
-                return self.jump(edges, codes, i, 4);
+                return self.jump(edges, codes, i, exit::ERROR);
             }
             return self.code(edges, codes, i);
         }
@@ -294,18 +333,18 @@ impl GraphBuilder {
         requires { ⌜ (self .nodes + simpleMade (kindOf w) ≤ 1600) × (self .codes < self .item) × (self .names < self .item) × (i < self .item) × (kindOf w ≡ 8 → ⊥) × (kindOf w ≡ 9 → ⊥) ⌝ }
         ensures { λ r. ⌜ ((ks : List ℕ) → DoesSimple ks i w self r (λ at. cols (at edges) (at codes) (at names) (held labels))) ⌝ }
     {
-        let kind = w % 256;
-        let argument = w / 256;
-        if kind == 11 {
+        let kind = w % ARGUMENT;
+        let argument = w / ARGUMENT;
+        if kind == NAME {
             return self.declare(names, i);
         }
-        if kind == 12 {
+        if kind == LABEL {
             return self.label_stmt(edges, codes, labels, argument, i);
         }
-        if kind == 13 {
+        if kind == GOTO {
             return self.goto_stmt(edges, codes, labels, argument, i);
         }
-        if kind == 19 {
+        if kind == EMPTY {
             return self;
         }
         self.code_stmt(edges, codes, kind, argument, i)
@@ -317,9 +356,9 @@ fn return_exit(argument: u64) -> usize
     ensures { λ r. ⌜ (r ≡ cond (eqb argument 1) 2 3) × (r < 6) ⌝ }
 {
     if argument == 1 {
-        return 2;
+        return exit::RETURN_VALUE;
     }
-    3
+    exit::RETURN_EMPTY
 }
 
 impl GraphBuilder {
@@ -349,7 +388,7 @@ impl GraphBuilder {
         if may_hold(truth) {
             return h;
         }
-        h.cursor = 4294967295;
+        h.cursor = NO_NODE;
         h
     }
 

@@ -6,15 +6,19 @@ ghost use lib.ListN.{length, getD, set, take, drop, replicate};
 ghost use Rattle.cfg_edges.specs.Halves.{lo, hi};
 ghost use Rattle.cfg_steps.specs.Columns.{hasStart, painted};
 ghost use Rattle.code_columns.specs.Words.{CodeWithin};
-use columns::HALF;
 use search::clear;
+use words::ARGUMENT;
+use words::HALF;
+use words::kind::END;
+use words::kind::LABEL;
+use words::kind::UNTIL;
 
-// Whether a code gives its node a start, by its item's word: not where the item ends a block (8, 9) or is a label (12).
+// Whether a code gives its node a start, by its item's word: not where the item ends a block or is a label.
 fn has_start(word: u64) -> bool
     ensures { λ r. ⌜ r ≡ hasStart word ⌝ }
 {
-    match word % 256 {
-        8 | 9 | 12 => false,
+    match word % ARGUMENT {
+        END | UNTIL | LABEL => false,
         _ => true,
     }
 }

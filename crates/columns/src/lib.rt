@@ -5,9 +5,13 @@ ghost use Prim.Native.Nat.{ℕ, _≤_, _<_};
 ghost use lib.ListN.{length, getD, set, take, drop};
 ghost use Rattle.cfg_edges.specs.Halves.{lo, hi};
 ghost use Rattle.cfg_steps.specs.Columns.{nameNode, nameItem};
+use words::ABSENT;
+use words::HALF;
 
-// A word is its lower half + 2^32 × its upper half.
-pub const HALF: u64 = 0x1_0000_0000;
+// A name's word is its node + 65,536 × its item + 2^32 × its scope end, and holds no node by the last number that fits.
+const ITEM: u64 = 65536;
+
+const NO_NODE: u64 = 65535;
 
 // The word of node i: its first successor stays in the column, and its second goes to the other.
 fn split_edge(first: &mut [u64], second: &mut [u64], i: usize)
@@ -37,8 +41,8 @@ pub fn split_edges(first: &mut [u64], second: &mut [u64], n: usize)
 fn node_of_name(w: u64) -> u64
     ensures { λ r. ⌜ r ≡ nameNode w ⌝ }
 {
-    let node = w % 65536;
-    if node == 65535 { 4294967295 } else { node }
+    let node = w % ITEM;
+    if node == NO_NODE { ABSENT } else { node }
 }
 
 // The word of name k: its node stays in the column, its item gives the span, and the upper half is its scope end.
@@ -56,7 +60,7 @@ fn split_name(
     ensures { λ _. ⌜ now («name_end» .exit) ≡ set (now («name_end» .entry)) k (hi (getD (now («name_node» .entry)) k 0)) ⌝ }
 {
     let w = name_node[k];
-    let item = (w / 65536 % 65536) as usize;
+    let item = (w / ITEM % ITEM) as usize;
     name_node[k] = node_of_name(w);
     name_span[k] = spans[item];
     name_end[k] = w / HALF;

@@ -6,13 +6,9 @@ ghost use lib.ListN.{length};
 ghost use Rattle.search.specs.Lent.{held, left};
 ghost use Rattle.flow.specs.Locals.{Local, noValue, tracked, writesJudged, captured};
 ghost use Rattle.facts.specs.Facts.{factsOf, factsWith, isDue, isJudged, valuesAfter, beforeAfter, nameHere, localsIn, Stored, None};
-
-// A word of an item is kind + 256 × argument.
-const ARGUMENT: u64 = 256;
-
-const LOCAL: u64 = 10;
-
-const NAME: u64 = 11;
+use words::ARGUMENT;
+use words::kind::LOCAL;
+use words::kind::NAME;
 
 // As many values stand for a call or `...` last: no name of the LOCAL lacks one.
 const OPEN: u64 = 65535;

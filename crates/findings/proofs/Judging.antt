@@ -48,37 +48,41 @@ module _ {S U : List ℕ} {r : Counts} {l : Lent} (v : sheetVerdict false S ≡ 
   name-in ℓ q = rw (name-nodes .cell ℓ q, nodes-are a h) (name-node S v ℓ (omega (arith, a .nameNodes, a .allNames)))
 
   pub sheets : Tables S U r (y .nodes .first) (y .nodes .second) (y .nodes .start) (y .codes .span) (y .codes .node) (y .names .span) (y .names .node) (y .names .scopeEnd)
-  sheets = (record {
-    kinds-are = refl;
-    beside = a .spans ∙ sym (a .kinds);
-    few = omega (arith, a .kinds, a .few);
-    charted = record {
-      count = sym (nodes-are a h);
-      some = omega (arith, node-count S, nodes-are a h);
-      few = h .few;
-      charts = record { firsts = sym (first-read a h .cells); seconds = sym (second-read a h .cells); starts = sym (start-read a h .cells) };
-      long = record { firsts = first-read a h .long; seconds = second-read a h .long; starts = start-read a h .long };
-    };
-    code-spans = sym (spans-read a h .cells);
-    code-nodes = sym (code-nodes-read a h .cells);
-    code-table = record { spans-long = spans-read a h .long; nodes-long = code-nodes-read a h .long; rising = ends-rise a h; within = code-nodes-in a h };
-    named = record {
-      count = refl;
-      few = omega (arith, a .allNames, a .fewNames);
-      nodes = sym (name-nodes .cells);
-      nodes-long = name-nodes .long;
-      ends = sym (name-ends .cells);
-      ends-long = name-ends .long;
-      within = name-in;
-    };
-    words-are = refl;
-    spans-are = refl;
-    use-table = record {
-      few = omega (arith, u .uses, u .few);
-      same = u .spans ∙ sym (u .uses);
-      named = λ k q. omega (arith, u .known k (omega (arith, u .uses)), u .names);
-    };
-  }, sym (name-spans .cells), name-spans .long)
+  sheets = (
+    record {
+      kinds-are = refl;
+      beside = a .spans ∙ sym (a .kinds);
+      few = omega (arith, a .kinds, a .few);
+      charted = record {
+        count = sym (nodes-are a h);
+        some = omega (arith, node-count S, nodes-are a h);
+        few = h .few;
+        charts = record { firsts = sym (first-read a h .cells); seconds = sym (second-read a h .cells); starts = sym (start-read a h .cells) };
+        long = record { firsts = first-read a h .long; seconds = second-read a h .long; starts = start-read a h .long };
+      };
+      code-spans = sym (spans-read a h .cells);
+      code-nodes = sym (code-nodes-read a h .cells);
+      code-table = record { spans-long = spans-read a h .long; nodes-long = code-nodes-read a h .long; rising = ends-rise a h; within = code-nodes-in a h };
+      named = record {
+        count = refl;
+        few = omega (arith, a .allNames, a .fewNames);
+        nodes = sym (name-nodes .cells);
+        nodes-long = name-nodes .long;
+        ends = sym (name-ends .cells);
+        ends-long = name-ends .long;
+        within = name-in;
+      };
+      words-are = refl;
+      spans-are = refl;
+      use-table = record {
+        few = omega (arith, u .uses, u .few);
+        same = u .spans ∙ sym (u .uses);
+        named = λ k q. omega (arith, u .known k (omega (arith, u .uses)), u .names);
+      };
+    },
+    sym (name-spans .cells),
+    name-spans .long,
+  )
 
 -- ---- the parts as the code takes them
 

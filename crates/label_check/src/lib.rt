@@ -11,26 +11,17 @@ ghost use Rattle.label_check.specs.Walk.{openedSight, nextArm, closedSig
 use blocks::depth_after;
 use blocks::ends_at;
 use blocks::is_label;
-
-const DO: u64 = 1;
-
-const WHILE: u64 = 2;
-
-const REPEAT: u64 = 3;
-
-const FOR: u64 = 4;
-
-const IF: u64 = 5;
-
-const ELSEIF: u64 = 6;
-
-const ELSE: u64 = 7;
-
-const END: u64 = 8;
-
-const UNTIL: u64 = 9;
-
-const GOTO: u64 = 13;
+use words::ARGUMENT;
+use words::kind::DO;
+use words::kind::ELSE;
+use words::kind::ELSEIF;
+use words::kind::END;
+use words::kind::FOR;
+use words::kind::GOTO;
+use words::kind::IF;
+use words::kind::REPEAT;
+use words::kind::UNTIL;
+use words::kind::WHILE;
 
 // Where no label with a name follows any more, so that no scan need go on.
 fn labels_end(kinds: &[u64]) -> usize
@@ -103,7 +94,7 @@ impl Sight {
         if !is_label(w) {
             return self;
         }
-        self.add(labels, w / 256)
+        self.add(labels, w / ARGUMENT)
     }
 
     // The labels standing directly in the block that starts at an item come in sight.
@@ -118,7 +109,7 @@ impl Sight {
         let mut j = from;
         while j < end {
             let w = kinds[j];
-            let kind = w % 256;
+            let kind = w % ARGUMENT;
             if ends_at(kind, depth) {
                 return s;
             }
@@ -186,11 +177,11 @@ impl Sight {
         ensures { λ r. ⌜ ((ss : List ℕ) → length ss ≡ length (now (kinds .entry)) → After (now (kinds .entry)) ss (j + 1) r (now (labels .exit)) (now (marks .exit))) ⌝ }
     {
         let w = kinds[j];
-        match w % 256 {
+        match w % ARGUMENT {
             DO | WHILE | REPEAT | FOR | IF => self.open(marks).enter(kinds, labels, end, j + 1),
             ELSEIF | ELSE => self.next_arm().enter(kinds, labels, end, j + 1),
             END | UNTIL => self.close(marks),
-            GOTO => self.jump(labels, w / 256),
+            GOTO => self.jump(labels, w / ARGUMENT),
             _ => self,
         }
     }

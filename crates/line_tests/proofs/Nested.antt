@@ -10,7 +10,6 @@ use Rattle.search.proofs.Bools.{and-both}
 use Rattle.flow.specs.Kinds.{opens, closes}
 use Rattle.flow.specs.Refusals.{one, outnumbered, mayStand, openAfter, pairsUp, scopesAfter}
 use Rattle.flow.specs.Sheet.{Item, kind, member}
-
 use Rattle.nesting_tests.specs.Stack.{stackOf}
 use Rattle.nesting_tests.proofs.Nesting.{most, deep-next, closer-in, arm-in, turned-length, open-length}
 use Rattle.nesting_tests.proofs.Stacks.{length-stackOf}

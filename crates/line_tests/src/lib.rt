@@ -11,22 +11,25 @@ ghost use Rattle.nesting_tests.specs.Stack.{stackOf};
 ghost use Rattle.line_tests.specs.Turn.{lineFits, heldHere, Room, Scopes};
 use sheet_tests::depth::is_closer;
 use sheet_tests::depth::is_opener;
-use sheet_tests::kind::ELSE;
-use sheet_tests::kind::ELSEIF;
-use sheet_tests::kind::FOR;
-use sheet_tests::kind::GOTO;
-use sheet_tests::kind::IF;
-use sheet_tests::kind::LABEL;
-use sheet_tests::kind::LOCAL;
-use sheet_tests::kind::PLAIN;
-use sheet_tests::kind::UNTIL;
-use sheet_tests::kind::WHILE;
+use words::ARGUMENT;
+use words::HALF;
+use words::SCOPE_END;
+use words::kind::ELSE;
+use words::kind::ELSEIF;
+use words::kind::FOR;
+use words::kind::GOTO;
+use words::kind::IF;
+use words::kind::LABEL;
+use words::kind::LOCAL;
+use words::kind::PLAIN;
+use words::kind::UNTIL;
+use words::kind::WHILE;
 
 // Whether an item is code, whatever its span: of the labels those that have a name.
 fn is_code(word: u64) -> bool
     ensures { λ r. ⌜ ((s : ℕ) → r ≡ isCode (record { word = word; span = s })) ⌝ }
 {
-    let kind = word % 256;
+    let kind = word % ARGUMENT;
     match kind {
         WHILE => true,
         FOR => true,
@@ -34,7 +37,7 @@ fn is_code(word: u64) -> bool
         ELSEIF => true,
         UNTIL => true,
         LOCAL => true,
-        LABEL => word / 256 != 0,
+        LABEL => word / ARGUMENT != 0,
         _ => {
             if kind < GOTO {
                 return false;
@@ -48,7 +51,7 @@ fn line_after(code: bool, span: u64, line: u64) -> u64
     ensures { λ r. ⌜ r ≡ cond code (endOf span) line ⌝ }
 {
     if code {
-        return span / 4294967296;
+        return span / HALF;
     }
     line
 }
@@ -72,11 +75,11 @@ fn item_held(
     if !code {
         return true;
     }
-    if span % 4294967296 < line {
+    if span % HALF < line {
         return false;
     }
-    let kind = word % 256;
-    let end = span / 4294967296;
+    let kind = word % ARGUMENT;
+    let end = span / HALF;
     if kind == ELSEIF {
         return end <= lows[count - 2];
     }
@@ -155,7 +158,13 @@ pub fn off_the_line(outer: u64, kinds: &[u64], spans: &[u64]) -> bool
             return true;
         }
         line = line_after(code, span, line);
-        count = scopes_after(&mut ends, &mut lows, count, word % 256, word / 256 / 32);
+        count = scopes_after(
+            &mut ends,
+            &mut lows,
+            count,
+            word % ARGUMENT,
+            word / ARGUMENT / SCOPE_END,
+        );
         i += 1;
     }
     false

@@ -13,12 +13,10 @@ use flow::JudgeAnswer;
 use flow::Refusal;
 use line_writer::line;
 use numbers::number;
+use words::HALF;
 
 // Bytes that hold every output, as the specs' `roomForAll` has it.
 pub const ROOM: usize = 169140;
-
-// A word is its lower half + 2^32 × its upper half.
-const HALF: u64 = 4294967296;
 
 // A finding's lower half is its list + 2 × its local.
 const LOCALS: u64 = 2147483648;

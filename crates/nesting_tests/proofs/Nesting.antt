@@ -14,7 +14,6 @@ use Rattle.flow.specs.Kinds.{opens, closes}
 use Rattle.flow.specs.Refusals.{one, outnumbered, mayStand, openAfter}
 use Rattle.flow.specs.Sheet.{Item, kind, member}
 use Rattle.nesting_tests.specs.Stack.{stackOf}
-
 use Rattle.nesting_tests.proofs.Stacks.{length-stackOf}
 
 -- an opener and a closer more cancel out

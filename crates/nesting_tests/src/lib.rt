@@ -10,16 +10,17 @@ ghost use Rattle.flow.specs.Refusals.{one, innermost, mayStand, openAfter, mayF
 ghost use Rattle.nesting_tests.specs.Stack.{stackOf};
 use sheet_tests::depth::is_closer;
 use sheet_tests::depth::is_opener;
-use sheet_tests::kind::CONTINUE;
-use sheet_tests::kind::ELSE;
-use sheet_tests::kind::ELSEIF;
-use sheet_tests::kind::END;
-use sheet_tests::kind::IF;
-use sheet_tests::kind::LOCAL;
-use sheet_tests::kind::NAME;
-use sheet_tests::kind::REPEAT;
-use sheet_tests::kind::RETURN;
-use sheet_tests::kind::UNTIL;
+use words::ARGUMENT;
+use words::kind::CONTINUE;
+use words::kind::ELSE;
+use words::kind::ELSEIF;
+use words::kind::END;
+use words::kind::IF;
+use words::kind::LOCAL;
+use words::kind::NAME;
+use words::kind::REPEAT;
+use words::kind::RETURN;
+use words::kind::UNTIL;
 
 // The kind of the innermost open item, 0 where nothing is open.
 fn innermost_of(opened: &[u64; 64], depth: usize) -> u64
@@ -112,7 +113,7 @@ pub fn bad_nesting(kinds: &[u64], spans: &[u64]) -> bool
     let mut last = 0;
     let mut i = 0;
     while i < kinds.len() {
-        let kind = kinds[i] % 256;
+        let kind = kinds[i] % ARGUMENT;
         if !may_stand(&opened, depth, kind) {
             return true;
         }

@@ -9,9 +9,7 @@ ghost use Rattle.flow.specs.Reachable.{reachable as reachableFlags, nodeAmong, 
 ghost use Rattle.offsets.specs.Codes.{Rising, FirstPast, Within};
 use flow::Found;
 use search::at;
-
-// A span's word is start + 2^32 × end.
-const END: u64 = 4294967296;
+use words::HALF;
 
 // How many codes end at or before an offset. Since the ends rise, those stand first.
 fn partition_point(code_span: &[u64], codes: usize, offset: u64) -> usize
@@ -22,7 +20,7 @@ fn partition_point(code_span: &[u64], codes: usize, offset: u64) -> usize
     let mut high = codes;
     while low < high {
         let middle = low + (high - low) / 2;
-        if code_span[middle] / END <= offset {
+        if code_span[middle] / HALF <= offset {
             low = middle + 1;
         } else {
             high = middle;
@@ -37,11 +35,11 @@ fn is_first_past(code_span: &[u64], codes: usize, offset: u64, index: usize) -> 
     ensures { λ r. ⌜ (r ≡ true → FirstPast codes (now («code_span» .entry)) offset index) ⌝ }
 {
     if index < codes {
-        if code_span[index] / END <= offset {
+        if code_span[index] / HALF <= offset {
             false
         } else {
             if 0 < index {
-                code_span[index - 1] / END <= offset
+                code_span[index - 1] / HALF <= offset
             } else {
                 true
             }

@@ -9,8 +9,7 @@ ghost use Rattle.reach.specs.Columns.{edges, FlagsOver};
 use search::at;
 use search::clear;
 use search::push_if_new;
-
-const ENTRY: usize = 5;
+use words::exit::ENTRY;
 
 // v pushed; what is no node is passed over.
 fn push_node(marks: &mut [u64], stack: &mut [u64], n: usize, top: usize, v: usize) -> usize

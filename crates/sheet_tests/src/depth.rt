@@ -5,10 +5,11 @@ ghost use lib.ListN.{length};
 ghost use Rattle.flow.specs.Sheet.{zip};
 ghost use Rattle.flow.specs.Kinds.{opens, closes};
 ghost use Rattle.flow.specs.Refusals.{outnumbered};
-use crate::kind::DO;
-use crate::kind::END;
-use crate::kind::IF;
-use crate::kind::UNTIL;
+use words::ARGUMENT;
+use words::kind::DO;
+use words::kind::END;
+use words::kind::IF;
+use words::kind::UNTIL;
 
 pub fn is_opener(kind: u64) -> bool
     ensures { λ r. ⌜ r ≡ opens kind ⌝ }
@@ -49,7 +50,7 @@ pub fn too_deep(kinds: &[u64], spans: &[u64]) -> bool
         if closers + 64 < openers {
             return true;
         }
-        let kind = kinds[i] % 256;
+        let kind = kinds[i] % ARGUMENT;
         openers += one(is_opener(kind));
         closers += one(is_closer(kind));
         i += 1;

@@ -6,28 +6,37 @@ ghost use lib.ListN.{length};
 ghost use lib.Dec.{ltb, leb, eqb};
 ghost use Rattle.flow.specs.Sheet.{all, zip, startOf, endOf};
 ghost use Rattle.flow.specs.Kinds.{argumentFits, spanless, itemFits};
-use crate::kind::CALL;
-use crate::kind::DO;
-use crate::kind::ELSE;
-use crate::kind::ELSEIF;
-use crate::kind::EMPTY;
-use crate::kind::END;
-use crate::kind::FOR;
-use crate::kind::GOTO;
-use crate::kind::IF;
-use crate::kind::LABEL;
-use crate::kind::LOCAL;
-use crate::kind::NAME;
-use crate::kind::REPEAT;
-use crate::kind::RETURN;
-use crate::kind::WHILE;
+use words::ARGUMENT;
+use words::HALF;
+use words::SCOPE_END;
+use words::kind::CALL;
+use words::kind::DO;
+use words::kind::ELSE;
+use words::kind::ELSEIF;
+use words::kind::EMPTY;
+use words::kind::END;
+use words::kind::FOR;
+use words::kind::GOTO;
+use words::kind::IF;
+use words::kind::LABEL;
+use words::kind::LOCAL;
+use words::kind::NAME;
+use words::kind::REPEAT;
+use words::kind::RETURN;
+use words::kind::WHILE;
+
+// The conditions are 0 to 18.
+const CONDITIONS: u64 = 19;
+
+// The last number that a LOCAL or a label can have.
+const LAST_NUMBER: u64 = 65535;
 
 // An argument that is a condition, one of `conditions`, and a scope end.
 fn scoped(argument: u64, conditions: u64) -> bool
     ensures { λ r. ⌜ r ≡ (ltb (argument % 32) conditions && ltb (argument / 32) (2 ^ 32)) ⌝ }
 {
-    if argument % 32 < conditions {
-        return argument / 32 < 4294967296;
+    if argument % SCOPE_END < conditions {
+        return argument / SCOPE_END < HALF;
     }
     false
 }
@@ -38,16 +47,16 @@ fn argument_fits(kind: u64, argument: u64) -> bool
 {
     match kind {
         DO => scoped(argument, 1),
-        WHILE => scoped(argument, 19),
-        REPEAT => scoped(argument, 19),
+        WHILE => scoped(argument, CONDITIONS),
+        REPEAT => scoped(argument, CONDITIONS),
         FOR => scoped(argument, 1),
         IF => scoped(argument, 1),
         ELSEIF => scoped(argument, 1),
         ELSE => scoped(argument, 1),
-        LOCAL => argument <= 65535,
+        LOCAL => argument <= LAST_NUMBER,
         NAME => argument <= 7,
-        LABEL => argument <= 65535,
-        GOTO => argument <= 65535,
+        LABEL => argument <= LAST_NUMBER,
+        GOTO => argument <= LAST_NUMBER,
         RETURN => argument <= 1,
         CALL => argument <= 127,
         _ => argument == 0,
@@ -58,7 +67,7 @@ fn argument_fits(kind: u64, argument: u64) -> bool
 fn span_fits(kind: u64, span: u64) -> bool
     ensures { λ r. ⌜ r ≡ (leb (startOf span) (endOf span) && (not (spanless kind) || eqb span 0)) ⌝ }
 {
-    if span % 4294967296 > span / 4294967296 {
+    if span % HALF > span / HALF {
         return false;
     }
     match kind {
@@ -74,14 +83,14 @@ fn span_fits(kind: u64, span: u64) -> bool
 fn item_fits(word: u64, span: u64) -> bool
     ensures { λ r. ⌜ r ≡ itemFits (record { word = word; span = span }) ⌝ }
 {
-    let kind = word % 256;
+    let kind = word % ARGUMENT;
     if kind < DO {
         return false;
     }
     if kind > EMPTY {
         return false;
     }
-    if argument_fits(kind, word / 256) {
+    if argument_fits(kind, word / ARGUMENT) {
         return span_fits(kind, span);
     }
     false
@@ -91,7 +100,7 @@ pub fn bad_item(outer: u64, kinds: &[u64], spans: &[u64]) -> bool
     requires { ⌜ (length (now kinds) ≡ length (now spans)) × (length (now kinds) ≤ 1024) ⌝ }
     ensures { λ r. ⌜ r ≡ not (ltb outer (2 ^ 32) && all itemFits (zip (now (kinds .entry)) (now (spans .entry)))) ⌝ }
 {
-    if outer >= 4294967296 {
+    if outer >= HALF {
         return true;
     }
     let mut i = 0;

@@ -5,21 +5,23 @@ ghost use Prim.Native.Nat.{_≤_};
 ghost use lib.ListN.{length};
 ghost use Rattle.flow.specs.Sheet.{zip};
 ghost use Rattle.flow.specs.Refusals.{nameFits, namesFit};
-use crate::kind::LOCAL;
-use crate::kind::NAME;
+use words::ARGUMENT;
+use words::HALF;
+use words::kind::LOCAL;
+use words::kind::NAME;
 
 fn name_fits(local: u64, line: u64, span: u64) -> bool
     ensures { λ r. ⌜ r ≡ nameFits local line span ⌝ }
 {
-    let start = span % 4294967296;
-    let end = span / 4294967296;
+    let start = span % HALF;
+    let end = span / HALF;
     if start >= end {
         return false;
     }
-    if start < local % 4294967296 {
+    if start < local % HALF {
         return false;
     }
-    if end > local / 4294967296 {
+    if end > local / HALF {
         return false;
     }
     line <= start
@@ -33,7 +35,7 @@ pub fn bad_name(kinds: &[u64], spans: &[u64]) -> bool
     let mut line = 0;
     let mut i = 0;
     while i < kinds.len() {
-        let kind = kinds[i] % 256;
+        let kind = kinds[i] % ARGUMENT;
         let span = spans[i];
         if kind == LOCAL {
             local = span;
@@ -42,7 +44,7 @@ pub fn bad_name(kinds: &[u64], spans: &[u64]) -> bool
             if !name_fits(local, line, span) {
                 return true;
             }
-            line = span / 4294967296;
+            line = span / HALF;
         }
         i += 1;
     }

@@ -7,7 +7,10 @@ ghost use lib.ListN.{length};
 ghost use Rattle.flow.specs.Sheet.{member, zip};
 ghost use Rattle.flow.specs.Refusals.{nameCount, useFits, usesFit};
 use crate::depth::one;
-use crate::kind::NAME;
+use words::ARGUMENT;
+use words::HALF;
+use words::USE_KIND;
+use words::kind::NAME;
 
 pub fn name_count(kinds: &[u64], spans: &[u64]) -> u64
     requires { ⌜ (length (now kinds) ≡ length (now spans)) × (length (now kinds) ≤ 1024) ⌝ }
@@ -16,7 +19,7 @@ pub fn name_count(kinds: &[u64], spans: &[u64]) -> u64
     let mut names = 0;
     let mut i = 0;
     while i < kinds.len() {
-        names += one(kinds[i] % 256 == NAME);
+        names += one(kinds[i] % ARGUMENT == NAME);
         i += 1;
     }
     names
@@ -40,11 +43,11 @@ fn high_fits(high: u64) -> bool
 fn use_fits(names: u64, word: u64, span: u64) -> bool
     ensures { λ r. ⌜ r ≡ useFits names word span ⌝ }
 {
-    if word % 65536 >= names {
+    if word % USE_KIND >= names {
         return false;
     }
-    if high_fits(word / 65536) {
-        return span % 4294967296 <= span / 4294967296;
+    if high_fits(word / USE_KIND) {
+        return span % HALF <= span / HALF;
     }
     false
 }

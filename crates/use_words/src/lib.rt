@@ -7,6 +7,7 @@ ghost use Rattle.flow.specs.declared.Found.the-variants.{At};
 ghost use Rattle.flow.specs.Sheet.{localOf, useKindOf, crossingOf};
 ghost use Rattle.flow.specs.Findings.{isRead, isWrite};
 ghost use Rattle.use_words.specs.Words.{numberIn, nodeIn, localIn, closureIn, useOf};
+use words::USE_KIND;
 
 // A number, a node and a local are each below FIELD.
 const FIELD: u64 = 65536;
@@ -20,9 +21,6 @@ const KIND: u64 = 281474976710656;
 
 const CLOSURE: u64 = 1125899906842624;
 
-// A use sheet's word is local + SHEET_KIND × (kind + 4 × crossing).
-const SHEET_KIND: u64 = 65536;
-
 const READ: u64 = 0;
 
 const WRITE: u64 = 1;
@@ -33,11 +31,11 @@ pub fn pack(number: usize, node: usize, word: u64, captured: bool) -> u64
     ensures { λ r. ⌜ useOf r ≡ record { number = number; span = 0; kind = useKindOf word; inClosure = captured && eqb (crossingOf word) 1; place = At node } ⌝ }
     ensures { λ r. ⌜ localIn r ≡ localOf word ⌝ }
 {
-    let local = word % SHEET_KIND;
-    let kind = word / SHEET_KIND % 4;
+    let local = word % USE_KIND;
+    let kind = word / USE_KIND % 4;
     let open = number as u64 + NODE * node as u64 + LOCAL * local + KIND * kind;
     if captured {
-        if word / SHEET_KIND / 4 == 1 {
+        if word / USE_KIND / 4 == 1 {
             return open + CLOSURE;
         }
     }

@@ -13,7 +13,6 @@ use Rattle.flow.specs.declared.Refusal.the-variants.{TooDeep, BadNesting, OffTh
 use Rattle.flow.specs.Refusals.{outnumbered, pairsUp, sideBySide, inLine, held, namesFit, badItem, tooDeep, badNesting, offTheLine, badName, Test, firstApplying, itemTests}
 use Rattle.flow.specs.Sheet.{Item, all, zip, items, outerEnd}
 use Rattle.flow.specs.Kinds.{itemFits}
-
 use Rattle.admission.proofs.Parts.{long-enough, on-items}
 use Rattle.admission.proofs.Verdicts.{applies-first, passes-first}
 use Rattle.admission.proofs.item_verdict.Statement.{statement}

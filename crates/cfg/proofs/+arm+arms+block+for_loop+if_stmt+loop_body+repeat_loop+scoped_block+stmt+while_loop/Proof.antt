@@ -6,16 +6,16 @@ use lib.Dec.{lit≤}
 use Rattle.cfg.proofs.Rooms.{do-room, while-room, repeat-room, for-room, if-room, simple-room, elseif-room, else-room, code-starts, close-starts, simple-kind, ended-on, arms-left, at-item}
 use Rattle.cfg.proofs.Choices.{armed-none, armed-more, armed-chosen, chosen-last, arm-else, elseif-built, else-built, opened-stepped, do-stepped, simple-stepped}
 use Rattle.cfg.proofs.Statements.{withItem, good-item, withCursor, good-cursor, while-opened, repeat-opened, for-opened, if-opened}
-use Rattle.cfg.proofs.Scopes.{good-within, entered-room, scoped, looped}
+use Rattle.cfg.proofs.Scopes.{good-scope, entered-scope, good-loop, scoped-loop, entered-room, scoped, looped}
 use Rattle.flow.proofs.Builds.{labels-inside}
 use Rattle.cfg.proofs.Blocks.{Going, going-none, going-room, going-more, going-ended, ender-done, end-done, closed-at}
 use Rattle.cfg.specs.Steps.{bare, Armed}
 use Rattle.cfg_steps.proofs.Simple.{stands}
 use Rattle.cfg_steps.specs.Columns.{cols}
 use Rattle.blocks.specs.Open.{openAt}
+use Rattle.cfg_steps.specs.declared.GraphBuilder.{GraphBuilder}
 use Rattle.blocks.proofs.Scan.{ends, ends-not}
 use lib.ListN.{length, getD}
-use native.Mathlib.Nat.{le-refl}
 use native.Mathlib.Omega.{arith}
 use mathlib.Core.List.{List}
 use mathlib.Core.Path.{_≡_, refl, sym, ap, _∙_}
@@ -60,6 +60,8 @@ use Rattle.cfg_steps.proofs.GraphBuilder.arms_end.Reads as arms-end-reads
 use Rattle.cfg_steps.proofs.GraphBuilder.close_into.Reads as close-into-reads
 use Rattle.cfg_steps.proofs.GraphBuilder.code_and_after.Reads as code-and-after-reads
 use Rattle.cfg_steps.proofs.GraphBuilder.enter_block.Reads as enter-block-reads
+use Rattle.cfg_steps.proofs.GraphBuilder.enter_loop.Reads as enter-loop-reads
+use Rattle.cfg_steps.proofs.GraphBuilder.enter_scope.Reads as enter-scope-reads
 use Rattle.cfg_steps.proofs.GraphBuilder.for_head.Reads as for-head-reads
 use Rattle.cfg_steps.proofs.GraphBuilder.loop_end.Reads as loop-end-reads
 use Rattle.cfg_steps.proofs.GraphBuilder.repeat_end.Reads as repeat-end-reads
@@ -194,13 +196,13 @@ abbrev if-stmt-claims : ℕ → if-stmt-lts.Claims
 if-stmt-claims t = (code-and-after-reads.Asked, code-and-after-reads.Learnt, scoped-block-below t, scoped-block.Post, close-into-reads.Asked, close-into-reads.Learnt, arms-below t, arms.Post)
 
 abbrev loop-body-claims : ℕ → loop-body-lts.Claims
-loop-body-claims t = (scoped-block-below t, scoped-block.Post, close-into-reads.Asked, close-into-reads.Learnt, return-to-reads.Asked, return-to-reads.Learnt)
+loop-body-claims t = (enter-loop-reads.Asked, enter-loop-reads.Learnt, scoped-block-below t, scoped-block.Post, close-into-reads.Asked, close-into-reads.Learnt, return-to-reads.Asked, return-to-reads.Learnt)
 
 abbrev repeat-loop-claims : ℕ → repeat-loop-lts.Claims
 repeat-loop-claims t = (literal-truth-reads.Asked, literal-truth-reads.Learnt, repeat-head-reads.Asked, repeat-head-reads.Learnt, loop-body-below t, loop-body.Post, past-reads.Asked, past-reads.Learnt, repeat-end-reads.Asked, repeat-end-reads.Learnt)
 
 abbrev scoped-block-claims : ℕ → scoped-block-lts.Claims
-scoped-block-claims t = (enter-block-reads.Asked, enter-block-reads.Learnt, block-below t, block.Post, return-to-reads.Asked, return-to-reads.Learnt)
+scoped-block-claims t = (enter-scope-reads.Asked, enter-scope-reads.Learnt, enter-block-reads.Asked, enter-block-reads.Learnt, block-below t, block.Post, return-to-reads.Asked, return-to-reads.Learnt)
 
 abbrev stmt-claims : ℕ → stmt-lts.Claims
 stmt-claims t = (scoped-block-below t, scoped-block.Post, past-reads.Asked, past-reads.Learnt, while-loop-below t, while-loop.Post, repeat-loop-below t, repeat-loop.Post, for-loop-below t, for-loop.Post, if-stmt-below t, if-stmt.Post, simple-stmt-reads.Asked, simple-stmt-reads.Learnt)
@@ -402,17 +404,20 @@ if-stmt-returns t c = λ ss e.
     let ch = c .before .before .before .before .before .before .before .before .arms .ensures ss e in
     if-opened (c .before .before .before .before .before .before .before .before .before .before .before .before .before .before .before .before .before .before .before .before .before .before .before .before .before .before .before .before .before .before .before .before .before .before .before .before .before .before .before .before .before .before .before .args .kinds .now) ss e (c .before .before .before .before .before .before .before .before .before .before .before .before .before .before .before .before .before .before .before .before .before .before .before .before .before .before .before .before .before .before .before .before .before .before .before .before .before .before .before .before .before .before .before .pre .1 .0 .few) (c .before .before .before .before .before .before .before .before .before .before .before .before .before .before .before .before .before .before .before .before .before .before .before .before .before .before .before .before .before .before .before .before .before .before .before .before .before .before .before .before .before .before .before .args .i) (c .before .before .before .before .before .before .before .before .before .before .before .before .before .before .before .before .before .before .before .before .before .before .before .before .before .before .before .before .before .before .before .before .before .before .before .before .before .before .before .before .before .before .before .pre .1 .4) _ (c .before .before .before .before .before .before .before .before .before .before .before .before .before .before .before .before .before .before .before .before .before .before .before .before .before .before .before .before .before .before .before .before .before .before .before .before .before .before .before .before .before .before .before .pre .1 .5) refl (c .before .before .before .before .before .before .before .before .before .before .before .before .before .before .before .before .before .before .before .before .before .before .before .before .before .before .before .before .before .before .before .before .before .before .before .before .before .before .before .before .before .before .before .pre .1 .2) (c .before .before .before .before .before .before .before .before .before .before .before .before .before .before .before .before .before .before .before .before .before .before .before .before .before .before .before .before .before .before .before .before .before .before .before .before .before .before .before .before .before .before .before .pre .1 .1) hd (c .before .before .before .before .before .before .before .before .before .before .before .before .before .before .before .before .before .before .before .before .before .before .before .before .before .scoped-block .ensures ss e) cl ch (good-cursor _ (omega (arith, hd .nodes, c .before .before .before .before .before .before .before .before .before .before .before .before .before .before .before .before .before .before .before .before .before .before .before .before .before .scoped-block .ensures (c .before .before .before .before .before .before .before .before .before .before .before .before .before .before .before .before .before .before .before .before .before .before .before .before .before .before .before .before .before .before .before .before .before .before .before .before .before .before .before .before .before .before .before .args .kinds .now) refl .moved .grown .nodes, cl .nodes, ch .moved .grown .nodes)) (ch .moved .good))
 
+loop-body-enter-loop-requires : (t : ℕ) → loop-body-lts.Need-enter-loop-requires (loop-body-claims t) (loop-body-at t) loop-body.Post
+loop-body-enter-loop-requires t c κs = tt
+
 loop-body-scoped-block-requires : (t : ℕ) → loop-body-lts.Need-scoped-block-requires (loop-body-claims t) (loop-body-at t) loop-body.Post
-loop-body-scoped-block-requires t c κs = (omega (arith, c .before .before .before .before .before .before .before .before .before .pre .0), (c .before .before .before .before .before .before .before .before .before .pre .1 .0 .0, good-within (c .before .before .before .before .before .before .before .before .before .args .b .labels) (c .before .before .before .before .before .before .before .before .before .args .b .«scope_end») (c .before .before .before .before .before .before .before .before .before .args .break-target) (c .before .before .before .before .before .before .before .before .before .args .continue-target) (le-refl _) (c .before .before .before .before .before .before .before .before .before .pre .1 .0 .1 .scopeEnd) (c .before .before .before .before .before .before .before .before .before .pre .1 .1 .0) (c .before .before .before .before .before .before .before .before .before .pre .1 .1 .1) (c .before .before .before .before .before .before .before .before .before .pre .1 .0 .1), c .before .before .before .before .before .before .before .before .before .pre .1 .0 .2, c .before .before .before .before .before .before .before .before .before .pre .1 .0 .3, c .before .before .before .before .before .before .before .before .before .pre .1 .0 .4))
+loop-body-scoped-block-requires t c κs = let q = c .before .before .before .before .enter-loop .ensures in let p = c .before .before .before .before .before .before .before .before .before .before .pre in let s = good-loop (c .before .before .before .before .before .before .before .before .before .before .args .break-target) (c .before .before .before .before .before .before .before .before .before .before .args .continue-target) q (p .1 .1 .0) (p .1 .1 .1) (p .1 .0 .1) in rw q (omega (arith, p .0), (p .1 .0 .0, rw (sym q) s, p .1 .0 .2, p .1 .0 .3, p .1 .0 .4))
 
 loop-body-close-into-requires : (t : ℕ) → loop-body-lts.Need-close-into-requires (loop-body-claims t) (loop-body-at t) loop-body.Post
-loop-body-close-into-requires t c κs = let s = c .before .before .before .before .before .before .before .before .before .scoped-block .ensures (c .before .before .before .before .before .before .before .before .before .before .before .before .before .before .before .before .before .before .before .args .kinds .now) refl .moved in (stands (s .good), omega (arith, s .grown .nodes, c .before .before .before .before .before .before .before .before .before .before .before .before .before .before .before .before .before .before .before .pre .1 .1 .1))
+loop-body-close-into-requires t c κs = let s = c .before .before .before .before .before .before .before .before .before .scoped-block .ensures (c .before .before .before .before .before .before .before .before .before .before .before .before .before .before .before .before .before .before .before .before .args .kinds .now) refl .moved in (stands (s .good), omega (arith, s .grown .nodes, ap (λ (w : GraphBuilder). w .nodes) (c .before .before .before .before .before .before .before .before .before .before .before .before .before .before .enter-loop .ensures), c .before .before .before .before .before .before .before .before .before .before .before .before .before .before .before .before .before .before .before .before .pre .1 .1 .1))
 
 loop-body-return-to-requires : (t : ℕ) → loop-body-lts.Need-return-to-requires (loop-body-claims t) (loop-body-at t) loop-body.Post
 loop-body-return-to-requires t c κs = tt
 
 loop-body-returns : (t : ℕ) → loop-body-lts.Need-returns (loop-body-claims t) (loop-body-at t) loop-body.Post
-loop-body-returns t c = λ ss e. let s = c .before .before .before .before .before .before .before .before .before .before .before .before .before .scoped-block .ensures ss e in looped _ ss (c .before .before .before .before .before .before .before .before .before .before .before .before .before .before .before .before .before .before .before .before .before .before .before .pre .1 .0 .1) (c .before .before .before .before .before .before .before .before .before .before .before .before .before .before .before .before .before .before .before .before .before .before .before .args .scope-end) (c .before .before .before .before .before .before .before .before .before .before .before .before .before .before .before .before .before .before .before .before .before .before .before .args .break-target) (c .before .before .before .before .before .before .before .before .before .before .before .before .before .before .before .before .before .before .before .before .before .before .before .args .continue-target) _ _ _ _ s (c .before .before .before .close-into .ensures _ _ _ _ (s .moved .good)) (c .return-to .ensures)
+loop-body-returns t c = λ ss e. let a = c .before .before .before .before .before .before .before .before .before .before .before .before .before .before .before .before .before .before .before .before .before .before .before .before .args in let s = c .before .before .before .before .before .before .before .before .before .before .before .before .before .scoped-block .ensures ss e in looped _ ss (c .before .before .before .before .before .before .before .before .before .before .before .before .before .before .before .before .before .before .before .before .before .before .before .before .pre .1 .0 .1) (a .scope-end) (a .break-target) (a .continue-target) _ _ _ _ (scoped-loop _ ss (a .b) (a .scope-end) (a .break-target) (a .continue-target) (c .before .before .before .before .before .before .before .before .before .before .before .before .before .before .before .before .before .before .enter-loop .ensures) s) (c .before .before .before .close-into .ensures _ _ _ _ (s .moved .good)) (c .return-to .ensures)
 
 repeat-loop-mul-argument : (t : ℕ) → repeat-loop-lts.Need-mul-argument (repeat-loop-claims t) (repeat-loop-at t) repeat-loop.Post
 repeat-loop-mul-argument t c = omega (arith, c .before .before .before .before .before .pre .1 .4)
@@ -456,19 +461,20 @@ repeat-loop-returns t c = λ ss e.
     let ca = closed-at (c .before .before .before .before .before .before .before .before .before .before .before .before .before .before .before .before .before .before .before .before .before .before .before .before .before .before .before .before .before .before .before .before .args .kinds .now) ss e (c .before .before .before .before .before .before .before .before .before .before .before .before .before .before .before .before .loop-body .result .item) (openAt (c .before .before .before .before .before .before .before .before .before .before .before .before .before .before .before .before .before .before .before .before .before .before .before .before .before .before .before .before .before .before .before .before .args .kinds .now) ss ((c .before .before .before .before .before .before .before .before .before .before .before .before .before .before .before .before .before .before .before .before .before .before .before .before .before .before .before .before .before .before .before .before .args .i) + 1)) (c .before .before .before .before .before .before .before .before .before .before .before .before .before .before .before .before .loop-body .ensures ss e .ended) (c .before .before .before .before .before .before .before .before .before .before .before .before .before .before .before .before .loop-body .ensures ss e .shut ∙ ap (λ j. bare (openAt (c .before .before .before .before .before .before .before .before .before .before .before .before .before .before .before .before .before .before .before .before .before .before .before .before .before .before .before .before .before .before .before .before .args .kinds .now) ss j)) (c .before .before .before .before .before .before .before .before .before .before .before .before .before .before .before .before .before .before .before .before .before .before .before .repeat-head .ensures (c .before .before .before .before .before .before .before .before .before .before .before .before .before .before .before .before .before .before .before .before .before .before .before .before .before .before .before .before .before .before .before .before .args .kinds .now) _ _ _ (c .before .before .before .before .before .before .before .before .before .before .before .before .before .before .before .before .before .before .before .before .before .before .before .before .before .before .before .before .before .before .before .before .pre .1 .1) .item ∙ c .before .before .before .before .before .before .before .before .before .before .before .before .before .before .before .before .before .before .before .before .before .before .before .before .before .before .before .before .before .before .before .before .pre .1 .2)) (c .before .before .before .before .before .before .before .before .before .before .before .before .before .before .before .before .before .before .before .before .before .before .before .before .before .before .before .before .before .before .before .before .pre .1 .0 .tidy ss e _ (c .before .before .before .before .before .before .before .before .before .before .before .before .before .before .before .before .before .before .before .before .before .before .before .before .before .before .before .before .before .before .before .before .pre .1 .4) (omega (arith, c .before .before .before .before .before .before .before .before .before .before .before .before .before .before .before .before .before .before .before .before .before .before .before .before .before .before .before .before .before .before .before .before .pre .1 .5)) (omega (arith, c .before .before .before .before .before .before .before .before .before .before .before .before .before .before .before .before .before .before .before .before .before .before .before .before .before .before .before .before .before .before .before .before .pre .1 .5))) (c .before .before .before .before .before .before .before .before .before .before .before .before .before .before .before .before .before .before .before .before .before .before .before .before .before .before .before .before .before .before .before .before .pre .1 .0 .closed ss e _ (c .before .before .before .before .before .before .before .before .before .before .before .before .before .before .before .before .before .before .before .before .before .before .before .before .before .before .before .before .before .before .before .before .pre .1 .4) (c .before .before .before .before .before .before .before .before .before .before .before .before .before .before .before .before .before .before .before .before .before .before .before .before .before .before .before .before .before .before .before .before .pre .1 .5)) in
     repeat-opened (c .before .before .before .before .before .before .before .before .before .before .before .before .before .before .before .before .before .before .before .before .before .before .before .before .before .before .before .before .before .before .before .before .args .kinds .now) ss e (c .before .before .before .before .before .before .before .before .before .before .before .before .before .before .before .before .before .before .before .before .before .before .before .before .before .before .before .before .before .before .before .before .pre .1 .0 .few) (c .before .before .before .before .before .before .before .before .before .before .before .before .before .before .before .before .before .before .before .before .before .before .before .before .before .before .before .before .before .before .before .before .args .i) (c .before .before .before .before .before .before .before .before .before .before .before .before .before .before .before .before .before .before .before .before .before .before .before .before .before .before .before .before .before .before .before .before .pre .1 .4) _ _ _ (c .before .before .before .before .before .before .before .before .before .before .before .before .before .before .before .before .before .before .before .before .before .before .before .before .before .before .before .before .before .before .before .before .pre .1 .5) (c .before .before .before .before .before .before .before .before .before .before .before .before .before .before .before .before .before .before .before .before .before .before .before .before .before .literal-truth .ensures) refl (c .before .before .before .before .before .before .before .before .before .before .before .before .before .before .before .before .before .before .before .before .before .before .before .before .before .before .before .before .before .before .before .before .pre .1 .2) (c .before .before .before .before .before .before .before .before .before .before .before .before .before .before .before .before .before .before .before .before .before .before .before .before .before .before .before .before .before .before .before .before .pre .1 .1) (c .before .before .before .before .before .before .before .before .before .before .before .before .before .before .before .before .before .before .before .before .before .before .before .before .before .before .before .before .before .before .before .before .pre .1 .0 .tidy ss e _ (c .before .before .before .before .before .before .before .before .before .before .before .before .before .before .before .before .before .before .before .before .before .before .before .before .before .before .before .before .before .before .before .before .pre .1 .4) (omega (arith, c .before .before .before .before .before .before .before .before .before .before .before .before .before .before .before .before .before .before .before .before .before .before .before .before .before .before .before .before .before .before .before .before .pre .1 .5)) (omega (arith, c .before .before .before .before .before .before .before .before .before .before .before .before .before .before .before .before .before .before .before .before .before .before .before .before .before .before .before .before .before .before .before .before .pre .1 .5))) (c .before .before .before .before .before .before .before .before .before .before .before .before .before .before .before .before .before .before .before .before .before .before .before .repeat-head .ensures (c .before .before .before .before .before .before .before .before .before .before .before .before .before .before .before .before .before .before .before .before .before .before .before .before .before .before .before .before .before .before .before .before .args .kinds .now) _ _ _ (c .before .before .before .before .before .before .before .before .before .before .before .before .before .before .before .before .before .before .before .before .before .before .before .before .before .before .before .before .before .before .before .before .pre .1 .1)) (c .before .before .before .before .before .before .before .before .before .before .before .before .before .before .before .before .loop-body .ensures ss e) (c .before .before .before .before .before .before .before .past .ensures .2) (c .before .before .before .before .before .before .before .past .ensures .3) (c .before .before .before .before .before .before .before .past .ensures .1) (c .before .before .before .before .before .before .before .past .ensures .0) (ca .2) (c .before .before .before .before .repeat-end .ensures (c .before .before .before .before .before .before .before .before .before .before .before .before .before .before .before .before .before .before .before .before .before .before .before .before .before .before .before .before .before .before .before .before .args .kinds .now) _ _ (good-item (c .before .before .before .before .before .before .before .past .result) (c .before .before .before .before .before .before .before .past .ensures .0) (omega (arith, c .before .before .before .before .before .before .before .past .ensures .1, c .before .before .before .before .before .before .before .before .before .before .before .before .before .before .before .before .before .before .before .before .before .before .before .before .before .before .before .before .before .before .before .before .pre .1 .0 .few)) (c .before .before .before .before .before .before .before .before .before .before .before .before .before .before .before .before .loop-body .ensures (c .before .before .before .before .before .before .before .before .before .before .before .before .before .before .before .before .before .before .before .before .before .before .before .before .before .before .before .before .before .before .before .before .args .kinds .now) refl .moved .good)) (close-starts (getD (c .before .before .before .before .before .before .before .before .before .before .before .before .before .before .before .before .before .before .before .before .before .before .before .before .before .before .before .before .before .before .before .before .args .kinds .now) (c .before .before .before .before .before .before .before .before .before .before .before .before .before .before .before .before .loop-body .result .item) 0) (ca .1)))
 
+scoped-block-enter-scope-requires : (t : ℕ) → scoped-block-lts.Need-enter-scope-requires (scoped-block-claims t) (scoped-block-at t) scoped-block.Post
+scoped-block-enter-scope-requires t c κs = tt
+
 scoped-block-enter-block-requires : (t : ℕ) → scoped-block-lts.Need-enter-block-requires (scoped-block-claims t) (scoped-block-at t) scoped-block.Post
-scoped-block-enter-block-requires t c κs = ((c .before .before .before .before .before .before .before .pre .1 .2, c .before .before .before .before .before .before .before .pre .1 .0 .few, c .before .before .before .before .before .before .before .pre .1 .0 .labels), ((_, _, good-within (c .before .before .before .before .before .before .before .args .b .labels) (c .before .before .before .before .before .before .before .args .scope-end) (c .before .before .before .before .before .before .before .args .b .«break_target») (c .before .before .before .before .before .before .before .args .b .«continue_target») (le-refl _) (c .before .before .before .before .before .before .before .pre .1 .4) (c .before .before .before .before .before .before .before .pre .1 .1 .breakTarget) (c .before .before .before .before .before .before .before .pre .1 .1 .continueTarget) (c .before .before .before .before .before .before .before .pre .1 .1)), λ ss e. omega (arith, c .before .before .before .before .before .before .before .pre .1 .3 ss e, labels-inside (openAt (c .before .before .before .before .before .before .before .args .kinds .now) ss (c .before .before .before .before .before .before .before .args .b .item) .top .body))))
+scoped-block-enter-block-requires t c κs = let q = c .before .before .enter-scope .ensures in let p = c .before .before .before .before .before .before .before .before .pre .1 in let a = c .before .before .before .before .before .before .before .before .args in ((rw q (p .2), p .0 .few, p .0 .labels), ((_, _, good-scope (a .scope-end) q (p .4) (p .1)), λ ss e. rw q (omega (arith, p .3 ss e, labels-inside (openAt (a .kinds .now) ss (a .b .item) .top .body)))))
 
 scoped-block-block-requires : (t : ℕ) → scoped-block-lts.Need-block-requires (scoped-block-claims t) (scoped-block-at t) scoped-block.Post
-scoped-block-block-requires t c κs =
-    let n = c .before .before .before .before .before .before .before .before .enter-block .ensures (c .before .before .before .before .before .before .before .before .before .before .before .before .before .before .before .before .args .kinds .now) _ _ refl (good-within (c .before .before .before .before .before .before .before .before .before .before .before .before .before .before .before .before .args .b .labels) (c .before .before .before .before .before .before .before .before .before .before .before .before .before .before .before .before .args .scope-end) (c .before .before .before .before .before .before .before .before .before .before .before .before .before .before .before .before .args .b .«break_target») (c .before .before .before .before .before .before .before .before .before .before .before .before .before .before .before .before .args .b .«continue_target») (le-refl _) (c .before .before .before .before .before .before .before .before .before .before .before .before .before .before .before .before .pre .1 .4) (c .before .before .before .before .before .before .before .before .before .before .before .before .before .before .before .before .pre .1 .1 .breakTarget) (c .before .before .before .before .before .before .before .before .before .before .before .before .before .before .before .before .pre .1 .1 .continueTarget) (c .before .before .before .before .before .before .before .before .before .before .before .before .before .before .before .before .pre .1 .1)) in
-    (omega (arith, c .before .before .before .before .before .before .before .before .before .before .before .before .before .before .before .before .pre .0, n .item), (c .before .before .before .before .before .before .before .before .before .before .before .before .before .before .before .before .pre .1 .0, n .good, omega (arith, n .item, c .before .before .before .before .before .before .before .before .before .before .before .before .before .before .before .before .pre .1 .2), λ ss e. entered-room _ ss (c .before .before .before .before .before .before .before .before .before .before .before .before .before .before .before .before .pre .1 .1) (c .before .before .before .before .before .before .before .before .before .before .before .before .before .before .before .before .args .scope-end) (c .before .before .before .before .before .before .before .before .enter-block .ensures ss _ _ e (good-within (c .before .before .before .before .before .before .before .before .before .before .before .before .before .before .before .before .args .b .labels) (c .before .before .before .before .before .before .before .before .before .before .before .before .before .before .before .before .args .scope-end) (c .before .before .before .before .before .before .before .before .before .before .before .before .before .before .before .before .args .b .«break_target») (c .before .before .before .before .before .before .before .before .before .before .before .before .before .before .before .before .args .b .«continue_target») (le-refl _) (c .before .before .before .before .before .before .before .before .before .before .before .before .before .before .before .before .pre .1 .4) (c .before .before .before .before .before .before .before .before .before .before .before .before .before .before .before .before .pre .1 .1 .breakTarget) (c .before .before .before .before .before .before .before .before .before .before .before .before .before .before .before .before .pre .1 .1 .continueTarget) (c .before .before .before .before .before .before .before .before .before .before .before .before .before .before .before .before .pre .1 .1))) (c .before .before .before .before .before .before .before .before .before .before .before .before .before .before .before .before .pre .1 .3 ss e)))
+scoped-block-block-requires t c κs = let q = c .before .before .before .before .before .before .before .before .before .before .before .enter-scope .ensures in let p = c .before .before .before .before .before .before .before .before .before .before .before .before .before .before .before .before .before .pre .1 in let a = c .before .before .before .before .before .before .before .before .before .before .before .before .before .before .before .before .before .args in let g = good-scope (a .scope-end) q (p .4) (p .1) in let n = entered-scope (a .kinds .now) (a .kinds .now) (a .b) (a .scope-end) q (c .before .before .before .before .before .before .before .before .enter-block .ensures (a .kinds .now) _ _ refl g) in (omega (arith, c .before .before .before .before .before .before .before .before .before .before .before .before .before .before .before .before .before .pre .0, n .item), (p .0, n .good, omega (arith, n .item, p .2), λ ss e. entered-room _ ss (p .1) (a .scope-end) (entered-scope (a .kinds .now) ss (a .b) (a .scope-end) q (c .before .before .before .before .before .before .before .before .enter-block .ensures ss _ _ e g)) (p .3 ss e)))
 
 scoped-block-return-to-requires : (t : ℕ) → scoped-block-lts.Need-return-to-requires (scoped-block-claims t) (scoped-block-at t) scoped-block.Post
 scoped-block-return-to-requires t c κs = tt
 
 scoped-block-returns : (t : ℕ) → scoped-block-lts.Need-returns (scoped-block-claims t) (scoped-block-at t) scoped-block.Post
-scoped-block-returns t c = λ ss e. scoped _ ss (c .before .before .before .before .before .before .before .before .before .before .before .before .before .before .before .before .before .before .before .before .before .before .before .before .before .before .pre .1 .1) (c .before .before .before .before .before .before .before .before .before .before .before .before .before .before .before .before .before .before .before .before .before .before .before .before .before .before .args .scope-end) (c .before .before .before .before .before .before .before .before .before .before .before .before .before .before .before .before .before .before .enter-block .ensures ss _ _ e (good-within (c .before .before .before .before .before .before .before .before .before .before .before .before .before .before .before .before .before .before .before .before .before .before .before .before .before .before .args .b .labels) (c .before .before .before .before .before .before .before .before .before .before .before .before .before .before .before .before .before .before .before .before .before .before .before .before .before .before .args .scope-end) (c .before .before .before .before .before .before .before .before .before .before .before .before .before .before .before .before .before .before .before .before .before .before .before .before .before .before .args .b .«break_target») (c .before .before .before .before .before .before .before .before .before .before .before .before .before .before .before .before .before .before .before .before .before .before .before .before .before .before .args .b .«continue_target») (le-refl _) (c .before .before .before .before .before .before .before .before .before .before .before .before .before .before .before .before .before .before .before .before .before .before .before .before .before .before .pre .1 .4) (c .before .before .before .before .before .before .before .before .before .before .before .before .before .before .before .before .before .before .before .before .before .before .before .before .before .before .pre .1 .1 .breakTarget) (c .before .before .before .before .before .before .before .before .before .before .before .before .before .before .before .before .before .before .before .before .before .before .before .before .before .before .pre .1 .1 .continueTarget) (c .before .before .before .before .before .before .before .before .before .before .before .before .before .before .before .before .before .before .before .before .before .before .before .before .before .before .pre .1 .1))) (c .before .before .before .before .before .before .before .before .before .block .ensures ss e) (c .return-to .ensures)
+scoped-block-returns t c = λ ss e. let q = c .before .before .before .before .before .before .before .before .before .before .before .before .before .before .before .before .before .before .before .before .before .enter-scope .ensures in let p = c .before .before .before .before .before .before .before .before .before .before .before .before .before .before .before .before .before .before .before .before .before .before .before .before .before .before .before .pre .1 in let a = c .before .before .before .before .before .before .before .before .before .before .before .before .before .before .before .before .before .before .before .before .before .before .before .before .before .before .before .args in scoped _ ss (p .1) (a .scope-end) (entered-scope (a .kinds .now) ss (a .b) (a .scope-end) q (c .before .before .before .before .before .before .before .before .before .before .before .before .before .before .before .before .before .before .enter-block .ensures ss _ _ e (good-scope (a .scope-end) q (p .4) (p .1)))) (c .before .before .before .before .before .before .before .before .before .block .ensures ss e) (c .return-to .ensures)
 
 stmt-mul-w : (t : ℕ) → stmt-lts.Need-mul-w (stmt-claims t) (stmt-at t) stmt.Post
 stmt-mul-w t c = omega (arith, c .before .before .before .before .before .pre .1 .2)
@@ -637,16 +643,16 @@ if-stmt-same-length-4 : (t : ℕ) → if-stmt-lts.Need-same-length-4 (if-stmt-cl
 if-stmt-same-length-4 t c = (if-stmt-returns t c (c .before .before .before .before .before .before .before .before .before .before .before .before .before .before .before .before .before .before .before .before .before .before .before .before .before .before .before .before .before .before .before .before .before .before .before .before .before .before .before .before .before .before .before .args .kinds .now) refl) .moved .grown .labelsLength
 
 loop-body-same-length : (t : ℕ) → loop-body-lts.Need-same-length (loop-body-claims t) (loop-body-at t) loop-body.Post
-loop-body-same-length t c = (loop-body-returns t c (c .before .before .before .before .before .before .before .before .before .before .before .before .before .before .before .before .before .before .before .before .before .before .before .args .kinds .now) refl) .moved .grown .edgesLength
+loop-body-same-length t c = (loop-body-returns t c (c .before .before .before .before .before .before .before .before .before .before .before .before .before .before .before .before .before .before .before .before .before .before .before .before .args .kinds .now) refl) .moved .grown .edgesLength
 
 loop-body-same-length-2 : (t : ℕ) → loop-body-lts.Need-same-length-2 (loop-body-claims t) (loop-body-at t) loop-body.Post
-loop-body-same-length-2 t c = (loop-body-returns t c (c .before .before .before .before .before .before .before .before .before .before .before .before .before .before .before .before .before .before .before .before .before .before .before .args .kinds .now) refl) .moved .grown .codesLength
+loop-body-same-length-2 t c = (loop-body-returns t c (c .before .before .before .before .before .before .before .before .before .before .before .before .before .before .before .before .before .before .before .before .before .before .before .before .args .kinds .now) refl) .moved .grown .codesLength
 
 loop-body-same-length-3 : (t : ℕ) → loop-body-lts.Need-same-length-3 (loop-body-claims t) (loop-body-at t) loop-body.Post
-loop-body-same-length-3 t c = (loop-body-returns t c (c .before .before .before .before .before .before .before .before .before .before .before .before .before .before .before .before .before .before .before .before .before .before .before .args .kinds .now) refl) .moved .grown .namesLength
+loop-body-same-length-3 t c = (loop-body-returns t c (c .before .before .before .before .before .before .before .before .before .before .before .before .before .before .before .before .before .before .before .before .before .before .before .before .args .kinds .now) refl) .moved .grown .namesLength
 
 loop-body-same-length-4 : (t : ℕ) → loop-body-lts.Need-same-length-4 (loop-body-claims t) (loop-body-at t) loop-body.Post
-loop-body-same-length-4 t c = (loop-body-returns t c (c .before .before .before .before .before .before .before .before .before .before .before .before .before .before .before .before .before .before .before .before .before .before .before .args .kinds .now) refl) .moved .grown .labelsLength
+loop-body-same-length-4 t c = (loop-body-returns t c (c .before .before .before .before .before .before .before .before .before .before .before .before .before .before .before .before .before .before .before .before .before .before .before .before .args .kinds .now) refl) .moved .grown .labelsLength
 
 repeat-loop-same-length : (t : ℕ) → repeat-loop-lts.Need-same-length (repeat-loop-claims t) (repeat-loop-at t) repeat-loop.Post
 repeat-loop-same-length t c = (repeat-loop-returns t c (c .before .before .before .before .before .before .before .before .before .before .before .before .before .before .before .before .before .before .before .before .before .before .before .before .before .before .before .before .before .before .before .before .args .kinds .now) refl) .moved .grown .edgesLength
@@ -661,16 +667,16 @@ repeat-loop-same-length-4 : (t : ℕ) → repeat-loop-lts.Need-same-length-4 (re
 repeat-loop-same-length-4 t c = (repeat-loop-returns t c (c .before .before .before .before .before .before .before .before .before .before .before .before .before .before .before .before .before .before .before .before .before .before .before .before .before .before .before .before .before .before .before .before .args .kinds .now) refl) .moved .grown .labelsLength
 
 scoped-block-same-length : (t : ℕ) → scoped-block-lts.Need-same-length (scoped-block-claims t) (scoped-block-at t) scoped-block.Post
-scoped-block-same-length t c = (scoped-block-returns t c (c .before .before .before .before .before .before .before .before .before .before .before .before .before .before .before .before .before .before .before .before .before .before .before .before .before .before .args .kinds .now) refl) .moved .grown .edgesLength
+scoped-block-same-length t c = (scoped-block-returns t c (c .before .before .before .before .before .before .before .before .before .before .before .before .before .before .before .before .before .before .before .before .before .before .before .before .before .before .before .args .kinds .now) refl) .moved .grown .edgesLength
 
 scoped-block-same-length-2 : (t : ℕ) → scoped-block-lts.Need-same-length-2 (scoped-block-claims t) (scoped-block-at t) scoped-block.Post
-scoped-block-same-length-2 t c = (scoped-block-returns t c (c .before .before .before .before .before .before .before .before .before .before .before .before .before .before .before .before .before .before .before .before .before .before .before .before .before .before .args .kinds .now) refl) .moved .grown .codesLength
+scoped-block-same-length-2 t c = (scoped-block-returns t c (c .before .before .before .before .before .before .before .before .before .before .before .before .before .before .before .before .before .before .before .before .before .before .before .before .before .before .before .args .kinds .now) refl) .moved .grown .codesLength
 
 scoped-block-same-length-3 : (t : ℕ) → scoped-block-lts.Need-same-length-3 (scoped-block-claims t) (scoped-block-at t) scoped-block.Post
-scoped-block-same-length-3 t c = (scoped-block-returns t c (c .before .before .before .before .before .before .before .before .before .before .before .before .before .before .before .before .before .before .before .before .before .before .before .before .before .before .args .kinds .now) refl) .moved .grown .namesLength
+scoped-block-same-length-3 t c = (scoped-block-returns t c (c .before .before .before .before .before .before .before .before .before .before .before .before .before .before .before .before .before .before .before .before .before .before .before .before .before .before .before .args .kinds .now) refl) .moved .grown .namesLength
 
 scoped-block-same-length-4 : (t : ℕ) → scoped-block-lts.Need-same-length-4 (scoped-block-claims t) (scoped-block-at t) scoped-block.Post
-scoped-block-same-length-4 t c = (scoped-block-returns t c (c .before .before .before .before .before .before .before .before .before .before .before .before .before .before .before .before .before .before .before .before .before .before .before .before .before .before .args .kinds .now) refl) .moved .grown .labelsLength
+scoped-block-same-length-4 t c = (scoped-block-returns t c (c .before .before .before .before .before .before .before .before .before .before .before .before .before .before .before .before .before .before .before .before .before .before .before .before .before .before .before .args .kinds .now) refl) .moved .grown .labelsLength
 
 stmt-same-length : (t : ℕ) → stmt-lts.Need-same-length (stmt-claims t) (stmt-at t) stmt.Post
 stmt-same-length t c = (stmt-returns t c (c .before .before .before .before .before .before .before .before .before .before .before .before .before .before .before .before .before .before .before .before .before .args .kinds .now) refl) .moved .grown .edgesLength
@@ -866,6 +872,7 @@ pub +arm+arms+block+for-loop+if-stmt+loop-body+repeat-loop+scoped-block+stmt+whi
     (λ t. loop-body-lts.spec (loop-body-claims t)
     (loop-body-at t)
     loop-body.Post
+    (loop-body-enter-loop-requires t)
     (loop-body-scoped-block-requires t)
     (loop-body-close-into-requires t)
     (loop-body-return-to-requires t)
@@ -894,6 +901,7 @@ pub +arm+arms+block+for-loop+if-stmt+loop-body+repeat-loop+scoped-block+stmt+whi
     (λ t. scoped-block-lts.spec (scoped-block-claims t)
     (scoped-block-at t)
     scoped-block.Post
+    (scoped-block-enter-scope-requires t)
     (scoped-block-enter-block-requires t)
     (scoped-block-block-requires t)
     (scoped-block-return-to-requires t)

@@ -18,7 +18,7 @@ abbrev μ-loop : tie.MeasureT-loop
 μ-loop first second reachable₀ stack₀ n top₀ reachable stack top = measure n (st reachable stack top)
 
 clear-requires : tie.Need-clear-requires Inv-loop μ-loop
-clear-requires c κs = c .before .before .before .before .before .pre .1 .0
+clear-requires c κs = omega (arith, c .before .before .before .before .before .pre .1 .0)
 
 -- ---- where no node is marked yet
 

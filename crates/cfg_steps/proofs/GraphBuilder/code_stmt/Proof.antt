@@ -20,7 +20,7 @@ returns : tie.Need-returns
 returns c = λ ks n l ok q. did-as refl (λ ss g. coded-break _ _ _ _ _ g (c .before .before .before .before .before .before .before .if1 .taken)) (c .before .before .before .before .jump .ensures ks n l ok q)
 
 jump-requires-2 : tie.Need-jump-requires-2
-jump-requires-2 c κs = may-jump _ _ (c .before .before .before .before .before .before .pre .0 .2) (c .before .before .before .before .before .before .pre .1 .0) (c .before .before .before .before .before .before .pre .1 .1) (c .before .before .before .before .before .before .pre .1 .2) (c .before .before .before .before .before .before .pre .0 .2 .continueTarget)
+jump-requires-2 c κs = may-jump _ _ (c .before .before .before .before .before .before .pre .0 .2) (c .before .before .before .before .before .before .pre .1 .0) (c .before .before .before .before .before .before .pre .1 .1) (c .before .before .before .before .before .before .pre .1 .2) (omega (arith, c .before .before .before .before .before .before .pre .0 .2 .breakTarget, c .before .before .before .before .before .before .pre .0 .2 .continueTarget))
 
 same-length-3 : tie.Need-same-length-3
 same-length-3 c = search needs

@@ -23,11 +23,11 @@ mul-edges c = search needs
 slice-write-edges : tie.Need-slice-write-edges
 slice-write-edges c = search needs
 
+add-in-force : tie.Need-add-in-force
+add-in-force c = search needs
+
 add-self : tie.Need-add-self
 add-self c = search needs
-
-add-self-2 : tie.Need-add-self-2
-add-self-2 c = search needs
 
 same-length : tie.Need-same-length
 same-length c = search needs
@@ -36,7 +36,7 @@ same-length-2 : tie.Need-same-length-2
 same-length-2 c = search needs
 
 returns : tie.Need-returns
-returns c = λ ks k n ok. label-entered ks _ _ k n _ _ ok (c .pre .1 .0) (c .pre .1 .1)
+returns c = λ ks k n ok. label-entered ks _ _ k n _ _ ok (c .before .pre .1 .0) (c .before .pre .1 .1)
 
 pub new-label-spec : {M : Type 1} → statement M
 new-label-spec =
@@ -48,8 +48,8 @@ new-label-spec =
     slice-write-labels
     mul-edges
     slice-write-edges
+    add-in-force
     add-self
-    add-self-2
     same-length
     same-length-2
     returns)
