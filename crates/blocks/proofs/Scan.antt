@@ -1,6 +1,6 @@
 -- The scan for the labels that stand directly in a block.
 -- Assumes nothing.
-use mathlib.Core.Path.{_≡_, refl, sym, ap, _∙_}
+use mathlib.Core.Path.{_≡_, refl, sym, ap, _∙_, subst}
 use mathlib.Core.List.{List, [], _∷_, _++_, append-assoc, append-nil}
 use mathlib.Core.Bool.{Bool, true, false, cond, _&&_, not, true≢false, false≢true}
 use Prim.Native.Nat.{ℕ, zero, suc, _+_, _-_, _≤_, _<_}
@@ -14,8 +14,9 @@ use Rattle.flow.specs.Sheet.{Item, kind, kindOf, argumentOf}
 use Rattle.flow.specs.Kinds.{kinds, closes, opens}
 use Rattle.flow.specs.Tree.{Stmt, Arms, Frame, Open, simple, do-block, while-loop, repeat-loop, for-loop, if-stmt, no-more, elseif, otherwise, nothingRead, outer, inFront, opened, read, labelName, labelsOf}
 use Rattle.flow.specs.Locals.{onlyIf}
-use Rattle.blocks.specs.Open.{itemAt, openAt, labelsAt, frameAt, toCome, isLabel, labelsHere, Ender, endsAt, depthAfter, Scanned}
-use Rattle.blocks.proofs.Parse.{read-at, read-close, read-do, read-while, read-repeat, read-for, read-if, read-elseif, read-else, read-simple}
+use Rattle.kinds.specs.Label.{isLabel}
+use Rattle.blocks.specs.Open.{itemAt, openAt, labelsAt, frameAt, toCome, labelsHere, Ender, endsAt, depthAfter}
+use Rattle.blocks.proofs.Parse.{read-at, read-end, read-close, read-do, read-while, read-repeat, read-for, read-if, read-elseif, read-else, read-simple}
 open record kinds using (LABEL)
 
 -- ---- frames
@@ -228,25 +229,43 @@ depth-step k d j e h = rw e (go (opens k) (closes k))
 
 -- ---- a scan on its way
 
-pub scanned-start : (ks ss : List ℕ) (from : ℕ) → Scanned ks ss from [] 0 from
-scanned-start ks ss from = record { rest = refl }
+-- of the labels of the block that starts at an item some are found, and P tells what became of a loop's state by them; the rest are still to come at item j, d blocks out
+pub record Scanning (P : List ℕ → Type 0) (ks ss : List ℕ) (from d j : ℕ) : Type 0 where
+  pub found : List ℕ
+  pub entered : P found
+  pub rest : found ++ toCome d (openAt ks ss j) ≡ labelsAt ks ss from
 
-module _ {ks ss : List ℕ} (e : length ss ≡ length ks) {from d j : ℕ} {found : List ℕ} (s : Scanned ks ss from found d j) where
+pub scan-start : {P : List ℕ → Type 0} {ks ss : List ℕ} {from : ℕ} → P [] → Scanning P ks ss from 0 from
+scan-start p = record { found = []; entered = p; rest = refl }
+
+module _ {ks ss : List ℕ} (e : length ss ≡ length ks) {P : List ℕ → Type 0} {from d j : ℕ} (s : Scanning P ks ss from d j) where
   item : j < length ks → toCome d (openAt ks ss j) ≡ toCome d (read (itemAt ks ss j) (openAt ks ss (j + 1)))
   item h = ap (toCome d) (read-at ks ss e j h)
 
-  pub scanned-more : j < length ks → endsAt (kindOf (getD ks j 0)) d ≡ false → Scanned ks ss from (found ++ labelsHere (getD ks j 0) d) (depthAfter (kindOf (getD ks j 0)) d) (j + 1)
-  scanned-more h q = record { rest = append-assoc found (labelsHere (getD ks j 0) d) _ ∙ ap (λ (z : List ℕ). found ++ z) (sym (item h ∙ scan-on (itemAt ks ss j) (openAt ks ss (j + 1)) d q)) ∙ s .rest }
+  rest-more : j < length ks → endsAt (kindOf (getD ks j 0)) d ≡ false → (s .found ++ labelsHere (getD ks j 0) d) ++ toCome (depthAfter (kindOf (getD ks j 0)) d) (openAt ks ss (j + 1)) ≡ labelsAt ks ss from
+  rest-more h q = append-assoc (s .found) (labelsHere (getD ks j 0) d) _ ∙ ap (λ (z : List ℕ). s .found ++ z) (sym (item h ∙ scan-on (itemAt ks ss j) (openAt ks ss (j + 1)) d q)) ∙ s .rest
 
-  -- all are found
-  pub scanned-none : toCome d (openAt ks ss j) ≡ [] → found ≡ labelsAt ks ss from
-  scanned-none q = sym (append-nil found) ∙ ap (λ (z : List ℕ). found ++ z) (sym q) ∙ s .rest
+  -- a turn: the label that the item is, or none
+  pub scan-more : j < length ks → endsAt (kindOf (getD ks j 0)) d ≡ false → {Q : List ℕ → Type 0} → ((as' : List ℕ) → P as' → Q (as' ++ labelsHere (getD ks j 0) d)) → Scanning Q ks ss from (depthAfter (kindOf (getD ks j 0)) d) (j + 1)
+  scan-more h q n = record { found = s .found ++ labelsHere (getD ks j 0) d; entered = n (s .found) (s .entered); rest = rest-more h q }
 
-  pub scanned-ended : j < length ks → endsAt (kindOf (getD ks j 0)) d ≡ true → found ≡ labelsAt ks ss from
-  scanned-ended h q = scanned-none (item h ∙ scan-end (itemAt ks ss j) (openAt ks ss (j + 1)) d q)
+  -- all are found: none is left, the block ends, or the sheet does
+  pub scan-none : toCome d (openAt ks ss j) ≡ [] → P (labelsAt ks ss from)
+  scan-none q = subst P (sym (append-nil (s .found)) ∙ ap (λ (z : List ℕ). s .found ++ z) (sym q) ∙ s .rest) (s .entered)
 
-  -- what is found and what the item is are no more than all
-  pub scanned-room : j < length ks → endsAt (kindOf (getD ks j 0)) d ≡ false → length found + length (labelsHere (getD ks j 0) d) ≤ length (labelsAt ks ss from)
-  scanned-room h q =
-      let all = ap length (scanned-more h q .rest) in
-      omega (arith, all, length-append (found ++ labelsHere (getD ks j 0) d) (toCome (depthAfter (kindOf (getD ks j 0)) d) (openAt ks ss (j + 1))), length-append found (labelsHere (getD ks j 0) d))
+  pub scan-ended : j < length ks → endsAt (kindOf (getD ks j 0)) d ≡ true → P (labelsAt ks ss from)
+  scan-ended h q = scan-none (item h ∙ scan-end (itemAt ks ss j) (openAt ks ss (j + 1)) d q)
+
+  pub scan-over : length ks ≤ j → P (labelsAt ks ss from)
+  unfolding labelsOf
+  scan-over h = scan-none (ap (toCome d) (read-end ks ss e j h) ∙ none-left d)
+    where
+      none-left : (d : ℕ) → toCome d (record { top = nothingRead; below = [] }) ≡ []
+      none-left zero = refl
+      none-left (suc d) = refl
+
+  -- n counts m and what is found: with room for all behind m there is room for what the item is behind n
+  pub scan-room : j < length ks → endsAt (kindOf (getD ks j 0)) d ≡ false → (m : ℕ) {n most : ℕ} → n ≡ m + length (s .found) → m + length (labelsAt ks ss from) ≤ most → n + length (labelsHere (getD ks j 0) d) ≤ most
+  scan-room h q m c room =
+      let all = ap length (rest-more h q) in
+      omega (arith, c, room, all, length-append (s .found ++ labelsHere (getD ks j 0) d) (toCome (depthAfter (kindOf (getD ks j 0)) d) (openAt ks ss (j + 1))), length-append (s .found) (labelsHere (getD ks j 0) d))

@@ -1,16 +1,15 @@
 -- The blocks that are open at an item of a sheet, and the labels that stand directly in one of them, found by a scan that counts how deep it is.
 -- Assumes nothing: these are definitions.
-use mathlib.Core.Path.{_≡_}
-use mathlib.Core.Bool.{Bool, cond, _&&_, not}
-use mathlib.Core.List.{List, [], _∷_, _++_}
+use mathlib.Core.Bool.{Bool, cond, _&&_}
+use mathlib.Core.List.{List, [], _∷_}
 use Prim.Native.Nat.{ℕ, zero, suc, _+_, _-_, _≤_}
 use lib.ListN.{drop, getD}
 use lib.Dec.{eqb, leb}
-use Rattle.flow.specs.Sheet.{Item, zip, kindOf, argumentOf}
-use Rattle.flow.specs.Kinds.{kinds, opens, closes}
+use Rattle.flow.specs.Sheet.{Item, zip, argumentOf}
+use Rattle.flow.specs.Kinds.{opens, closes}
 use Rattle.flow.specs.Tree.{Frame, Open, nothingRead, parse, labelsOf}
 use Rattle.flow.specs.Locals.{onlyIf}
-open record kinds using (LABEL)
+use Rattle.kinds.specs.Label.{isLabel}
 
 -- ---- the open blocks
 
@@ -35,10 +34,6 @@ toCome d o = labelsOf (frameAt d o .body)
 
 -- ---- one item of the scan
 
--- a label that has a name
-abbrev pub isLabel : ℕ → Bool
-isLabel w = eqb (kindOf w) LABEL && not (eqb (argumentOf w) 0)
-
 -- the label that an item is, where it stands directly in the block
 unfoldable pub labelsHere : ℕ → ℕ → List ℕ
 labelsHere w d = onlyIf (eqb d 0 && isLabel w) (argumentOf w ∷ [])
@@ -54,9 +49,3 @@ endsAt k d = eqb d 0 && (leb 6 k && leb k 9)
 
 unfoldable pub depthAfter : ℕ → ℕ → ℕ
 depthAfter k d = cond (opens k) (d + 1) (cond (closes k) (d - 1) d)
-
--- ---- a scan on its way
-
--- of the labels of the block that starts at an item some are found, and the rest are still to come at item j, d blocks out
-pub record Scanned (ks ss : List ℕ) (from : ℕ) (found : List ℕ) (d j : ℕ) : Type 0 where
-  pub rest : found ++ toCome d (openAt ks ss j) ≡ labelsAt ks ss from

@@ -1,23 +1,11 @@
 // The scan for the labels that stand directly in a block, one item at a time: what the graph's builders and the label check share.
 ghost use mathlib.Core.Path.{_≡_};
 ghost use Prim.Native.Nat.{_-_, _<_};
-ghost use Rattle.blocks.specs.Open.{isLabel, endsAt, depthAfter};
-use words::ARGUMENT;
+ghost use Rattle.blocks.specs.Open.{endsAt, depthAfter};
 use words::kind::ELSEIF;
 use words::kind::END;
 use words::kind::IF;
-use words::kind::LABEL;
 use words::kind::UNTIL;
-
-// Whether an item is a label that has a name.
-pub fn is_label(w: u64) -> bool
-    ensures { λ r. ⌜ r ≡ isLabel w ⌝ }
-{
-    if w % ARGUMENT != LABEL {
-        return false;
-    }
-    w / ARGUMENT != 0
-}
 
 // Whether an item of a kind ends the block that a scan started in.
 pub fn ends_at(kind: u64, depth: usize) -> bool

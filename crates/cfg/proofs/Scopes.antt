@@ -15,31 +15,13 @@ use Rattle.cfg_steps.specs.declared.BlockSettings.{BlockSettings}
 use Rattle.cfg_steps.specs.declared.GraphBuilder.{GraphBuilder}
 use Rattle.cfg_edges.specs.Halves.{labelList}
 use Rattle.cfg_steps.specs.Columns.{Cols, cols, graphOf, settingsOf, within, scopeSettings, loopSettings, Good, Did, Entered}
+use Rattle.cfg_steps.proofs.Fits.{good-as}
 use Rattle.cfg_steps.proofs.Ops.{grown-trans, same-labels, take-less}
 use Rattle.cfg.specs.Steps.{bare, Finished, Scoped, Looped}
 use Rattle.cfg.proofs.Blocks.{nodes-of}
 
 pub good-within : {b : GraphBuilder} {x : Cols} (st : BlockSettings) → st .labels ≤ b .settings .labels → st .«scope_end» < 2 ^ 32 → st .«break_target» < b .nodes → st .«continue_target» < b .nodes → Good b x → Good (within st b) x
-good-within st hl hs hb hc ok = record {
-  wideEdges = ok .wideEdges;
-  wideCodes = ok .wideCodes;
-  wideNames = ok .wideNames;
-  wideLabels = ok .wideLabels;
-  items = ok .items;
-  nodes = ok .nodes;
-  exits = ok .exits;
-  codes = ok .codes;
-  names = ok .names;
-  labels = omega (arith, hl, ok .labels);
-  cursor = ok .cursor;
-  breakTarget = hb;
-  continueTarget = hc;
-  scopeEnd = hs;
-  codeNodes = ok .codeNodes;
-  codeItems = ok .codeItems;
-  nameItems = ok .nameItems;
-  labelNodes = λ k q. ok .labelNodes k (omega arith);
-}
+good-within st hl hs hb hc ok = good-as ok (omega (arith, ok)) (ok .cursor)
 
 -- a builder that has entered a scope, or a loop
 pub good-scope : {b t : GraphBuilder} {x : Cols} (s : ℕ) → t ≡ within (scopeSettings s (b .settings)) b → s < 2 ^ 32 → Good b x → Good t x

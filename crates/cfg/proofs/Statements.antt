@@ -17,6 +17,7 @@ use Rattle.blocks.specs.Open.{itemAt, openAt}
 use Rattle.blocks.proofs.Parse.{read-at, read-while, read-repeat, read-for, read-if}
 use Rattle.cfg_steps.specs.declared.GraphBuilder.{GraphBuilder}
 use Rattle.cfg_steps.specs.Columns.{Cols, graphOf, settingsOf, Good, Grown, Did}
+use Rattle.cfg_steps.proofs.Fits.{good-as}
 use Rattle.cfg.specs.Steps.{bare, Moved, Opened, Scoped, Looped, Chosen}
 use Rattle.cfg.proofs.Blocks.{nodes-of, moved-trans, moved-did, past-close}
 
@@ -33,26 +34,7 @@ withItem j b = record {
 }
 
 pub good-item : {b : GraphBuilder} {x : Cols} (j : ℕ) → b .item ≤ j → j ≤ 1024 → Good b x → Good (withItem j b) x
-good-item j h k ok = record {
-  wideEdges = ok .wideEdges;
-  wideCodes = ok .wideCodes;
-  wideNames = ok .wideNames;
-  wideLabels = ok .wideLabels;
-  items = k;
-  nodes = ok .nodes;
-  exits = ok .exits;
-  codes = omega (arith, ok .codes);
-  names = omega (arith, ok .names);
-  labels = ok .labels;
-  cursor = ok .cursor;
-  breakTarget = ok .breakTarget;
-  continueTarget = ok .continueTarget;
-  scopeEnd = ok .scopeEnd;
-  codeNodes = ok .codeNodes;
-  codeItems = λ m q. omega (arith, ok .codeItems m q);
-  nameItems = λ m q. omega (arith, ok .nameItems m q);
-  labelNodes = ok .labelNodes;
-}
+good-item j h k ok = good-as ok (omega (arith, ok)) (ok .cursor)
 
 pub moved-item : {ks : List ℕ} {b r : GraphBuilder} {x y : Cols} (j : ℕ) → length ks ≤ 1024 → r .item ≤ j → j ≤ length ks → Moved ks b x r y → Moved ks b x (withItem j r) y
 unfolding settingsOf
@@ -122,26 +104,7 @@ unfolding graphOf setCurrent
 graph-cursor ks ss v b x = refl
 
 pub good-cursor : {b : GraphBuilder} {x : Cols} (v : ℕ) → v < b .nodes → Good b x → Good (withCursor v b) x
-good-cursor v h ok = record {
-  wideEdges = ok .wideEdges;
-  wideCodes = ok .wideCodes;
-  wideNames = ok .wideNames;
-  wideLabels = ok .wideLabels;
-  items = ok .items;
-  nodes = ok .nodes;
-  exits = ok .exits;
-  codes = ok .codes;
-  names = ok .names;
-  labels = ok .labels;
-  cursor = inl h;
-  breakTarget = ok .breakTarget;
-  continueTarget = ok .continueTarget;
-  scopeEnd = ok .scopeEnd;
-  codeNodes = ok .codeNodes;
-  codeItems = ok .codeItems;
-  nameItems = ok .nameItems;
-  labelNodes = ok .labelNodes;
-}
+good-cursor v h ok = good-as ok (omega (arith, ok)) (inl h)
 
 -- ---- loops
 

@@ -1,10 +1,9 @@
-// The edges of a graph that is being built: an edge in its word, the node that a label's name stands for, what a condition is known to be, and whether a call raises.
+// The edges of a graph that is being built: an edge in its word, the node that a label's name stands for, and which edges a condition has.
 ghost use mathlib.Core.Path.{_≡_};
 ghost use mathlib.Core.Bool.{cond};
 ghost use mathlib.Core.Logic.{_⊎_};
 ghost use Prim.Native.Nat.{_≤_, _<_, _^_};
 ghost use lib.ListN.{length};
-ghost use Rattle.flow.specs.Kinds.{literalTruth, raises};
 ghost use Rattle.flow.specs.Graph.{labelNode};
 ghost use Rattle.cfg_edges.specs.Halves.{joined, labelList, mayFail, mayHold};
 use flow::Found;
@@ -12,14 +11,6 @@ use flow::Truth;
 use words::ABSENT;
 use words::HALF;
 use words::NO_NODE;
-
-// The conditions 0 and 1 are false, those up to 8 true, and no other is known.
-const LAST_FALSE: u64 = 1;
-
-const LAST_TRUE: u64 = 8;
-
-// The argument of a CALL that raises: of bare `error`, whose span holds a reference of that name.
-const RAISES: u64 = 6;
 
 // An edge, in the first free place of the node that it leaves; none right after a jump.
 pub fn connect(edges: &mut [u64], from: usize, to: usize)
@@ -66,19 +57,6 @@ pub fn label_node(labels: &[u64], count: usize, name: u64) -> Found
     Found::Nothing
 }
 
-// What a condition code is known to be.
-pub fn literal_truth(condition: u64) -> Truth
-    ensures { λ r. ⌜ r ≡ literalTruth condition ⌝ }
-{
-    if condition <= LAST_FALSE {
-        return Truth::False;
-    }
-    if condition <= LAST_TRUE {
-        return Truth::True;
-    }
-    Truth::Unknown
-}
-
 // Whether a condition may fail, and whether it may hold.
 pub fn may_fail(truth: Truth) -> bool
     ensures { λ r. ⌜ r ≡ mayFail truth ⌝ }
@@ -98,11 +76,4 @@ pub fn may_hold(truth: Truth) -> bool
         Truth::True => true,
         Truth::Unknown => true,
     }
-}
-
-// Whether a call with this argument raises.
-pub fn call_raises(argument: u64) -> bool
-    ensures { λ r. ⌜ r ≡ raises argument ⌝ }
-{
-    argument == RAISES
 }

@@ -1,3 +1,4 @@
+pub mod Fits
 pub mod Ops
 pub mod Scan
 pub mod Simple

@@ -12,6 +12,7 @@ use Rattle.flow.specs.Graph.{Graph, absent, connect, setCurrent, enterWhen, unl
 use Rattle.cfg_steps.specs.declared.GraphBuilder.{GraphBuilder}
 use Rattle.cfg_edges.specs.Halves.{joined, mayFail, mayHold}
 use Rattle.cfg_steps.specs.Columns.{Cols, cols, graphOf, settingsOf, Good, Did}
+use Rattle.cfg_steps.proofs.Fits.{good-as}
 use Rattle.cfg_steps.proofs.Ops.{edge-did, withCursor, did-trans, current-of}
 use Rattle.cfg_steps.proofs.Simple.{did-as}
 
@@ -19,26 +20,7 @@ use Rattle.cfg_steps.proofs.Simple.{did-as}
 pub move-did : (ks : List ℕ) (b : GraphBuilder) (e c n l : List ℕ) (ok : Good b (cols e c n l)) (v : ℕ) → (v < b .nodes) ⊎ (v ≡ absent) → Did ks (λ ss. setCurrent v) 0 b (cols e c n l) (withCursor ks b e c n l ok v) (cols e c n l)
 unfolding graphOf settingsOf setCurrent
 move-did ks b e c n l ok v hv = record {
-  good = record {
-    wideEdges = ok .wideEdges;
-    wideCodes = ok .wideCodes;
-    wideNames = ok .wideNames;
-    wideLabels = ok .wideLabels;
-    items = ok .items;
-    nodes = ok .nodes;
-    exits = ok .exits;
-    codes = ok .codes;
-    names = ok .names;
-    labels = ok .labels;
-    cursor = hv;
-    breakTarget = ok .breakTarget;
-    continueTarget = ok .continueTarget;
-    scopeEnd = ok .scopeEnd;
-    codeNodes = ok .codeNodes;
-    codeItems = ok .codeItems;
-    nameItems = ok .nameItems;
-    labelNodes = ok .labelNodes;
-  };
+  good = good-as ok (omega (arith, ok)) hv;
   grown = record {
     nodes = omega arith;
     codes = omega arith;

@@ -7,9 +7,8 @@ use mathlib.Core.Bool.{Bool, true, false, cond}
 use Prim.Native.Nat.{ℕ, zero, suc, _+_, _-_, _*_, _%_, _^_, _≤_, _<_}
 use native.Mathlib.Numerals.{add-one}
 use native.Mathlib.Omega.{arith}
-use native.Mathlib.Decide.{ℕ-discrete}
 use lib.ListN.{length, take, drop, getD, set, replicate, length-set, length-map, length-replicate, replicate-append-replicate, List·getD-map}
-use lib.Seq.{take-suc-set, drop-set-lt, take-set-lt, getD-take, getD-set-same, getD-set-other, drop-drop, take-take, length-take-le, map-set-same, set-append-left}
+use lib.Seq.{take-suc-set, drop-set-lt, take-set-lt, getD-take, drop-drop, take-take, length-take-le, map-set-same, set-append-left}
 use lib.Dec.{eqb}
 use borrow.Author.Tests.{eqb-false, ne-eqb}
 use Rattle.flow.specs.Sheet.{startOf}
@@ -18,6 +17,7 @@ use Rattle.cfg_steps.specs.declared.GraphBuilder.{GraphBuilder}
 use Rattle.cfg_edges.specs.Halves.{lo, hi, joined, labelList}
 use Rattle.cfg_edges.proofs.Lookup.{is-node}
 use Rattle.cfg_steps.specs.Columns.{Cols, cols, hasStart, painted, nameNode, nameItem, graphOf, settingsOf, Good, Standing, Grown, Did}
+use Rattle.cfg_steps.proofs.Fits.{each-more, good-of, good-as}
 
 -- one place more
 pub take-more : (n v : ℕ) (l : List ℕ) → n < length l → take (n + 1) (set l n v) ≡ take n l ++ (v ∷ [])
@@ -261,26 +261,7 @@ module _ (ks : List ℕ) (b : GraphBuilder) (e c n l : List ℕ) (ok : Good b (c
       let small : t < 2 ^ 32 = omega (arith, ok .nodes) in
       let len : length e' ≡ length e = ap length q ∙ joined-length (b .nodes) a t e ha long small in
       record {
-        good = record {
-          wideEdges = omega (arith, ok .wideEdges, len);
-          wideCodes = ok .wideCodes;
-          wideNames = ok .wideNames;
-          wideLabels = ok .wideLabels;
-          items = ok .items;
-          nodes = ok .nodes;
-          exits = ok .exits;
-          codes = ok .codes;
-          names = ok .names;
-          labels = ok .labels;
-          cursor = hv;
-          breakTarget = ok .breakTarget;
-          continueTarget = ok .continueTarget;
-          scopeEnd = ok .scopeEnd;
-          codeNodes = ok .codeNodes;
-          codeItems = ok .codeItems;
-          nameItems = ok .nameItems;
-          labelNodes = ok .labelNodes;
-        };
+        good = good-as ok (omega (arith, ok, len)) hv;
         grown = record {
           nodes = omega arith;
           codes = omega arith;
@@ -353,26 +334,7 @@ module _ (ks : List ℕ) (b : GraphBuilder) (e c n l : List ℕ) (ok : Good b (c
   new-did h =
       let long : b .nodes < length e = omega (arith, ok .wideEdges) in
       record {
-        good = record {
-          wideEdges = omega (arith, ok .wideEdges, length-set e (b .nodes) free);
-          wideCodes = ok .wideCodes;
-          wideNames = ok .wideNames;
-          wideLabels = ok .wideLabels;
-          items = ok .items;
-          nodes = omega arith;
-          exits = omega (arith, ok .exits);
-          codes = ok .codes;
-          names = ok .names;
-          labels = omega (arith, ok .labels);
-          cursor = cursor-more (ok .cursor);
-          breakTarget = omega (arith, ok .breakTarget);
-          continueTarget = omega (arith, ok .continueTarget);
-          scopeEnd = ok .scopeEnd;
-          codeNodes = λ k q. omega (arith, ok .codeNodes k q);
-          codeItems = ok .codeItems;
-          nameItems = ok .nameItems;
-          labelNodes = λ k q. omega (arith, ok .labelNodes k q);
-        };
+        good = good-as ok (omega (arith, ok, length-set e (b .nodes) free)) (cursor-more (ok .cursor));
         grown = record {
           nodes = omega arith;
           codes = omega arith;
@@ -405,32 +367,9 @@ module _ (ks : List ℕ) (b : GraphBuilder) (e c n l : List ℕ) (ok : Good b (c
   good-code : (i v : ℕ) → i < b .item → b .codes < b .item → v < b .nodes → Good (withCounts (b .nodes) (b .codes + 1) (b .names) (b .cursor)) (cols e (set c (b .codes) (codeWord i v)) n l)
   good-code i v hi' h hv =
       let long : b .codes < length c = omega (arith, ok .wideCodes, ok .items) in
-      record {
-        wideEdges = ok .wideEdges;
-        wideCodes = omega (arith, ok .wideCodes, length-set c (b .codes) (codeWord i v));
-        wideNames = ok .wideNames;
-        wideLabels = ok .wideLabels;
-        items = ok .items;
-        nodes = ok .nodes;
-        exits = ok .exits;
-        codes = omega arith;
-        names = ok .names;
-        labels = ok .labels;
-        cursor = ok .cursor;
-        breakTarget = ok .breakTarget;
-        continueTarget = ok .continueTarget;
-        scopeEnd = ok .scopeEnd;
-        codeNodes = λ k q. elim (ℕ-discrete k (b .codes)) [
-          | yes p ↦ rw (p, getD-set-same c (b .codes) (codeWord i v) 0 long, lo-of v i (omega (arith, ok .nodes))) hv
-          | no p ↦ rw (getD-set-other c (b .codes) k (codeWord i v) 0 p) (ok .codeNodes k (omega arith))
-        ];
-        codeItems = λ k q. elim (ℕ-discrete k (b .codes)) [
-          | yes p ↦ rw (p, getD-set-same c (b .codes) (codeWord i v) 0 long, hi-of v i (omega (arith, ok .nodes))) hi'
-          | no p ↦ rw (getD-set-other c (b .codes) k (codeWord i v) 0 p) (ok .codeItems k (omega arith))
-        ];
-        nameItems = ok .nameItems;
-        labelNodes = ok .labelNodes;
-      }
+      good-of (omega (arith, ok, length-set c (b .codes) (codeWord i v))) (ok .cursor)
+      (each-more lo (b .codes) c (codeWord i v) (b .nodes) long (rw (lo-of v i (omega (arith, ok .nodes))) hv) (ok .codeNodes))
+      (each-more hi (b .codes) c (codeWord i v) (b .item) long (rw (hi-of v i (omega (arith, ok .nodes))) hi') (ok .codeItems)) (ok .nameItems) (ok .labelNodes)
 
   -- the span of item i recorded at the node v, which has a code start where the item's kind gives it one
   abbrev startIf : Bool → ℕ → ℕ → Graph → Graph
@@ -509,29 +448,8 @@ module _ (ks : List ℕ) (b : GraphBuilder) (e c n l : List ℕ) (ok : Good b (c
       let an-item : nameItem (nameWord i) ≡ i = omega (arith, ok .scopeEnd) in
       let an-end : hi (nameWord i) ≡ b .settings .«scope_end» = omega arith in
       record {
-        good = record {
-          wideEdges = ok .wideEdges;
-          wideCodes = ok .wideCodes;
-          wideNames = omega (arith, ok .wideNames, length-set n (b .names) (nameWord i));
-          wideLabels = ok .wideLabels;
-          items = ok .items;
-          nodes = ok .nodes;
-          exits = ok .exits;
-          codes = ok .codes;
-          names = omega arith;
-          labels = ok .labels;
-          cursor = ok .cursor;
-          breakTarget = ok .breakTarget;
-          continueTarget = ok .continueTarget;
-          scopeEnd = ok .scopeEnd;
-          codeNodes = ok .codeNodes;
-          codeItems = ok .codeItems;
-          nameItems = λ k q. elim (ℕ-discrete k (b .names)) [
-            | yes p ↦ rw (p, getD-set-same n (b .names) (nameWord i) 0 long, an-item) below
-            | no p ↦ rw (getD-set-other n (b .names) k (nameWord i) 0 p) (ok .nameItems k (omega arith))
-          ];
-          labelNodes = ok .labelNodes;
-        };
+        good = good-of (omega (arith, ok, length-set n (b .names) (nameWord i))) (ok .cursor) (ok .codeNodes) (ok .codeItems)
+            (each-more nameItem (b .names) n (nameWord i) (b .item) long (rw an-item below) (ok .nameItems)) (ok .labelNodes);
         grown = record {
           nodes = omega arith;
           codes = omega arith;

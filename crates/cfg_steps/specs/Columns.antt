@@ -12,7 +12,6 @@ use Rattle.flow.specs.declared.Truth.{Truth}
 use Rattle.flow.specs.Sheet.{kindOf, argumentOf, startOf, member}
 use Rattle.flow.specs.Kinds.{kinds, raises}
 use Rattle.flow.specs.Graph.{exits, newNodes, withLabels, standAt, labelNode, orBreak, jump, code, connect, setCurrent, recordCode, unlessTrue, unlessFalse, simpleStmt, Graph, Settings, Label, absent}
-use Rattle.blocks.specs.Open.{Scanned}
 use Rattle.cfg_edges.specs.Halves.{lo, hi, labelList}
 use Rattle.cfg_steps.specs.declared.BlockSettings.{BlockSettings}
 use Rattle.cfg_steps.specs.declared.GraphBuilder.{GraphBuilder}
@@ -181,12 +180,6 @@ pub record Entered (ks as' : List ℕ) (b : GraphBuilder) (x : Cols) (r : GraphB
 -- a call from b to r enters the names as', if the columns are good
 abbrev pub Enters : List ℕ → List ℕ → GraphBuilder → GraphBuilder → Lent → Type 0
 Enters ks as' b r x = Good b (x held) → Entered ks as' b (x held) r (x left)
-
--- a scan on its way: the names that are found have nodes and are in force, and the rest of the block's labels are still to come d blocks out
-pub record Scanning (ks ss : List ℕ) (b : GraphBuilder) (x : Cols) (d j : ℕ) (t : GraphBuilder) (y : Cols) : Type 0 where
-  pub found : List ℕ
-  pub entered : Entered ks found b x t y
-  pub scanned : Scanned ks ss (b .item) found d j
 
 -- ---- statements of one item
 

@@ -18,7 +18,7 @@ use lib.ListN.{length, take, drop, length-drop, drop-of-length-le}
 use lib.Seq.{take-all, getD-take, length-take-le}
 use Rattle.search.proofs.Bools.{neither, not-false-true}
 use Rattle.flow.specs.declared.Refusal.the-variants.{Miscount}
-use Rattle.flow.specs.Sheet.{count}
+use Rattle.flow.specs.Sheet.{countWord}
 use Rattle.flow.specs.Refusals.{number, miscount, firstApplying, pairTests, pairVerdict}
 use Rattle.flow.specs.Findings.{judge}
 use Rattle.flow.specs.Listing.{refused, fileWords, printedWords, printed, sheetsPrint}
@@ -44,24 +44,24 @@ drop-min m ws = elim (decLe m (length ws)) [
   | no h ↦ rw (min-eq-right {n = length ws} {m = m} (omega arith)) (drop-of-length-le ws {i = length ws} (omega arith) ∙ sym (drop-of-length-le ws {i = m} (omega arith)))
 ]
 
-pub parts : (ws : List ℕ) {end : ℕ} → end ≡ min (2 * count ws + 2) (length ws) → printedWords ws ≡ sheetsPrint (take end ws) (drop end ws)
+pub parts : (ws : List ℕ) {end : ℕ} → end ≡ min (2 * countWord ws + 2) (length ws) → printedWords ws ≡ sheetsPrint (take end ws) (drop end ws)
 unfolding printedWords
-parts ws e = rw (e, take-min (2 * count ws + 2) ws, drop-min (2 * count ws + 2) ws)
+parts ws e = rw (e, take-min (2 * countWord ws + 2) ws, drop-min (2 * countWord ws + 2) ws)
 
 -- ---- more words than any two sheets have
 
-never-both : (ws : List ℕ) → 4099 < length ws → (miscount 2 (take (2 * count ws + 2) ws) || miscount 1 (drop (2 * count ws + 2) ws)) ≡ false → ⊥
+never-both : (ws : List ℕ) → 4099 < length ws → (miscount 2 (take (2 * countWord ws + 2) ws) || miscount 1 (drop (2 * countWord ws + 2) ws)) ≡ false → ⊥
 unfolding miscount
 never-both ws h e =
     let n = neither _ _ e in
-    let s = counted 2 (take (2 * count ws + 2) ws) (n .0) in
-    let u = counted 1 (drop (2 * count ws + 2) ws) (n .1) in
-    let c : count (take (2 * count ws + 2) ws) ≡ count ws = getD-take (2 * count ws + 2) ws 0 0 (omega arith) in
-    omega (arith, length-drop (2 * count ws + 2) ws)
+    let s = counted 2 (take (2 * countWord ws + 2) ws) (n .0) in
+    let u = counted 1 (drop (2 * countWord ws + 2) ws) (n .1) in
+    let c : countWord (take (2 * countWord ws + 2) ws) ≡ countWord ws = getD-take (2 * countWord ws + 2) ws 0 0 (omega arith) in
+    omega (arith, length-drop (2 * countWord ws + 2) ws)
 
 too-long : (ws : List ℕ) → 4099 < length ws → printedWords ws ≡ refused (number Miscount)
 unfolding printedWords judge pairVerdict pairTests firstApplying
-too-long ws h = rw (not-false-true (miscount 2 (take (2 * count ws + 2) ws) || miscount 1 (drop (2 * count ws + 2) ws)) (never-both ws h))
+too-long ws h = rw (not-false-true (miscount 2 (take (2 * countWord ws + 2) ws) || miscount 1 (drop (2 * countWord ws + 2) ws)) (never-both ws h))
 
 -- ---- a file
 

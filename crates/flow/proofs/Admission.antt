@@ -10,7 +10,7 @@ use lib.Dec.{leb, ltb}
 use lib.ListN.{length, getD, length-take, length-drop}
 use Rattle.search.proofs.Bools.{neither, and-both}
 use Rattle.flow.specs.declared.Verdict.the-variants.{Admitted}
-use Rattle.flow.specs.Sheet.{count, kindWords, spanWords, items, member, useWords, useSpans, localOf, useKindOf}
+use Rattle.flow.specs.Sheet.{countWord, kindWords, spanWords, items, member, useWords, useSpans, localOf, useKindOf}
 use Rattle.flow.specs.Kinds.{isCode}
 use Rattle.flow.specs.Refusals.{miscount, badItem, tooDeep, badNesting, offTheLine, badName, nameCount, useFits, usesFit, badUse, firstApplying, itemTests, sheetTests, pairTests, sheetVerdict, pairVerdict}
 use Rattle.flow.specs.Graph.{graph}
@@ -26,16 +26,16 @@ module _ (S : List ℕ) (e : sheetVerdict false S ≡ Admitted) where
   passes : Passed S
   passes = sheet-passed false S e
 
-  kinds : length (kindWords S) ≡ count S
+  kinds : length (kindWords S) ≡ countWord S
   kinds = simp (length-take, length-drop) (omega (arith, passes .words))
 
-  spans : length (spanWords S) ≡ count S
+  spans : length (spanWords S) ≡ countWord S
   spans = simp (length-take, length-drop) (omega (arith, passes .words))
 
   as-many : length (spanWords S) ≡ length (kindWords S)
   as-many = omega (arith, kinds, spans)
 
-  all-items : length (items S) ≡ count S
+  all-items : length (items S) ≡ countWord S
   all-items = length-zip (kindWords S) (spanWords S) as-many ∙ kinds
 
   codes : graph S .codes .span ≡ spansWhere isCode (items S)
@@ -119,7 +119,7 @@ module _ (short : Bool) (S U : List ℕ) (e : pairVerdict short S U ≡ Admitted
   pair-uses =
       let c = counted 1 U (counts .1) in
       let f = uses-at (nameCount (items S)) (useWords U) (useSpans U) (not-false _ (none 8)) in
-      let w : length (useWords U) ≡ count U = simp (length-take, length-drop) (omega arith) in
+      let w : length (useWords U) ≡ countWord U = simp (length-take, length-drop) (omega arith) in
       record {
         words = c .0;
         few = c .1;

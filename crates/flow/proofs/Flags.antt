@@ -1,6 +1,6 @@
 -- The flags that a search computes say where its paths lead: `reachable`, `liveAfterWrites` and `meets` decide the relations of `specs/`.
 -- Assumes nothing.
-use Prim.Native.Nat.{ℕ, _≤_, _<_}
+use Prim.Native.Nat.{ℕ, zero, suc, _≤_, _<_}
 use mathlib.Core.Path.{_≡_, refl, sym, _∙_}
 use mathlib.Core.Logic.{_↔_, ⊎-elim, ⊎-map}
 use mathlib.Core.Bool.{Bool, true, false, _&&_, false≢true}
@@ -8,20 +8,20 @@ use mathlib.Core.List.{List, [], _∷_, List·Memᴰ, List·Memᴰ·head, List·
 use native.Mathlib.Omega.{arith}
 use borrow.Author.Tests.{ltb-true, eqb-true}
 use lib.Dec.{ltb}
-use lib.ListN.{length, getD}
+use lib.ListN.{length, getD, take}
 use Rattle.search.proofs.Bools.{and-both, not-false-true}
 use Rattle.search.specs.Search.{In, Reach, here, on, closure, filter}
 use Rattle.search.proofs.Closure.{Nodes, closure-length, closure-bits, closure-sound, closure-complete}
 use Rattle.flow.specs.declared.Found.{Found}
 use Rattle.flow.specs.declared.Found.the-variants.{At, Nothing}
 use Rattle.flow.specs.Sheet.{member}
-use Rattle.flow.specs.Graph.{Graph, nodeCount, entryNode, graph}
+use Rattle.flow.specs.Graph.{Graph, absent, nodeCount, entryNode, graph}
 use Rattle.flow.specs.Reachable.{successors, Reachable, Flagged, reachable, CanRun, canRun}
 use Rattle.flow.specs.Locals.{Declaration, onlyIf}
-use Rattle.flow.specs.Findings.{Use, node, isWrite, isAliveAt, liveSuccessors, afterWrites, liveAfterWrites, Meeting, noUse, aRead, aPureWrite, isNoUse, firstAt, below, meetsHere, comesFrom, meets}
+use Rattle.flow.specs.Findings.{Use, node, isWrite, isAliveAt, liveSuccessors, afterWrites, liveAfterWrites, Meeting, noUse, aRead, aPureWrite, isNoUse, firstAt, range, meetsHere, predecessors, meets}
 use Rattle.flow.specs.Paths.{Edge, Alive, Live, last, more, After, Meets, met, past}
 use Rattle.search.proofs.Worklist.{filter-in}
-use Rattle.flow.proofs.Members.{both-and, append-in, in-append, in-filter, below-in, in-below, member-in, in-member, true-alive, alive-true}
+use Rattle.flow.proofs.Members.{both-and, append-in, in-append, in-filter, range-in, in-range, member-in, in-member, true-alive, alive-true}
 use Rattle.flow.proofs.NodeCount.{graph-count}
 
 -- a flag 0 or 1 for each of n nodes, 1 exactly where P holds
@@ -41,9 +41,16 @@ closure-decides n starts next hs hn =
       complete = closure-complete n starts next hs hn;
     }
 
+-- the cell of a node's successor, in a column whose first n cells count
+pub edge-cell : (n : ℕ) (l : List ℕ) (u : ℕ) → u < n → n ≤ length l → getD (take n l) u absent ≡ getD l u 0
+edge-cell zero l u h k = absurd (omega arith)
+edge-cell (suc n) [] u h k = absurd (omega arith)
+edge-cell (suc n) (x ∷ l) zero h k = refl
+edge-cell (suc n) (x ∷ l) (suc u) h k = edge-cell n l u (omega arith) (omega arith)
+
 -- an edge leads to a node
 pub edge-node : (g : Graph) (u v : ℕ) → Edge g u v → v < nodeCount g
-edge-node g u v i = ltb-true v (nodeCount g) (filter-in (λ x. ltb x (nodeCount g)) (getD (g .nodes .first) u 0 ∷ getD (g .nodes .second) u 0 ∷ []) v i .1)
+edge-node g u v i = ltb-true v (nodeCount g) (filter-in (λ x. ltb x (nodeCount g)) (getD (g .nodes .first) u absent ∷ getD (g .nodes .second) u absent ∷ []) v i .1)
 
 -- ---- reachability
 
@@ -176,28 +183,28 @@ module _ (g : Graph) (d : Declaration) (us : List Use) where
   abbrev before : ℕ → ℕ → Bool
   before v u = member v (successors g u) && meetsHere g d us isNoUse u
 
-  from-in : (u v : ℕ) → In u (comesFrom g d us v) → (u < nodeCount g) × Edge g u v × Alive g d u × (isNoUse (firstAt u us) ≡ true)
-  unfolding comesFrom
+  from-in : (u v : ℕ) → In u (predecessors g d us v) → (u < nodeCount g) × Edge g u v × Alive g d u × (isNoUse (firstAt u us) ≡ true)
+  unfolding predecessors
   from-in u v i =
-      let k = filter-in (before v) (below (nodeCount g)) u i in
+      let k = filter-in (before v) (range (nodeCount g)) u i in
       let b = and-both (member v (successors g u)) (meetsHere g d us isNoUse u) (k .1) in
       let h = here-in isNoUse u (b .1) in
-      (in-below (nodeCount g) u (k .0), member-in v (successors g u) (b .0), h .0, h .1)
+      (in-range (nodeCount g) u (k .0), member-in v (successors g u) (b .0), h .0, h .1)
 
-  in-from : (u v : ℕ) → u < nodeCount g → Edge g u v → Alive g d u → isNoUse (firstAt u us) ≡ true → In u (comesFrom g d us v)
-  unfolding comesFrom
+  in-from : (u v : ℕ) → u < nodeCount g → Edge g u v → Alive g d u → isNoUse (firstAt u us) ≡ true → In u (predecessors g d us v)
+  unfolding predecessors
   in-from u v l e a z =
-      in-filter (before v) (below (nodeCount g)) u (below-in (nodeCount g) u l) (both-and (in-member v (successors g u) e) (in-here isNoUse u a z))
+      in-filter (before v) (range (nodeCount g)) u (range-in (nodeCount g) u l) (both-and (in-member v (successors g u) e) (in-here isNoUse u a z))
 
   module _ (m : Meeting → Bool) where
     abbrev ends : List ℕ
-    ends = filter (meetsHere g d us m) (below (nodeCount g))
+    ends = filter (meetsHere g d us m) (range (nodeCount g))
 
-    meets-flags : Decides (nodeCount g) (meets g d us m) (Reach ends (comesFrom g d us))
+    meets-flags : Decides (nodeCount g) (meets g d us m) (Reach ends (predecessors g d us))
     unfolding meets
     meets-flags =
-        closure-decides (nodeCount g) ends (comesFrom g d us)
-        (λ v i. in-below (nodeCount g) v (filter-in (meetsHere g d us m) (below (nodeCount g)) v i .0)) (λ v u i. from-in u v i .0)
+        closure-decides (nodeCount g) ends (predecessors g d us)
+        (λ v i. in-range (nodeCount g) v (filter-in (meetsHere g d us m) (range (nodeCount g)) v i .0)) (λ v u i. from-in u v i .0)
 
     pub meets-length : length (meets g d us m) ≡ nodeCount g
     meets-length = meets-flags .size
@@ -211,18 +218,18 @@ module _ (g : Graph) (d : Declaration) (us : List Use) where
       is-use aRead e = refl
       is-use aPureWrite e = refl
 
-      reach-meets : {a : ℕ} → Reach ends (comesFrom g d us) a → (b : ℕ) × Meets g d (HoldsIn us) a b × (m (firstAt b us) ≡ true)
+      reach-meets : {a : ℕ} → Reach ends (predecessors g d us) a → (b : ℕ) × Meets g d (HoldsIn us) a b × (m (firstAt b us) ≡ true)
       reach-meets (here {v = v} i) =
-          let h = here-in m v (filter-in (meetsHere g d us m) (below (nodeCount g)) v i .1) in
+          let h = here-in m v (filter-in (meetsHere g d us m) (range (nodeCount g)) v i .1) in
           (v, met (h .0) (is-use (firstAt v us) (h .1)), h .1)
       reach-meets (on {u = u} {v = v} r i) =
           let k = reach-meets r in
           let f = from-in v u i in
           (k .0, past (f .2) (true-not-false (f .3)) (f .1) (k .1), k .2)
 
-    meets-reach : {a b : ℕ} → Meets g d (HoldsIn us) a b → a < nodeCount g → m (firstAt b us) ≡ true → Reach ends (comesFrom g d us) a
+    meets-reach : {a b : ℕ} → Meets g d (HoldsIn us) a b → a < nodeCount g → m (firstAt b us) ≡ true → Reach ends (predecessors g d us) a
     meets-reach (met {v = v} a h) l e =
-        here (in-filter (meetsHere g d us m) (below (nodeCount g)) v (below-in (nodeCount g) v l) (in-here m v a e))
+        here (in-filter (meetsHere g d us m) (range (nodeCount g)) v (range-in (nodeCount g) v l) (in-here m v a e))
     meets-reach (past {u = u} {v = v} a z i r) l e =
         on (meets-reach r (edge-node g u v i) e) (in-from u v l i a (not-false-true (isNoUse (firstAt u us)) z))
 

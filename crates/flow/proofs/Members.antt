@@ -14,7 +14,7 @@ use Rattle.search.specs.Search.{In, cons-if, filter}
 use Rattle.flow.specs.Sheet.{member}
 use Rattle.flow.specs.Graph.{Graph}
 use Rattle.flow.specs.Locals.{Declaration}
-use Rattle.flow.specs.Findings.{isAliveAt, below}
+use Rattle.flow.specs.Findings.{isAliveAt, range}
 use Rattle.flow.specs.Paths.{Alive}
 
 -- ---- tests joined
@@ -51,15 +51,15 @@ in-filter p (x ∷ vs) v (inr i) e = in-cons-if (p x) x (filter p vs) v (inr (in
 
 -- ---- the numbers below n
 
-pub below-in : (n v : ℕ) → v < n → In v (below n)
-below-in zero v h = absurd (omega arith)
-below-in (suc n) v h =
-    in-append (below n) (n ∷ []) v (elim (ℕ-discrete v n) [ yes e ↦ inr (inl e) | no q ↦ inl (below-in n v (omega arith)) ])
+pub range-in : (n v : ℕ) → v < n → In v (range n)
+range-in zero v h = absurd (omega arith)
+range-in (suc n) v h =
+    in-append (range n) (n ∷ []) v (elim (ℕ-discrete v n) [ yes e ↦ inr (inl e) | no q ↦ inl (range-in n v (omega arith)) ])
 
-pub in-below : (n v : ℕ) → In v (below n) → v < n
-in-below zero v i = absurd i
-in-below (suc n) v i =
-    ⊎-elim (λ j. let h : v < n = in-below n v j in omega arith) (⊎-elim (λ e. omega arith) (λ b. absurd b)) (append-in (below n) (n ∷ []) v i)
+pub in-range : (n v : ℕ) → In v (range n) → v < n
+in-range zero v i = absurd i
+in-range (suc n) v i =
+    ⊎-elim (λ j. let h : v < n = in-range n v j in omega arith) (⊎-elim (λ e. omega arith) (λ b. absurd b)) (append-in (range n) (n ∷ []) v i)
 
 -- ---- the test of membership
 

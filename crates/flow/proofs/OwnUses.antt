@@ -11,7 +11,7 @@ use Rattle.flow.specs.Sheet.{member, all}
 use Rattle.flow.specs.Graph.{Graph, Nodes, nodeCount, graph}
 use Rattle.flow.specs.Reachable.{successors}
 use Rattle.flow.specs.Locals.{onlyIf, Local, noValue, writesJudged, tracked, Declaration, declaration, localAt, Finding}
-use Rattle.flow.specs.Findings.{Use, isFound, node, isWrite, usesOf, allFound, isAliveAt, liveSuccessors, afterWrites, liveAfterWrites, isEmptyRead, firstEmptyRead, Meeting, aRead, aPureWrite, firstAt, isARead, isAPureWrite, isNoUse, below, meetsHere, comesFrom, meets, Ahead, ahead, isOverwrittenUnread, orElse, isOverwritten, overwrittenAt, overwrittenBelow, firstUnassignedUse, initialOverwritten, writesOverwritten, ofUse, ofInitial, unassignedOf, overwrittenOf}
+use Rattle.flow.specs.Findings.{Use, isFound, node, isWrite, usesOf, allFound, isAliveAt, liveSuccessors, afterWrites, liveAfterWrites, isEmptyRead, firstEmptyRead, Meeting, aRead, aPureWrite, firstAt, isARead, isAPureWrite, isNoUse, range, meetsHere, predecessors, meets, Ahead, ahead, isOverwrittenUnread, orElse, isOverwritten, overwrittenAt, overwrittenBelow, firstUnassignedUse, initialOverwritten, writesOverwritten, ofUse, ofInitial, unassignedOf, overwrittenOf}
 
 -- ---- by the nodes of the graph alone
 
@@ -30,7 +30,7 @@ module _ (g h : Graph) (e : g .nodes ≡ h .nodes) where
   nodes-live d us = λ i. closure (nodes-after d us i) (liveSuccessors (bare (e i)) d) (nodeCount (bare (e i)))
 
   pub nodes-ahead : (d : Declaration) (us : List Use) → ahead g d us ≡ ahead h d us
-  unfolding ahead meets comesFrom meetsHere isAliveAt
+  unfolding ahead meets predecessors meetsHere isAliveAt
   nodes-ahead d us = λ i. ahead (bare (e i)) d us
 
   pub nodes-unread : (a : Ahead) (v : ℕ) → isOverwrittenUnread g a v ≡ isOverwrittenUnread h a v
@@ -100,11 +100,11 @@ module _ {f : Use → Use} (k : Renumbers f) where
   renumbered-meets g d us m v = ap (λ (x : Meeting). isAliveAt g d v && m x) (renumbered-at v us)
 
   pub renumbered-ahead : (g : Graph) (d : Declaration) (us : List Use) → ahead g d (map f us) ≡ ahead g d us
-  unfolding ahead meets comesFrom
+  unfolding ahead meets predecessors
   renumbered-ahead g d us = λ i. record { reads = onward isARead i; writes = onward isAPureWrite i }
     where
       onward : (m : Meeting → Bool) → meets g d (map f us) m ≡ meets g d us m
-      onward m = λ i. closure (filter (λ v. renumbered-meets g d us m v i) (below (nodeCount g))) (λ v. filter (λ u. member v (successors g u) && renumbered-meets g d us isNoUse u i) (below (nodeCount g))) (nodeCount g)
+      onward m = λ i. closure (filter (λ v. renumbered-meets g d us m v i) (range (nodeCount g))) (λ v. filter (λ u. member v (successors g u) && renumbered-meets g d us isNoUse u i) (range (nodeCount g))) (nodeCount g)
 
   pub renumbered-overwritten : (g : Graph) (a : Ahead) (u : Use) (us : List Use) → isOverwritten g a (f u) (map f us) ≡ isOverwritten g a u us
   unfolding isOverwritten

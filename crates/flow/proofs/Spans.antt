@@ -16,9 +16,9 @@ use Rattle.flow.specs.Kinds.{kinds, itemFits, isCode}
 use Rattle.flow.specs.Refusals.{one, pairsUp, inLine, nameCount}
 use Rattle.flow.specs.Tree.{Stmt, Frame, Open, outer, inFront, opened, simple, tree}
 use Rattle.flow.specs.Locals.{onlyIf, localsFrom, locals}
-use Rattle.flow.specs.Findings.{below}
+use Rattle.flow.specs.Findings.{range}
 use Rattle.flow.specs.Admitted.{spansWhere, isName}
-use Rattle.flow.proofs.Members.{below-in}
+use Rattle.flow.proofs.Members.{range-in}
 use Rattle.flow.proofs.Tests.{same, every, Fitting, fitting}
 use Rattle.flow.proofs.Nesting.{Made, a-do, a-while, a-repeat, a-for, an-if, Parsed, nothing, opening, ending, until, an-elseif, an-else, plain, nests, parsed}
 use Rattle.flow.proofs.Sources.{put, ofStmt, ofBlock, ofArms, makesCode, codeWord, nameWord}
@@ -86,10 +86,10 @@ beq-eq false true e = absurd (false≢true e)
 beq-eq false false e = refl
 
 -- two tests of a kind agree if they agree at each of the 19
-agree : (f g : ℕ → Bool) → filter (λ k. eqb k 0 || Bool·beq (f k) (g k)) (below 20) ≡ below 20 → (i : Item) → itemFits i ≡ true → f (kind i) ≡ g (kind i)
+agree : (f g : ℕ → Bool) → filter (λ k. eqb k 0 || Bool·beq (f k) (g k)) (range 20) ≡ range 20 → (i : Item) → itemFits i ≡ true → f (kind i) ≡ g (kind i)
 agree f g e i a =
     let t = fitting i a in
-    let b = every (λ k. eqb k 0 || Bool·beq (f k) (g k)) (below 20) (kind i) e (below-in 20 (kind i) (omega arith)) in
+    let b = every (λ k. eqb k 0 || Bool·beq (f k) (g k)) (range 20) (kind i) e (range-in 20 (kind i) (omega arith)) in
     beq-eq (f (kind i)) (g (kind i)) (rw (ne-eqb (kind i) 0 (λ q. omega arith)) at b)
 
 -- `isCode`, by an item's kind and whether its argument is 0

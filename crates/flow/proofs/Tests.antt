@@ -13,7 +13,7 @@ use Rattle.search.specs.Search.{In, filter}
 use Rattle.flow.specs.declared.Refusal.{Refusal}
 use Rattle.flow.specs.declared.Verdict.{Verdict}
 use Rattle.flow.specs.declared.Verdict.the-variants.{Admitted, Refused}
-use Rattle.flow.specs.Sheet.{Item, all, kind, count, outerEnd, items, startOf, endOf, argumentOf}
+use Rattle.flow.specs.Sheet.{Item, all, kind, countWord, outerEnd, items, startOf, endOf, argumentOf}
 use Rattle.flow.specs.Kinds.{argumentFits, itemFits}
 use Rattle.flow.specs.Refusals.{number, Test, firstApplying, miscount, badItem, pairsUp, badNesting, inLine, offTheLine, itemTests, sheetTests, sheetVerdict, outnumbered, tooDeep, sideBySide, held, namesFit, badName}
 use Rattle.flow.specs.Admitted.{anItem}
@@ -52,15 +52,15 @@ passed (t ∷ ts) e k = let p = passed-one (t .1) (t .0) (firstApplying ts) e in
 -- ---- a sheet
 
 -- the count of either sheet, with k words before its two arrays
-pub counted : (k : ℕ) (ws : List ℕ) → miscount k ws ≡ false → (length ws ≡ 2 * count ws + k) × (count ws ≤ 1024)
+pub counted : (k : ℕ) (ws : List ℕ) → miscount k ws ≡ false → (length ws ≡ 2 * countWord ws + k) × (countWord ws ≤ 1024)
 unfolding miscount
 counted k ws e =
-    let m = neither (ltb (length ws) k || ltb 1024 (count ws)) _ e in
+    let m = neither (ltb (length ws) k || ltb 1024 (countWord ws)) _ e in
     (eqb-true _ _ (not-false _ (m .1)), ltb-false _ _ (neither (ltb (length ws) k) _ (m .0) .1))
 
 pub record Passed (ws : List ℕ) : Type 0 where
-  pub words : length ws ≡ 2 * count ws + 2
-  pub few : count ws ≤ 1024
+  pub words : length ws ≡ 2 * countWord ws + 2
+  pub few : countWord ws ≤ 1024
   pub outerEnd : outerEnd ws < 2 ^ 32
   pub fits : all itemFits (items ws) ≡ true
   pub pairs : pairsUp [] (items ws) ≡ true

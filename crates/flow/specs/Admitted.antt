@@ -7,7 +7,7 @@ use Prim.Native.Nat.{ℕ, _+_, _*_, _^_, _≤_, _<_}
 use lib.ListN.{length, getD, drop}
 use lib.Dec.{eqb}
 use Rattle.flow.specs.declared.Verdict.the-variants.{Admitted}
-use Rattle.flow.specs.Sheet.{Item, kind, count, outerEnd, items, kindWords, spanWords, zip, kindOf, endOf, useWords, useSpans, localOf, useKindOf}
+use Rattle.flow.specs.Sheet.{Item, kind, countWord, outerEnd, items, kindWords, spanWords, zip, kindOf, endOf, useWords, useSpans, localOf, useKindOf}
 use Rattle.flow.specs.Kinds.{kinds, itemFits, isCode}
 use Rattle.flow.specs.Refusals.{nameCount, sheetVerdict, outnumbered, pairsUp, sideBySide, inLine, held, namesFit}
 use Rattle.flow.specs.Tree.{parse, tree, no-more}
@@ -41,12 +41,12 @@ abbrev pub Roomy : List ℕ → Type 0
 Roomy ks = (ss : List ℕ) → length ss ≡ length ks → 6 + blockNodes (tree (zip ks ss)) ≤ 1542
 
 pub record AdmittedSheet (S : List ℕ) : Type 0 where
-  pub words : length S ≡ 2 * count S + 2
-  pub few : count S ≤ 1024
-  pub kinds : length (kindWords S) ≡ count S
-  pub spans : length (spanWords S) ≡ count S
+  pub words : length S ≡ 2 * countWord S + 2
+  pub few : countWord S ≤ 1024
+  pub kinds : length (kindWords S) ≡ countWord S
+  pub spans : length (spanWords S) ≡ countWord S
   pub outerEnd : outerEnd S < 2 ^ 32
-  pub fits : (i : ℕ) → i < count S → itemFits (getD (items S) i anItem) ≡ true
+  pub fits : (i : ℕ) → i < countWord S → itemFits (getD (items S) i anItem) ≡ true
   pub shallow : outnumbered 0 0 (items S) ≡ false
   pub pairs : pairsUp [] (items S) ≡ true
   pub beside : sideBySide 0 (items S) ≡ true
@@ -68,13 +68,13 @@ pub record AdmittedSheet (S : List ℕ) : Type 0 where
 
 -- the same of a use sheet
 pub record AdmittedUses (S U : List ℕ) : Type 0 where
-  pub words : length U ≡ 2 * count U + 1
-  pub few : count U ≤ 1024
-  pub uses : length (useWords U) ≡ count U
-  pub spans : length (useSpans U) ≡ count U
+  pub words : length U ≡ 2 * countWord U + 1
+  pub few : countWord U ≤ 1024
+  pub uses : length (useWords U) ≡ countWord U
+  pub spans : length (useSpans U) ≡ countWord U
   pub names : nameCount (items S) ≡ length (locals S)
-  pub known : (u : ℕ) → u < count U → localOf (getD (useWords U) u 0) < nameCount (items S)
-  pub kinds : (u : ℕ) → u < count U → useKindOf (getD (useWords U) u 0) ≤ 2
+  pub known : (u : ℕ) → u < countWord U → localOf (getD (useWords U) u 0) < nameCount (items S)
+  pub kinds : (u : ℕ) → u < countWord U → useKindOf (getD (useWords U) u 0) ≤ 2
 
 -- what the verdict of a pair shows
 pub record AdmittedPair (short : Bool) (S U : List ℕ) : Type 0 where

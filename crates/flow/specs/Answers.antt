@@ -28,7 +28,7 @@ told k values = record { number = k; values = values }
 
 -- a verdict, by its number and the values of an accepted call
 abbrev pub tells : Verdict → List ℕ → Told
-tells v values = elim v [ Refused r ↦ told (number r) [] | Admitted ↦ told 0 values ]
+tells verdict values = elim verdict [ Refused r ↦ told (number r) [] | Admitted ↦ told 0 values ]
 
 -- "that node or none"
 abbrev pub foundValues : Found → List ℕ
@@ -48,7 +48,7 @@ runTold a = elim a [ RunRefused r ↦ told (number r) [] | Ran f can ↦ told 0 
 
 -- "Judge writes and returns the same, then the findings and their count."
 abbrev pub judgeTold : JudgeAnswer → Told
-judgeTold a = elim a [ JudgeRefused r ↦ told (number r) [] | Judged c n ↦ told 0 (countValues c ++ (n ∷ [])) ]
+judgeTold a = elim a [ JudgeRefused r ↦ told (number r) [] | Judged c k ↦ told 0 (countValues c ++ (k ∷ [])) ]
 
 -- how many findings judge tells: its fourth value
 abbrev pub findingsTold : Told → ℕ

@@ -8,7 +8,7 @@ use Prim.Native.Char.{code}
 use lib.ListN.{length, take, drop, getD}
 use lib.Dec.{eqb, ltb}
 use Rattle.flow.specs.declared.Refusal.the-variants.{Miscount}
-use Rattle.flow.specs.Sheet.{count, startOf, endOf}
+use Rattle.flow.specs.Sheet.{Word, countWord, startOf, endOf}
 use Rattle.flow.specs.Refusals.{number}
 use Rattle.flow.specs.Answers.{Told}
 use Rattle.flow.specs.Graph.{graph}
@@ -70,17 +70,17 @@ littleEndian zero bs = 0
 littleEndian (suc k) bs = getD bs 0 0 + 256 * littleEndian k (drop 1 bs)
 
 -- the first k words of a file
-unfoldable pub fileWords : ℕ → List ℕ → List ℕ
+unfoldable pub fileWords : ℕ → List ℕ → List Word
 fileWords zero bs = []
 fileWords (suc k) bs = littleEndian 8 bs ∷ fileWords k (drop 8 bs)
 
 -- what a sheet and a use sheet print; the program's own columns are long enough, so that 1 is never printed
-abbrev pub sheetsPrint : List ℕ → List ℕ → List ℕ
+abbrev pub sheetsPrint : List Word → List Word → List ℕ
 sheetsPrint S U = printedFor (judge false S U) (reachable (graph S)) (findings S U)
 
 -- a sheet of 2n + 2 words, and a use sheet of all others
-unfoldable pub printedWords : List ℕ → List ℕ
-printedWords ws = sheetsPrint (take (2 * count ws + 2) ws) (drop (2 * count ws + 2) ws)
+unfoldable pub printedWords : List Word → List ℕ
+printedWords ws = sheetsPrint (take (2 * countWord ws + 2) ws) (drop (2 * countWord ws + 2) ws)
 
 -- "K is 2 for lost or spare bytes"
 unfoldable pub printed : List ℕ → List ℕ

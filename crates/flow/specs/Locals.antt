@@ -5,30 +5,32 @@ use mathlib.Core.List.{List, [], _∷_, _++_}
 use Prim.Native.Nat.{ℕ, _+_, _*_, _/_, _%_, _^_}
 use lib.ListN.{getD}
 use lib.Dec.{eqb, leb}
-use Rattle.flow.specs.Sheet.{Item, kind, items, argumentOf, crossingOf}
+use Rattle.flow.specs.Sheet.{Word, Span, Node, LocalNumber, Item, kind, items, argumentOf, crossingOf}
 use Rattle.flow.specs.Kinds.{kinds}
 use Rattle.flow.specs.Graph.{Graph}
 open record kinds using (LOCAL, NAME)
 
+-- a list, or nothing of it
 abbrev pub onlyIf : {A : Type 0} → Bool → List A → List A
-onlyIf b l = cond b l []
+onlyIf b xs = cond b xs []
 
 -- a NAME: its argument, the values of its LOCAL, and how many names of its LOCAL stand before it
 abbrev pub Local : Type 0
 Local = record { flags : ℕ; values : ℕ; before : ℕ }
 
--- the names of a sheet, in order; v and b are of the LOCAL that was met last
+-- the names of a sheet, in order; `values` and `before` are of the LOCAL that was met last
 unfoldable pub localsFrom : ℕ → ℕ → List Item → List Local
-localsFrom v b [] = []
-localsFrom v b (i ∷ is) =
-    onlyIf (eqb (kind i) NAME) (record { flags = argumentOf (i .word); values = v; before = b } ∷ [])
-    ++ localsFrom (cond (eqb (kind i) LOCAL) (argumentOf (i .word)) v) (cond (eqb (kind i) NAME) (b + 1) 0) is
+localsFrom values before [] = []
+localsFrom values before (i ∷ is) =
+    onlyIf (eqb (kind i) NAME) (record { flags = argumentOf (i .word); values = values; before = before } ∷ [])
+    ++ localsFrom (cond (eqb (kind i) LOCAL) (argumentOf (i .word)) values) (cond (eqb (kind i) NAME) (before + 1) 0) is
 
-unfoldable pub locals : List ℕ → List Local
-locals ws = localsFrom 0 0 (items ws)
+unfoldable pub locals : List Word → List Local
+locals S = localsFrom 0 0 (items S)
 
+-- what stands for a number that is no local's: it begins with underscore, so it is not tracked
 abbrev pub noLocal : Local
-noLocal = record { flags = 0; values = 0; before = 0 }
+noLocal = record { flags = 1; values = 0; before = 0 }
 
 -- "NAME, argument 0 to 7: 1 begins with underscore, 2 modified, 4 captured"
 abbrev pub underscore : Local → Bool
@@ -52,23 +54,24 @@ writesJudged l = modified l && not (captured l)
 unfoldable pub tracked : Local → Bool
 tracked l = not (underscore l) && (noValue l || writesJudged l)
 
-abbrev pub localAt : List ℕ → ℕ → Local
-localAt ws ℓ = getD (locals ws) ℓ noLocal
+abbrev pub localAt : List Word → LocalNumber → Local
+localAt S ℓ = getD (locals S) ℓ noLocal
 
 -- "A use is in a closure when the local is captured and crossing is 1."
-unfoldable pub isInClosure : Local → ℕ → Bool
+unfoldable pub isInClosure : Local → Word → Bool
 isInClosure l w = captured l && eqb (crossingOf w) 1
 
 -- a local's declaration: "A local's declaration is its LOCAL", at its node; and its scope end
 abbrev pub Declaration : Type 0
-Declaration = record { node : ℕ; scopeEnd : ℕ }
+Declaration = record { node : Node; scopeEnd : ℕ }
 
-abbrev pub declaration : Graph → ℕ → Declaration
+abbrev pub declaration : Graph → LocalNumber → Declaration
 declaration g ℓ = record { node = getD (g .names .node) ℓ 0; scopeEnd = getD (g .names .scopeEnd) ℓ 0 }
 
--- "A finding is list (0 unassigned, 1 overwritten) + 2 × local + 2^32 × (use number + 1, or 0 for an initial value), and beside it the span, the name's span for an initial value."
+-- a finding: its word, "and beside it the span, the name's span for an initial value"
 abbrev pub Finding : Type 0
-Finding = record { word : ℕ; span : ℕ }
+Finding = record { word : Word; span : Span }
 
-abbrev pub findingWord : ℕ → ℕ → ℕ → ℕ
+-- "A finding is list (0 unassigned, 1 overwritten) + 2 × local + 2^32 × (use number + 1, or 0 for an initial value)"
+abbrev pub findingWord : ℕ → LocalNumber → ℕ → Word
 findingWord list ℓ k = list + 2 * ℓ + 2 ^ 32 * k

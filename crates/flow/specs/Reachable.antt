@@ -11,30 +11,30 @@ use Rattle.search.specs.Search.{Reach, closure, filter}
 use Rattle.flow.specs.declared.Found.{Found}
 use Rattle.flow.specs.declared.Found.the-variants.{At, Nothing}
 use Rattle.flow.specs.declared.Counts.{Counts}
-use Rattle.flow.specs.Sheet.{endOf}
+use Rattle.flow.specs.Sheet.{Word, Span, Node, endOf}
 use Rattle.flow.specs.Refusals.{one, sheetVerdict}
 use Rattle.flow.specs.Answers.{Told, tells, foundValues, countValues}
-use Rattle.flow.specs.Graph.{Graph, nodeCount, entryNode, graph}
+use Rattle.flow.specs.Graph.{Graph, nodeCount, absent, entryNode, graph}
 
--- the edges of a node: its successors that are nodes, which `absent` is not
-abbrev pub successors : Graph → ℕ → List ℕ
-successors g u = filter (λ v. ltb v (nodeCount g)) (getD (g .nodes .first) u 0 ∷ getD (g .nodes .second) u 0 ∷ [])
+-- the edges of a node: its successors that are nodes, which `absent` is not. A number that is no node has none
+abbrev pub successors : Graph → Node → List Node
+successors g x = filter (λ v. ltb v (nodeCount g)) (getD (g .nodes .first) x absent ∷ getD (g .nodes .second) x absent ∷ [])
 
 -- "Reachable: from node 5 along edges."
-abbrev pub Reachable : Graph → ℕ → Type 0
+abbrev pub Reachable : Graph → Node → Type 0
 Reachable g = Reach (entryNode ∷ []) (successors g)
 
 -- "a reachable flag 0 or 1", of each node: 1 exactly where a path from the entry leads
 pub record Flagged (g : Graph) (flags : List ℕ) : Type 0 where
-  pub bit : (v : ℕ) → v < nodeCount g → getD flags v 0 ≤ 1
-  pub exactly : (v : ℕ) → v < nodeCount g → (getD flags v 0 ≡ 1) ↔ Reachable g v
+  pub bit : (v : Node) → v < nodeCount g → getD flags v 0 ≤ 1
+  pub exactly : (v : Node) → v < nodeCount g → (getD flags v 0 ≡ 1) ↔ Reachable g v
 
 -- the flags, computed; `proofs/Flags.antt` shows that they are `Flagged`
 unfoldable pub reachable : Graph → List ℕ
 reachable g = closure (entryNode ∷ []) (successors g) (nodeCount g)
 
 -- "The node of an offset is that of the first code whose end is greater than the offset."
-unfoldable pub nodeAmong : List ℕ → List ℕ → ℕ → Found
+unfoldable pub nodeAmong : List Span → List Node → ℕ → Found
 nodeAmong [] vs o = Nothing
 nodeAmong (s ∷ ss) vs o = cond (ltb o (endOf s)) (At (getD vs 0 0)) (nodeAmong ss (tail vs) o)
 
@@ -42,7 +42,7 @@ unfoldable pub nodeAt : Graph → ℕ → Found
 nodeAt g o = nodeAmong (g .codes .span) (g .codes .node) o
 
 -- its number, 0 where there is none
-abbrev pub nodeOf : Found → ℕ
+abbrev pub nodeOf : Found → Node
 nodeOf f = elim f [ At v ↦ v | Nothing ↦ 0 ]
 
 -- "yes exactly when there is none or the node is reachable": over paths, and computed
@@ -53,16 +53,16 @@ unfoldable pub canRun : Graph → Found → Bool
 canRun g f = elim f [ At v ↦ eqb (getD (reachable g) v 0) 1 | Nothing ↦ true ]
 
 -- "Run takes a 32-bit offset and gives that node or none, and yes": its number and values
-unfoldable pub run : List ℕ → ℕ → Told
-run ws o = tells (sheetVerdict false ws) (one (canRun (graph ws) (nodeAt (graph ws) o)) ∷ foundValues (nodeAt (graph ws) o))
+unfoldable pub run : List Word → ℕ → Told
+run S o = tells (sheetVerdict false S) (one (canRun (graph S) (nodeAt (graph S) o)) ∷ foundValues (nodeAt (graph S) o))
 
 -- "and returns the three counts"
 abbrev pub countsOf : Graph → Counts
 countsOf g = record { nodes = nodeCount g; codes = length (g .codes .span); names = length (g .names .span) }
 
 -- chart's number and values, where `short` says whether a lent column is too short
-unfoldable pub chart : Bool → List ℕ → Told
-chart short ws = tells (sheetVerdict short ws) (countValues (countsOf (graph ws)))
+unfoldable pub chart : Bool → List Word → Told
+chart short S = tells (sheetVerdict short S) (countValues (countsOf (graph S)))
 
 -- the parallel columns of a chart: those of one count are equally long
 pub record Parallel (g : Graph) : Type 0 where

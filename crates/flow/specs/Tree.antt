@@ -4,18 +4,18 @@ use mathlib.Core.Bool.{cond, _&&_, not}
 use mathlib.Core.List.{List, [], _∷_, _++_}
 use Prim.Native.Nat.{ℕ}
 use lib.Dec.{eqb}
-use Rattle.flow.specs.Sheet.{Item, kind, kindOf, argumentOf}
+use Rattle.flow.specs.Sheet.{Word, Span, Item, kind, kindOf, argumentOf}
 use Rattle.flow.specs.Kinds.{kinds, closes}
 open record kinds using (DO, WHILE, REPEAT, FOR, IF, ELSEIF, ELSE, LABEL)
 
 -- a word w and a span s are those of the statement's first item
 mutual
   pub data Stmt : Type 0 where
-    simple : (w s : ℕ) → Stmt
-    do-block : (w : ℕ) → Block → Stmt
-    while-loop for-loop : (w s : ℕ) → Block → Stmt
-    repeat-loop : (w : ℕ) → Block → (until : ℕ) → Stmt
-    if-stmt : (w s : ℕ) → Block → Arms → Stmt
+    simple : (w : Word) (s : Span) → Stmt
+    do-block : (w : Word) → Block → Stmt
+    while-loop for-loop : (w : Word) (s : Span) → Block → Stmt
+    repeat-loop : (w : Word) → Block → (until : Span) → Stmt
+    if-stmt : (w : Word) (s : Span) → Block → Arms → Stmt
 
   pub data Block : Type 0 where
     done : Block
@@ -23,12 +23,12 @@ mutual
 
   pub data Arms : Type 0 where
     no-more : Arms
-    elseif : (w s : ℕ) → Block → Arms → Arms
-    otherwise : (w : ℕ) → Block → Arms → Arms
+    elseif : (w : Word) (s : Span) → Block → Arms → Arms
+    otherwise : (w : Word) → Block → Arms → Arms
 
 -- an open block as far as it has been read, from its end on; the arms that follow it; the span of the item that closes it
 abbrev pub Frame : Type 0
-Frame = record { body : Block; arms : Arms; close : ℕ }
+Frame = record { body : Block; arms : Arms; close : Span }
 
 -- the open blocks, of which there is always one
 abbrev pub Open : Type 0
@@ -45,8 +45,8 @@ unfoldable pub inFront : Stmt → Open → Open
 inFront st o = record { top = record { body = then st (o .top .body); arms = o .top .arms; close = o .top .close }; below = o .below }
 
 -- a new innermost block, with the arms that follow it
-unfoldable pub opened : Arms → ℕ → Open → Open
-opened as' c o = record { top = record { body = done; arms = as'; close = c }; below = o .top ∷ o .below }
+unfoldable pub opened : Arms → Span → Open → Open
+opened as' s o = record { top = record { body = done; arms = as'; close = s }; below = o .top ∷ o .below }
 
 -- the item i, with all that stands after it read already: a closer starts a block, an opener ends one, ELSEIF and ELSE make it an arm
 unfoldable pub read : Item → Open → Open
@@ -69,12 +69,13 @@ parse (i ∷ is) = read i (parse is)
 unfoldable pub tree : List Item → Block
 tree is = parse is .top .body
 
--- "each named LABEL standing directly in it gets a node, in order"; "name number 0 to 65,535; 0 has no identifier"
+-- the name of a statement that is a named LABEL: "name number 0 to 65,535; 0 has no identifier"
 abbrev pub labelName : Stmt → List ℕ
 labelName st =
-    let name : ℕ → List ℕ = λ w. cond (eqb (kindOf w) LABEL && not (eqb (argumentOf w) 0)) (argumentOf w ∷ []) [] in
-    elim st [ simple w s ↦ name w | do-block w b ↦ [] | while-loop w s b ↦ [] | repeat-loop w b u ↦ [] | for-loop w s b ↦ [] | if-stmt w s b as' ↦ [] ]
+    let name : Word → List ℕ = λ w. cond (eqb (kindOf w) LABEL && not (eqb (argumentOf w) 0)) (argumentOf w ∷ []) [] in
+    elim st [ simple w s ↦ name w | do-block w b ↦ [] | while-loop w s b ↦ [] | repeat-loop w b until ↦ [] | for-loop w s b ↦ [] | if-stmt w s b as' ↦ [] ]
 
+-- "each named LABEL standing directly in it", in a block, "in order"
 unfoldable pub labelsOf : Block → List ℕ
 labelsOf done = []
 labelsOf (then st b) = labelName st ++ labelsOf b

@@ -11,7 +11,8 @@ use Rattle.flow.specs.Sheet.{Item, kind, argumentOf, zip}
 use Rattle.flow.specs.Refusals.{one}
 use Rattle.flow.specs.Tree.{Stmt, Arms, Frame, Open, simple, no-more, nothingRead, outer, inFront, opened, parse, labelName, labelsOf}
 use Rattle.flow.proofs.Nesting.{Made, a-do, a-while, a-repeat, a-for, an-if}
-use Rattle.blocks.specs.Open.{openAt, toCome, isLabel}
+use Rattle.kinds.specs.Label.{isLabel}
+use Rattle.blocks.specs.Open.{openAt, toCome}
 use Rattle.blocks.proofs.Parse.{Reads, opener, arm, closer, other, reads}
 use Rattle.label_check.specs.Walk.{named, Unlabelled, framesLabels, labelsToCome}
 

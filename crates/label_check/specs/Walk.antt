@@ -10,7 +10,8 @@ use Rattle.flow.specs.Refusals.{one}
 use Rattle.flow.specs.Tree.{Block, Frame, Open, outer, parse, tree, labelsOf}
 use Rattle.flow.specs.Labels.{distinct, blockFine, armsFine}
 use Rattle.flow.specs.Admitted.{Tidy}
-use Rattle.blocks.specs.Open.{openAt, labelsAt, isLabel, Scanned}
+use Rattle.kinds.specs.Label.{isLabel}
+use Rattle.blocks.specs.Open.{openAt, labelsAt}
 use Rattle.label_check.specs.declared.Sight.{Sight}
 
 -- ---- how many labels there are
@@ -108,12 +109,6 @@ pub record Entered (as' : List ℕ) (x : Sight) (l : List ℕ) (r : Sight) (m : 
   pub labels : take (r .count) m ≡ take (x .count) l ++ as'
   pub block : inBlock r m ≡ inBlock x l ++ as'
   pub fine : x .fine ≡ distinct (inBlock x l) → r .fine ≡ distinct (inBlock r m)
-
--- a scan on its way: the names that are found are in sight, and the rest of the block's labels are still to come d blocks out
-pub record Scanning (ks ss : List ℕ) (x : Sight) (l : List ℕ) (from d j : ℕ) (t : Sight) (m : List ℕ) : Type 0 where
-  pub found : List ℕ
-  pub entered : Entered found x l t m
-  pub scanned : Scanned ks ss from found d j
 
 -- a block starts at item j, and its labels are not in sight yet
 pub record Entering (ks ss : List ℕ) (j : ℕ) (x : Sight) (labels marks : List ℕ) : Type 0 where

@@ -10,7 +10,7 @@ ghost use Rattle.blocks.specs.Open.{labelsAt, labelsHere};
 ghost use Rattle.label_check.specs.Walk.{openedSight, nextArm, closedSight, jumped, wholeFine, Checkable, Unlabelled, Entered, Walking, After};
 use blocks::depth_after;
 use blocks::ends_at;
-use blocks::is_label;
+use kinds::is_label;
 use words::ARGUMENT;
 use words::kind::DO;
 use words::kind::ELSE;

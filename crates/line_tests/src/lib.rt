@@ -2,50 +2,22 @@
 ghost use mathlib.Core.Path.{_≡_};
 ghost use mathlib.Core.Bool.{true, false, cond, _&&_, not};
 ghost use mathlib.Core.List.{[], _∷_};
-ghost use Prim.Native.Nat.{ℕ, _+_, _%_, _≤_, _<_};
+ghost use Prim.Native.Nat.{_+_, _%_, _≤_, _<_};
 ghost use lib.ListN.{length};
 ghost use Rattle.flow.specs.Sheet.{zip, endOf};
 ghost use Rattle.flow.specs.Kinds.{isCode};
 ghost use Rattle.flow.specs.Refusals.{outnumbered, pairsUp, inLine, scopesAfter, held};
 ghost use Rattle.nesting_tests.specs.Stack.{stackOf};
 ghost use Rattle.line_tests.specs.Turn.{lineFits, heldHere, Room, Scopes};
-use sheet_tests::depth::is_closer;
-use sheet_tests::depth::is_opener;
+use kinds::is_closer;
+use kinds::is_code;
+use kinds::is_opener;
 use words::ARGUMENT;
 use words::HALF;
 use words::SCOPE_END;
 use words::kind::ELSE;
 use words::kind::ELSEIF;
-use words::kind::FOR;
-use words::kind::GOTO;
-use words::kind::IF;
-use words::kind::LABEL;
-use words::kind::LOCAL;
-use words::kind::PLAIN;
 use words::kind::UNTIL;
-use words::kind::WHILE;
-
-// Whether an item is code, whatever its span: of the labels those that have a name.
-fn is_code(word: u64) -> bool
-    ensures { λ r. ⌜ ((s : ℕ) → r ≡ isCode (record { word = word; span = s })) ⌝ }
-{
-    let kind = word % ARGUMENT;
-    match kind {
-        WHILE => true,
-        FOR => true,
-        IF => true,
-        ELSEIF => true,
-        UNTIL => true,
-        LOCAL => true,
-        LABEL => word / ARGUMENT != 0,
-        _ => {
-            if kind < GOTO {
-                return false;
-            }
-            kind <= PLAIN
-        }
-    }
-}
 
 fn line_after(code: bool, span: u64, line: u64) -> u64
     ensures { λ r. ⌜ r ≡ cond code (endOf span) line ⌝ }

@@ -15,11 +15,11 @@ use Rattle.search.specs.Stamps.{stampAll, stampWhen, Ready}
 use Rattle.search.proofs.Closure.{Nodes}
 use Rattle.search.proofs.Worklist.{filter-in, filter-filter}
 use Rattle.search.proofs.Stamps.{when-all, when-one, when-nodes, all-ready}
-use Rattle.flow.specs.Graph.{Graph, nodeCount}
+use Rattle.flow.specs.Graph.{Graph, absent, nodeCount}
 use Rattle.flow.specs.Reachable.{successors}
 use Rattle.flow.specs.Locals.{Declaration}
 use Rattle.flow.specs.Findings.{isAliveAt, liveSuccessors}
-use Rattle.flow.proofs.Flags.{edge-node}
+use Rattle.flow.proofs.Flags.{edge-node, edge-cell}
 use Rattle.live_steps.specs.Walk.{chart, aliveIn}
 
 module _ (n : ℕ) (first second start : List ℕ) (d : Declaration) where
@@ -57,15 +57,15 @@ module _ (n : ℕ) (first second start : List ℕ) (d : Declaration) where
     count-is = length-take-le n first l
 
     -- the live successors of a node, by one test of what its two cells hold
-    live-edges : (u : ℕ) → u < n → liveSuccessors charted d u ≡ filter enters (getD first u 0 ∷ getD second u 0 ∷ [])
-    live-edges u h =
-        filter-filter (λ v. ltb v (nodeCount charted)) (isAliveAt charted d) (getD (take n first) u 0 ∷ getD (take n second) u 0 ∷ [])
-        ∙ (λ i. filter (λ v. ltb v (count-is i) && isAliveAt charted d v) (getD-take n first u 0 h i ∷ getD-take n second u 0 h i ∷ []))
+    live-edges : n ≤ length second → (u : ℕ) → u < n → liveSuccessors charted d u ≡ filter enters (getD first u 0 ∷ getD second u 0 ∷ [])
+    live-edges m u h =
+        filter-filter (λ v. ltb v (nodeCount charted)) (isAliveAt charted d) (getD (take n first) u absent ∷ getD (take n second) u absent ∷ [])
+        ∙ (λ i. filter (λ v. ltb v (count-is i) && isAliveAt charted d v) (edge-cell n first u h l i ∷ edge-cell n second u h m i ∷ []))
         ∙ (λ i. filter (λ v. enters-is v (ltb v n) refl i) (getD first u 0 ∷ getD second u 0 ∷ []))
 
     -- two pushes of what the cells hold
-    pub expanded : (stamp u : ℕ) → u < n → {a b : ℕ} → a ≡ getD first u 0 → b ≡ getD second u 0 → (s s₁ s₂ : State) → s₁ ≡ stampWhen stamp (enters a) a s → s₂ ≡ stampWhen stamp (enters b) b s₁ → s₂ ≡ stampAll stamp (liveSuccessors charted d u) s
-    expanded stamp u h {a} {b} ea eb s s₁ s₂ q r =
+    pub expanded : n ≤ length second → (stamp u : ℕ) → u < n → {a b : ℕ} → a ≡ getD first u 0 → b ≡ getD second u 0 → (s s₁ s₂ : State) → s₁ ≡ stampWhen stamp (enters a) a s → s₂ ≡ stampWhen stamp (enters b) b s₁ → s₂ ≡ stampAll stamp (liveSuccessors charted d u) s
+    expanded m stamp u h {a} {b} ea eb s s₁ s₂ q r =
         r ∙ when-one stamp (enters b) b s₁ ∙ ap (stampAll stamp (filter enters (b ∷ []))) q ∙ when-all stamp (enters a) a (filter enters (b ∷ [])) s
         ∙ (λ i. stampAll stamp (filter enters (ea i ∷ eb i ∷ [])) s)
-        ∙ ap (λ (vs : List ℕ). stampAll stamp vs s) (sym (live-edges u h))
+        ∙ ap (λ (vs : List ℕ). stampAll stamp vs s) (sym (live-edges m u h))

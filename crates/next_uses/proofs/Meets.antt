@@ -11,17 +11,17 @@ use native.Mathlib.Decide.{ℕ-discrete}
 use borrow.Author.Tests.{eq-eqb, ne-eqb, eqb-true, lt-ltb, not-true}
 use lib.Dec.{eqb, ltb}
 use lib.ListN.{length, getD}
-use lib.Seq.{getD-take}
+use Rattle.flow.proofs.Flags.{edge-cell}
 use Rattle.search.proofs.Bools.{and-both}
 use Rattle.search.specs.Search.{In, cons-if, filter, closure}
 use Rattle.search.proofs.Worklist.{filter-in}
 use Rattle.search.proofs.Alike.{closure-alike}
 use Rattle.flow.specs.Sheet.{member}
-use Rattle.flow.specs.Graph.{Graph, nodeCount}
+use Rattle.flow.specs.Graph.{Graph, absent, nodeCount}
 use Rattle.flow.specs.Reachable.{successors}
 use Rattle.flow.specs.Locals.{Declaration}
-use Rattle.flow.specs.Findings.{Use, isRead, isAliveAt, noUse, aRead, aPureWrite, meeting, firstAt, isNoUse, below, meetsHere, comesFrom, meets}
-use Rattle.flow.proofs.Members.{both-and, append-in, in-append, in-filter, below-in, in-below, member-in, in-member}
+use Rattle.flow.specs.Findings.{Use, isRead, isAliveAt, noUse, aRead, aPureWrite, meeting, firstAt, isNoUse, range, meetsHere, predecessors, meets}
+use Rattle.flow.proofs.Members.{both-and, append-in, in-append, in-filter, range-in, in-range, member-in, in-member}
 use Rattle.use_words.specs.Words.{useOf, usesIn, AllPlaced}
 use Rattle.live_steps.specs.Walk.{chart, aliveIn}
 use Rattle.live_steps.proofs.Steps.{alive-in, count-is}
@@ -129,7 +129,7 @@ module _ (ws : List ℕ) where
 
 -- ---- the columns of a graph and of a local's uses
 
-module _ (n : ℕ) (first second start : List ℕ) (h : n ≤ length first) (d : Declaration) where
+module _ (n : ℕ) (first second start : List ℕ) (h : n ≤ length first) (j : n ≤ length second) (d : Declaration) where
   abbrev g : Graph
   g = chart n first second start
 
@@ -142,17 +142,17 @@ module _ (n : ℕ) (first second start : List ℕ) (h : n ≤ length first) (d :
   -- an edge, by the successors
   module _ (u v : ℕ) (k : u < n) where
     abbrev cells : List ℕ
-    cells = getD (g .nodes .first) u 0 ∷ getD (g .nodes .second) u 0 ∷ []
+    cells = getD (g .nodes .first) u absent ∷ getD (g .nodes .second) u absent ∷ []
 
     leads-edge : v < n → Leads first second v u → member v (successors g u) ≡ true
     leads-edge l p =
         in-member v (successors g u)
         (in-filter (λ x. ltb x (nodeCount g)) cells v
-        (⊎-elim (λ e. inl (sym (getD-take n first u 0 k ∙ e))) (λ e. inr (inl (sym (getD-take n second u 0 k ∙ e)))) p) (lt-ltb v (nodeCount g) (omega (arith, count))))
+        (⊎-elim (λ e. inl (sym (edge-cell n first u k h ∙ e))) (λ e. inr (inl (sym (edge-cell n second u k j ∙ e)))) p) (lt-ltb v (nodeCount g) (omega (arith, count))))
 
     edge-leads : member v (successors g u) ≡ true → Leads first second v u
     edge-leads e =
-        ⊎-elim (λ q. inl (sym (q ∙ getD-take n first u 0 k))) (⊎-elim (λ q. inr (sym (q ∙ getD-take n second u 0 k))) (λ z. absurd z))
+        ⊎-elim (λ q. inl (sym (q ∙ edge-cell n first u k h))) (⊎-elim (λ q. inr (sym (q ∙ edge-cell n second u k j))) (λ z. absurd z))
         (filter-in (λ x. ltb x (nodeCount g)) cells v (member-in v (successors g u) e) .0)
 
   module _ (ws : List ℕ) (placed : AllPlaced n ws) where
@@ -209,7 +209,7 @@ module _ (n : ℕ) (first second start : List ℕ) (h : n ≤ length first) (d :
       -- ---- the flags
 
       abbrev from : ℕ → ℕ → List ℕ
-      from k v = filter (λ u. member v (successors g u) && meetsHere g d us isNoUse u) (below k)
+      from k v = filter (λ u. member v (successors g u) && meetsHere g d us isNoUse u) (range k)
 
       abbrev next : ℕ → List ℕ
       next v = filter (passes start d stamp used) (predsOf first second v n)
@@ -218,32 +218,32 @@ module _ (n : ℕ) (first second start : List ℕ) (h : n ≤ length first) (d :
       goes v u k i =
           let q = filter-in (passes start d stamp used) (predsOf first second v n) u i in
           let r = in-preds first second v n u (q .0) in
-          in-filter (λ x. member v (successors g x) && meetsHere g d us isNoUse x) (below n) u (below-in n u (r .0)) (both-and (leads-edge u v (r .0) k (r .1)) (sym (passes-is u (r .0)) ∙ q .1))
+          in-filter (λ x. member v (successors g x) && meetsHere g d us isNoUse x) (range n) u (range-in n u (r .0)) (both-and (leads-edge u v (r .0) k (r .1)) (sym (passes-is u (r .0)) ∙ q .1))
 
       comes : (v u : ℕ) → v < n → In u (from n v) → In u (next v)
       comes v u k i =
-          let q = filter-in (λ x. member v (successors g x) && meetsHere g d us isNoUse x) (below n) u i in
+          let q = filter-in (λ x. member v (successors g x) && meetsHere g d us isNoUse x) (range n) u i in
           let r = and-both (member v (successors g u)) (meetsHere g d us isNoUse u) (q .1) in
-          let l : u < n = in-below n u (q .0) in
+          let l : u < n = in-range n u (q .0) in
           in-filter (passes start d stamp used) (predsOf first second v n) u (preds-in first second v n u l (edge-leads u v l (r .0))) (passes-is u l ∙ r .1)
 
       module _ (pure : Bool) (rising : Rising ws) where
         abbrev meeting-here : ℕ → Bool
         meeting-here = meetsHere g d us (sortOf pure)
 
-        at-count : backFlags start d ws pure stamp used first second n ≡ closure (filter meeting-here (below n)) (from n) n
+        at-count : backFlags start d ws pure stamp used first second n ≡ closure (filter meeting-here (range n)) (from n) n
         at-count =
             let s = backSearch start d ws pure n placed stamp used first second in
-            closure-alike n (allStarts start d ws pure) (filter meeting-here (below n)) next (from n)
+            closure-alike n (allStarts start d ws pure) (filter meeting-here (range n)) next (from n)
             (s .starts-in) (s .next-in)
-            (λ v i. in-below n v (filter-in meeting-here (below n) v i .0))
-            (λ v u i. in-below n u (filter-in (λ x. member v (successors g x) && meetsHere g d us isNoUse x) (below n) u i .0))
+            (λ v i. in-range n v (filter-in meeting-here (range n) v i .0))
+            (λ v u i. in-range n u (filter-in (λ x. member v (successors g x) && meetsHere g d us isNoUse x) (range n) u i .0))
             (λ v i. let r = in-starts start d ws pure (length ws) v i in
-            rw (r .3) (in-filter meeting-here (below n) (nodeAt ws (r .0)) (below-in n (nodeAt ws (r .0)) (placed (r .0) (r .1))) (starts-meet pure rising (r .0) (r .1) (r .2))))
-            (λ v i. let r = filter-in meeting-here (below n) v i in meet-starts pure v (in-below n v (r .0)) (r .1))
+            rw (r .3) (in-filter meeting-here (range n) (nodeAt ws (r .0)) (range-in n (nodeAt ws (r .0)) (placed (r .0) (r .1))) (starts-meet pure rising (r .0) (r .1) (r .2))))
+            (λ v i. let r = filter-in meeting-here (range n) v i in meet-starts pure v (in-range n v (r .0)) (r .1))
             goes comes
 
         pub meets-are : backFlags start d ws pure stamp used first second n ≡ meets g d us (sortOf pure)
-        unfolding meets comesFrom
+        unfolding meets predecessors
         meets-are =
-            subst (λ (k : ℕ). backFlags start d ws pure stamp used first second n ≡ closure (filter meeting-here (below k)) (from k) k) (sym count) at-count
+            subst (λ (k : ℕ). backFlags start d ws pure stamp used first second n ≡ closure (filter meeting-here (range k)) (from k) k) (sym count) at-count

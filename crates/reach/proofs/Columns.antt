@@ -9,7 +9,7 @@ use lib.ListN.{length, getD, take}
 use lib.Seq.{length-take-le}
 use Rattle.search.specs.Search.{closure, filter}
 use Rattle.search.proofs.Worklist.{Search, flags, filter-below}
-use Rattle.flow.specs.Graph.{Graph, nodeCount, entryNode}
+use Rattle.flow.specs.Graph.{Graph, absent, nodeCount, entryNode}
 use Rattle.flow.specs.Reachable.{reachable}
 use Rattle.reach.specs.Columns.{edges}
 
@@ -21,7 +21,7 @@ fromEntry first second n =
       starts = filter (λ v. ltb v n) (entryNode ∷ []);
       next = edges first second n;
       starts-in = filter-below n (entryNode ∷ []);
-      next-in = λ u. filter-below n (getD (take n first) u 0 ∷ getD (take n second) u 0 ∷ []);
+      next-in = λ u. filter-below n (getD (take n first) u absent ∷ getD (take n second) u absent ∷ []);
     }
 
 pub entry-kept : (n : ℕ) → entryNode < n → filter (λ v. ltb v n) (entryNode ∷ []) ≡ entryNode ∷ []
@@ -32,4 +32,4 @@ unfolding reachable
 flags-of first second n l h g e f =
     let count : nodeCount g ≡ n = ap length e ∙ length-take-le n first l in
     let start : entryNode ∷ [] ≡ filter (λ v. ltb v n) (entryNode ∷ []) = sym (entry-kept n h) in
-    sym (λ i. closure (start i) (λ u. filter (λ v. ltb v (count i)) (getD (e i) u 0 ∷ getD (f i) u 0 ∷ [])) (count i))
+    sym (λ i. closure (start i) (λ u. filter (λ v. ltb v (count i)) (getD (e i) u absent ∷ getD (f i) u absent ∷ [])) (count i))

@@ -7,7 +7,7 @@ use native.Mathlib.Omega.{arith}
 use lib.ListN.{length, getD, take, drop, length-drop}
 use lib.Seq.{length-take-le}
 use Rattle.flow.specs.Refusals.{miscount}
-use Rattle.flow.specs.Sheet.{count}
+use Rattle.flow.specs.Sheet.{countWord}
 use Rattle.flow.proofs.Tests.{counted as counted-right}
 use Rattle.sheet_parts.specs.Parts.{Counted}
 
@@ -16,10 +16,10 @@ counted h ws e = let c = counted-right h ws e in record { few = c .1; long = c .
 
 -- the arrays as the definitions have them
 abbrev pub firstArray : ℕ → List ℕ → List ℕ
-firstArray h ws = take (count ws) (drop h ws)
+firstArray h ws = take (countWord ws) (drop h ws)
 
 abbrev pub secondArray : ℕ → List ℕ → List ℕ
-secondArray h ws = take (count ws) (drop (h + count ws) ws)
+secondArray h ws = take (countWord ws) (drop (h + countWord ws) ws)
 
 module _ (h : ℕ) (ws : List ℕ) (c : Counted h ws) where
   -- the parts as the code takes them
@@ -33,11 +33,11 @@ module _ (h : ℕ) (ws : List ℕ) (c : Counted h ws) where
       let z : length ws - (h + getD ws 0 0) ≡ getD ws 0 0 = omega (arith, c .long) in
       ap (λ (n : ℕ). take n (drop (h + getD ws 0 0) ws)) z
 
-  pub first-length : length (firstArray h ws) ≡ count ws
-  first-length = length-take-le (count ws) (drop h ws) (simp length-drop (omega (arith, c .long)))
+  pub first-length : length (firstArray h ws) ≡ countWord ws
+  first-length = length-take-le (countWord ws) (drop h ws) (simp length-drop (omega (arith, c .long)))
 
-  pub second-length : length (secondArray h ws) ≡ count ws
-  second-length = length-take-le (count ws) (drop (h + count ws) ws) (simp length-drop (omega (arith, c .long)))
+  pub second-length : length (secondArray h ws) ≡ countWord ws
+  second-length = length-take-le (countWord ws) (drop (h + countWord ws) ws) (simp length-drop (omega (arith, c .long)))
 
   -- what each test of the parts asks
   pub part-lengths : (length (firstArray h ws) ≡ length (secondArray h ws)) × (length (firstArray h ws) ≤ 1024)

@@ -4,9 +4,9 @@ use mathlib.Core.Path.{_≡_}
 use mathlib.Core.List.{List}
 use Prim.Native.Nat.{ℕ, _+_, _*_, _≤_}
 use lib.ListN.{length}
-use Rattle.flow.specs.Sheet.{count}
+use Rattle.flow.specs.Sheet.{countWord}
 
 -- a sheet with h words before its two arrays (2, or 1 for a use sheet) that is counted right
 pub record Counted (h : ℕ) (ws : List ℕ) : Type 0 where
-  pub few : count ws ≤ 1024
-  pub long : length ws ≡ 2 * count ws + h
+  pub few : countWord ws ≤ 1024
+  pub long : length ws ≡ 2 * countWord ws + h

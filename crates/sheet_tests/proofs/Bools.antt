@@ -5,10 +5,6 @@ use mathlib.Core.Path.{_≡_, refl}
 use native.Mathlib.Nat.{le-refl}
 use Rattle.flow.specs.Refusals.{one}
 
-pub or-false : (b : Bool) → (b || false) ≡ b
-or-false true = refl
-or-false false = refl
-
 pub and-assoc : (a b c : Bool) → (a && b && c) ≡ (a && (b && c))
 and-assoc true b c = refl
 and-assoc false b c = refl

@@ -3,31 +3,10 @@ ghost use mathlib.Core.Path.{_≡_};
 ghost use Prim.Native.Nat.{_≤_};
 ghost use lib.ListN.{length};
 ghost use Rattle.flow.specs.Sheet.{zip};
-ghost use Rattle.flow.specs.Kinds.{opens, closes};
 ghost use Rattle.flow.specs.Refusals.{outnumbered};
+use kinds::is_closer;
+use kinds::is_opener;
 use words::ARGUMENT;
-use words::kind::DO;
-use words::kind::END;
-use words::kind::IF;
-use words::kind::UNTIL;
-
-pub fn is_opener(kind: u64) -> bool
-    ensures { λ r. ⌜ r ≡ opens kind ⌝ }
-{
-    if kind < DO {
-        return false;
-    }
-    kind <= IF
-}
-
-pub fn is_closer(kind: u64) -> bool
-    ensures { λ r. ⌜ r ≡ closes kind ⌝ }
-{
-    if kind == END {
-        return true;
-    }
-    kind == UNTIL
-}
 
 // What a test adds to a count.
 pub fn one(yes: bool) -> u64

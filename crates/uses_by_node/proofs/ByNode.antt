@@ -15,9 +15,9 @@ use Rattle.flow.specs.Sheet.{member}
 use Rattle.flow.specs.Graph.{Graph, nodeCount}
 use Rattle.flow.specs.Reachable.{successors}
 use Rattle.flow.specs.Locals.{onlyIf, Declaration}
-use Rattle.flow.specs.Findings.{Use, node, isRead, isWrite, isAliveAt, Meeting, noUse, aRead, aPureWrite, meeting, firstAt, isNoUse, isARead, isAPureWrite, below, meetsHere, comesFrom, meets, orElse, Ahead, ahead, isOverwritten, isOverwrittenUnread, overwrittenAt, overwrittenBelow}
+use Rattle.flow.specs.Findings.{Use, node, isRead, isWrite, isAliveAt, Meeting, noUse, aRead, aPureWrite, meeting, firstAt, isNoUse, isARead, isAPureWrite, range, meetsHere, predecessors, meets, orElse, Ahead, ahead, isOverwritten, isOverwrittenUnread, overwrittenAt, overwrittenBelow}
 use Rattle.flow.proofs.Laws.{mem-append}
-use Rattle.flow.proofs.Members.{in-below}
+use Rattle.flow.proofs.Members.{in-range}
 use Rattle.flow.proofs.OwnUses.{Renumbers, renumbered-overwritten}
 use Rattle.flow.proofs.Order.{Rising as RisingBy, nil, cons, rising-append, rising-at}
 use Rattle.use_words.specs.Words.{nodeIn, useOf, usesIn, spanless}
@@ -149,16 +149,16 @@ module _ (g : Graph) (d : Declaration) (us vs : List Use) (same : (v : ℕ) → 
   unfolding meetsHere
   here-alike m v h = ap (λ (x : Meeting). isAliveAt g d v && m x) (same v h)
 
-  from-alike : (v : ℕ) → comesFrom g d us v ≡ comesFrom g d vs v
-  unfolding comesFrom
+  from-alike : (v : ℕ) → predecessors g d us v ≡ predecessors g d vs v
+  unfolding predecessors
   from-alike v =
-      filter-same _ _ (below (nodeCount g)) (λ u i. ap (λ (b : Bool). member v (successors g u) && b) (here-alike isNoUse u (in-below (nodeCount g) u i)))
+      filter-same _ _ (range (nodeCount g)) (λ u i. ap (λ (b : Bool). member v (successors g u) && b) (here-alike isNoUse u (in-range (nodeCount g) u i)))
 
   meets-alike : (m : Meeting → Bool) → meets g d us m ≡ meets g d vs m
   unfolding meets
   meets-alike m =
       ap₂ (λ (starts : List ℕ) (next : ℕ → List ℕ). closure starts next (nodeCount g))
-      (filter-same _ _ (below (nodeCount g)) (λ v i. here-alike m v (in-below (nodeCount g) v i))) (fun-ext from-alike)
+      (filter-same _ _ (range (nodeCount g)) (λ v i. here-alike m v (in-range (nodeCount g) v i))) (fun-ext from-alike)
 
   pub ahead-alike : ahead g d us ≡ ahead g d vs
   unfolding ahead

@@ -9,13 +9,14 @@ use native.Mathlib.Decide.{decLt}
 use borrow.Author.Tests.{lt-ltb, le-ltb}
 use lib.Dec.{eqb, ltb}
 use lib.ListN.{length, getD}
-use lib.Seq.{getD-take, length-take-le}
+use lib.Seq.{length-take-le}
 use Rattle.search.specs.Search.{filter}
 use Rattle.search.specs.Stamps.{flagsOf}
 use Rattle.search.proofs.Stamps.{flag-at, flag-test}
 use Rattle.flow.specs.Graph.{Graph}
 use Rattle.flow.specs.Reachable.{successors}
 use Rattle.flow.specs.Findings.{Ahead, anyFlag, isOverwrittenUnread}
+use Rattle.flow.proofs.Flags.{edge-cell}
 use Rattle.live_steps.specs.Walk.{chart}
 
 or-false : (b : Bool) → (b || false) ≡ b
@@ -39,10 +40,10 @@ module _ (stamp n : ℕ) (marks : List ℕ) where
   none-left = refl
 
   -- whether a successor of v is marked, by the two cells
-  module _ (first second start : List ℕ) (v : ℕ) (l : n ≤ length first) (h : v < n) (x y : ℕ) (p : x ≡ getD first v 0) (q : y ≡ getD second v 0) where
+  module _ (first second start : List ℕ) (v : ℕ) (l : n ≤ length first) (m : n ≤ length second) (h : v < n) (x y : ℕ) (p : x ≡ getD first v 0) (q : y ≡ getD second v 0) where
     any-marked : anyFlag (flagsOf stamp n marks) (successors (chart n first second start) v) ≡ (markedAt x || markedAt y)
     any-marked =
-        rw (length-take-le n first l, getD-take n first v 0 h, getD-take n second v 0 h, ← p, ← q)
+        rw (length-take-le n first l, edge-cell n first v h l, edge-cell n second v h m, ← p, ← q)
         (one-more x (y ∷ []) ∙ ap (λ (b : Bool). markedAt x || b) (one-more y [] ∙ ap (λ (b : Bool). markedAt y || b) none-left ∙ or-false (markedAt y)))
 
     pub first-marked : markedAt x ≡ true → true ≡ anyFlag (flagsOf stamp n marks) (successors (chart n first second start) v)

@@ -70,7 +70,7 @@ use Rattle.cfg_steps.proofs.GraphBuilder.return_to.Reads as return-to-reads
 use Rattle.cfg_steps.proofs.GraphBuilder.simple_stmt.Reads as simple-stmt-reads
 use Rattle.cfg_steps.proofs.GraphBuilder.while_head.Reads as while-head-reads
 use Rattle.blocks.proofs.ends_at.Reads as ends-at-reads
-use Rattle.cfg_edges.proofs.literal_truth.Reads as literal-truth-reads
+use Rattle.kinds.proofs.literal_truth.Reads as literal-truth-reads
 use Rattle.cfg.proofs.+arm+arms+block+for_loop+if_stmt+loop_body+repeat_loop+scoped_block+stmt+while_loop.{
   statement,
 }

@@ -61,7 +61,7 @@ returns c =
     let m = pushed l in
     let e = entered m in
     let a = e .args in
-    expanded (a .n) (now (a .first)) (now (a .second)) (now (a .start)) (declared (a .declaration)) (e .pre .1 .0 .firsts) (a .stamp) (a .u) (e .pre .1 .1) (m .before .before .before .at .ensures) (l .before .before .before .at2 .ensures) (held e) (between m) (after l) (m .push-alive .ensures) (l .push-alive2 .ensures)
+    expanded (a .n) (now (a .first)) (now (a .second)) (now (a .start)) (declared (a .declaration)) (e .pre .1 .0 .firsts) (e .pre .1 .0 .seconds) (a .stamp) (a .u) (e .pre .1 .1) (m .before .before .before .at .ensures) (l .before .before .before .at2 .ensures) (held e) (between m) (after l) (m .push-alive .ensures) (l .push-alive2 .ensures)
 
 pub expand-spec : {M : Type 1} → statement M
 expand-spec =

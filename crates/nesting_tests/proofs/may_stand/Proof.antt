@@ -1,8 +1,8 @@
 -- `nesting_tests::may_stand` meets its contract. Assumes nothing.
 use mathlib.Core.Path.{sym}
+use mathlib.Core.Bool.{or-false}
 use borrow.Author.Tests.{eq-eqb, ne-eqb}
 use Rattle.flow.specs.Refusals.{mayStand}
-use Rattle.sheet_tests.proofs.Bools.{or-false}
 use Rattle.nesting_tests.proofs.may_stand.Statement.{statement}
 use Rattle.nesting_tests.proofs.may_stand.Tie as tie
 

@@ -28,11 +28,11 @@ abbrev read : tie.After-search-back2 → tie.After-search-back
 read c = c .before .before .before .before .before .before .before .before
 
 -- what a search for a sort leaves are the flags of the specification
-found : (c : tie.After-mark-used) (pure : Bool) (f s : List ℕ) → let a = begun c .args in length f ≡ a .n → backFlags (now (a .start)) (declared (a .declaration)) (now (a .sorted)) pure (a .stamp) (c .mark-used .last .1 .0) f s (a .n) ≡ meets (chart (a .n) f s (now (a .start))) (declared (a .declaration)) (usesIn (now (a .sorted))) (sortOf pure)
-found c pure f s e =
+found : (c : tie.After-mark-used) (pure : Bool) (f s : List ℕ) → let a = begun c .args in length f ≡ a .n → length s ≡ a .n → backFlags (now (a .start)) (declared (a .declaration)) (now (a .sorted)) pure (a .stamp) (c .mark-used .last .1 .0) f s (a .n) ≡ meets (chart (a .n) f s (now (a .start))) (declared (a .declaration)) (usesIn (now (a .sorted))) (sortOf pure)
+found c pure f s e j =
     let a = begun c .args in
     let p = begun c .pre .1 .0 in
-    meets-are (a .n) f s (now (a .start)) (omega arith) (declared (a .declaration)) (now (a .sorted)) (p .0) (a .stamp) (c .mark-used .last .1 .0) (c .mark-used .ensures .0) pure (p .1)
+    meets-are (a .n) f s (now (a .start)) (omega arith) (omega arith) (declared (a .declaration)) (now (a .sorted)) (p .0) (a .stamp) (c .mark-used .last .1 .0) (c .mark-used .ensures .0) pure (p .1)
 
 mark-used-requires : tie.Need-mark-used-requires
 mark-used-requires c κs =
@@ -70,9 +70,9 @@ returns c =
     let w = c .before .before .before .before in
     let r = read w in
     let m = marked r in (
-      λ f s e _ k. record {
-        reads-are = r .search-back .ensures .0 f s k ∙ found m false f s e;
-        writes-are = w .search-back2 .ensures .0 f s k ∙ found m true f s e;
+      λ f s e j k. record {
+        reads-are = r .search-back .ensures .0 f s k ∙ found m false f s e j;
+        writes-are = w .search-back2 .ensures .0 f s k ∙ found m true f s e j;
       },
       (m .mark-used .ensures .1, r .search-back .ensures .1, w .search-back2 .ensures .1),
     )

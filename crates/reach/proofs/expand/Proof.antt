@@ -1,22 +1,23 @@
 -- `reach::expand` meets its contract: two pushes.
 -- Assumes nothing.
-use Prim.Native.Nat.{ℕ, _<_}
+use Prim.Native.Nat.{ℕ, _<_, _≤_}
 use mathlib.Core.Path.{_≡_, sym, ap, _∙_}
 use mathlib.Core.List.{List}
 use borrow.Author.Needs.{needs}
 use borrow.Author.Tests.{ltb-true}
 use denote.Ref.{now}
 use lib.Dec.{ltb}
-use lib.ListN.{getD, take}
-use lib.Seq.{getD-take}
+use lib.ListN.{length, getD, take}
 use Rattle.search.specs.Worklist.{State, st, pushIf, Room}
 use Rattle.search.proofs.Worklist.{two-pushes, if-moved}
+use Rattle.flow.specs.Graph.{absent}
+use Rattle.flow.proofs.Flags.{edge-cell}
 use Rattle.reach.proofs.expand.Statement.{statement}
 use Rattle.reach.proofs.expand.Tie as tie
 
 -- what was read from a column's cell was pushed
-cell : (n u x : ℕ) (column : List ℕ) (s t : State) → u < n → x ≡ getD column u 0 → t ≡ pushIf (λ v. ltb v n) x s → t ≡ pushIf (λ v. ltb v n) (getD (take n column) u 0) s
-cell n u x column s t h e q = q ∙ ap (λ (y : ℕ). pushIf (λ v. ltb v n) y s) (e ∙ sym (getD-take n column u 0 h))
+cell : (n u x : ℕ) (column : List ℕ) (s t : State) → u < n → n ≤ length column → x ≡ getD column u 0 → t ≡ pushIf (λ v. ltb v n) x s → t ≡ pushIf (λ v. ltb v n) (getD (take n column) u absent) s
+cell n u x column s t h l e q = q ∙ ap (λ (y : ℕ). pushIf (λ v. ltb v n) y s) (e ∙ sym (edge-cell n column u h l))
 
 at-requires : tie.Need-at-requires
 at-requires c κs = search needs
@@ -60,8 +61,8 @@ returns c =
     let a = entered q in
     let n = a .args .n in
     two-pushes (λ v. ltb v n) _ _ (before a) (between q) (after r)
-    (cell n (a .args .u) (q .before .before .before .at .result) (now (a .args .first)) (before a) (between q) (a .pre .1 .2) (q .before .before .before .at .ensures) (q .push-node .ensures))
-    (cell n (a .args .u) (r .before .before .before .at2 .result) (now (a .args .second)) (between q) (after r) (a .pre .1 .2) (r .before .before .before .at2 .ensures) (r .push-node2 .ensures))
+    (cell n (a .args .u) (q .before .before .before .at .result) (now (a .args .first)) (before a) (between q) (a .pre .1 .2) (a .pre .1 .0) (q .before .before .before .at .ensures) (q .push-node .ensures))
+    (cell n (a .args .u) (r .before .before .before .at2 .result) (now (a .args .second)) (between q) (after r) (a .pre .1 .2) (a .pre .1 .1) (r .before .before .before .at2 .ensures) (r .push-node2 .ensures))
 
 pub expand-spec : {M : Type 1} → statement M
 expand-spec =

@@ -30,7 +30,7 @@ returns c =
     let m = c .before in
     let s = begun m in
     let a = s .args in
-    first-marked (a .stamp) (a .n) (now (a .marks)) (now (a .first)) (now (a .second)) [] (a .v) (s .pre .0) (s .pre .3) (m .before .at .result) (getD (now (a .second)) (a .v) 0) (m .before .at .ensures) refl
+    first-marked (a .stamp) (a .n) (now (a .marks)) (now (a .first)) (now (a .second)) [] (a .v) (s .pre .0) (s .pre .1) (s .pre .3) (m .before .at .result) (getD (now (a .second)) (a .v) 0) (m .before .at .ensures) refl
     (sym (m .is-marked .ensures) ∙ c .if1 .taken)
 
 returns-2 : tie.Need-returns-2
@@ -39,7 +39,7 @@ returns-2 c =
     let s = begun m in
     let a = s .args in
     c .is-marked2 .ensures
-    ∙ second-decides (a .stamp) (a .n) (now (a .marks)) (now (a .first)) (now (a .second)) [] (a .v) (s .pre .0) (s .pre .3) (m .before .at .result) (c .before .at2 .result) (m .before .at .ensures) (c .before .at2 .ensures)
+    ∙ second-decides (a .stamp) (a .n) (now (a .marks)) (now (a .first)) (now (a .second)) [] (a .v) (s .pre .0) (s .pre .1) (s .pre .3) (m .before .at .result) (c .before .at2 .result) (m .before .at .ensures) (c .before .at2 .ensures)
     (sym (m .is-marked .ensures) ∙ c .before .before .if1 .left)
 
 pub is-ahead-spec : {M : Type 1} → statement M

@@ -7,20 +7,21 @@ use native.Mathlib.Omega.{arith}
 use borrow.Author.Needs.{needs}
 use lib.ListN.{length}
 use denote.Ref.{now}
-use Rattle.blocks.proofs.Scan.{depth-step}
-use Rattle.label_check.specs.Walk.{Scanning}
-use Rattle.label_check.proofs.Scan.{scan-start, scan-more, scan-ended, scan-over, scan-room}
+use Rattle.blocks.proofs.Scan.{depth-step, Scanning, scan-start, scan-more, scan-none, scan-ended, scan-room}
+use Rattle.label_check.specs.Walk.{Entered}
+use Rattle.label_check.proofs.Named.{none-to-come}
+use Rattle.label_check.proofs.Scan.{entered-none, entered-trans}
 use Rattle.label_check.proofs.Sight.enter.Statement.{statement}
 use Rattle.label_check.proofs.Sight.enter.Tie as tie
 
 abbrev Inv-loop : tie.InvT-loop
-Inv-loop kinds labels₀ end from s₀ depth₀ j₀ labels s depth j = (depth ≤ j) × ((ss : List ℕ) → length ss ≡ length kinds → Scanning kinds ss s₀ labels₀ from depth j s labels)
+Inv-loop kinds labels₀ end from s₀ depth₀ j₀ labels s depth j = (depth ≤ j) × ((ss : List ℕ) → length ss ≡ length kinds → Scanning (λ as'. Entered as' s₀ labels₀ s labels) kinds ss from depth j)
 
 abbrev μ-loop : tie.MeasureT-loop
 μ-loop kinds labels₀ end from s₀ depth₀ j₀ labels s depth j = end - j
 
 loop-holds : tie.Need-loop-holds Inv-loop μ-loop
-loop-holds c = (omega arith, λ ss e. scan-start _ ss _ _ _)
+loop-holds c = (omega arith, λ ss e. scan-start (entered-none _ _))
 
 mul-w : tie.Need-mul-w Inv-loop μ-loop
 mul-w c = omega arith
@@ -40,7 +41,7 @@ label-here-requires c κs =
     let s = c .before .before .before .before .before .loop .inv .1 ks refl in
     let h = s .entered in (
       omega (arith, h .base, h .count, c .before .before .before .before .before .before .before .pre .1 .0 .0),
-      scan-room refl s (omega (arith, c .before .before .before .before .loop-test .taken, c .before .before .before .before .before .before .before .pre .0 .0 .within)) (sym (c .before .before .ends-at .ensures) ∙ c .before .if1 .left) (c .before .before .before .before .before .before .before .pre .1 .1 ks refl),
+      scan-room refl s (omega (arith, c .before .before .before .before .loop-test .taken, c .before .before .before .before .before .before .before .pre .0 .0 .within)) (sym (c .before .before .ends-at .ensures) ∙ c .before .if1 .left) (c .before .before .before .before .before .before .before .args .self .count) (h .count) (c .before .before .before .before .before .before .before .pre .1 .1 ks refl),
       h .long ∙ c .before .before .before .before .before .before .before .pre .1 .0 .1,
     )
 
@@ -56,11 +57,11 @@ loop-less c = omega (arith, c .before .before .before .before .before .before .l
 loop-again : tie.Need-loop-again Inv-loop μ-loop
 loop-again c = (
   depth-step _ _ _ (c .depth-after .ensures) (c .before .before .before .before .before .before .before .loop .inv .0),
-  λ ss e. rw (c .depth-after .ensures) (scan-more e (c .before .before .before .before .before .before .before .loop .inv .1 ss e) (omega (arith, c .before .before .before .before .before .before .loop-test .taken, c .before .before .before .before .before .before .before .before .before .pre .0 .0 .within)) (sym (c .before .before .before .before .ends-at .ensures) ∙ c .before .before .before .if1 .left) (c .before .label-here .ensures)),
+  λ ss e. rw (c .depth-after .ensures) (scan-more e (c .before .before .before .before .before .before .before .loop .inv .1 ss e) (omega (arith, c .before .before .before .before .before .before .loop-test .taken, c .before .before .before .before .before .before .before .before .before .pre .0 .0 .within)) (sym (c .before .before .before .before .ends-at .ensures) ∙ c .before .before .before .if1 .left) (entered-trans (c .before .label-here .ensures))),
 )
 
 returns-2 : tie.Need-returns-2 Inv-loop μ-loop
-returns-2 c = λ ss e. scan-over e (c .before .loop .inv .1 ss e) _ (c .before .before .before .pre .0 .0) (c .loop-test .left)
+returns-2 c = λ ss e. scan-none e (c .before .loop .inv .1 ss e) (none-to-come _ ss e _ (c .before .before .before .pre .0 .0) _ (c .loop-test .left) (c .before .loop .depth))
 
 pub enter-spec : {M : Type 1} → statement M
 enter-spec =

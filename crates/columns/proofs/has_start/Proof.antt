@@ -1,4 +1,4 @@
--- `code_columns::has_start` meets its contract: 8 and 9, which the code tests as a range, and 12 give no start.
+-- `columns::has_start` meets its contract: 8 and 9, which the code tests as a range, and 12 give no start.
 -- Assumes nothing.
 use mathlib.Core.Path.{_≡_, refl}
 use mathlib.Core.Bool.{Bool, true, false, not, _||_}
@@ -8,8 +8,8 @@ use native.Mathlib.Omega.{arith}
 use lib.Dec.{eqb}
 use borrow.Author.Tests.{eq-eqb, ne-eqb, eqb-false}
 use Rattle.flow.specs.Sheet.{member}
-use Rattle.code_columns.proofs.has_start.Statement.{statement}
-use Rattle.code_columns.proofs.has_start.Tie as tie
+use Rattle.columns.proofs.has_start.Statement.{statement}
+use Rattle.columns.proofs.has_start.Tie as tie
 
 some : (k : ℕ) → (k ≡ 8 → ⊥) → (k ≡ 9 → ⊥) → (k ≡ 12 → ⊥) → true ≡ not (member k (8 ∷ 9 ∷ 12 ∷ []))
 some k p q r = rw (ne-eqb k 8 p, ne-eqb k 9 q, ne-eqb k 12 r)

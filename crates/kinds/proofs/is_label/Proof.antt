@@ -1,8 +1,8 @@
--- `blocks::is_label` meets its contract: the two tests.
+-- `kinds::is_label` meets its contract: the two tests.
 -- Assumes nothing.
 use borrow.Author.Tests.{eq-eqb, ne-eqb}
-use Rattle.blocks.proofs.is_label.Statement.{statement}
-use Rattle.blocks.proofs.is_label.Tie as tie
+use Rattle.kinds.proofs.is_label.Statement.{statement}
+use Rattle.kinds.proofs.is_label.Tie as tie
 
 returns : tie.Need-returns
 returns c = simp (ne-eqb _ _ (c .if1 .taken))

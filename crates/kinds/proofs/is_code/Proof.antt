@@ -1,9 +1,9 @@
--- `line_tests::is_code` meets its contract. Assumes nothing.
+-- `kinds::is_code` meets its contract. Assumes nothing.
+use mathlib.Core.Bool.{or-false}
 use borrow.Author.Tests.{le-leb, lt-leb, ne-eqb}
 use Rattle.flow.specs.Kinds.{isCode}
-use Rattle.sheet_tests.proofs.Bools.{or-false}
-use Rattle.line_tests.proofs.is_code.Statement.{statement}
-use Rattle.line_tests.proofs.is_code.Tie as tie
+use Rattle.kinds.proofs.is_code.Statement.{statement}
+use Rattle.kinds.proofs.is_code.Tie as tie
 
 returns : tie.Need-returns
 unfolding isCode

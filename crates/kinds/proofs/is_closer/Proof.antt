@@ -1,7 +1,7 @@
--- `sheet_tests::depth::is_closer` meets its contract. Assumes nothing.
+-- `kinds::is_closer` meets its contract. Assumes nothing.
 use borrow.Author.Tests.{eq-eqb, ne-eqb}
-use Rattle.sheet_tests.proofs.depth.is_closer.Statement.{statement}
-use Rattle.sheet_tests.proofs.depth.is_closer.Tie as tie
+use Rattle.kinds.proofs.is_closer.Statement.{statement}
+use Rattle.kinds.proofs.is_closer.Tie as tie
 
 returns : tie.Need-returns
 returns c = simp (eq-eqb _ _ (c .if1 .taken))

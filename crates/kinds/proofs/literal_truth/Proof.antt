@@ -1,9 +1,9 @@
--- `cfg_edges::literal_truth` meets its contract, by the codes of conditions.
+-- `kinds::literal_truth` meets its contract, by the codes of conditions.
 -- Assumes nothing.
 use borrow.Author.Tests.{le-leb, lt-leb}
 use Rattle.flow.specs.Kinds.{literalTruth}
-use Rattle.cfg_edges.proofs.literal_truth.Statement.{statement}
-use Rattle.cfg_edges.proofs.literal_truth.Tie as tie
+use Rattle.kinds.proofs.literal_truth.Statement.{statement}
+use Rattle.kinds.proofs.literal_truth.Tie as tie
 
 returns : tie.Need-returns
 unfolding literalTruth

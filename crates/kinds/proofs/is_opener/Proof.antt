@@ -1,7 +1,7 @@
--- `sheet_tests::depth::is_opener` meets its contract. Assumes nothing.
+-- `kinds::is_opener` meets its contract. Assumes nothing.
 use borrow.Author.Tests.{le-leb, lt-leb}
-use Rattle.sheet_tests.proofs.depth.is_opener.Statement.{statement}
-use Rattle.sheet_tests.proofs.depth.is_opener.Tie as tie
+use Rattle.kinds.proofs.is_opener.Statement.{statement}
+use Rattle.kinds.proofs.is_opener.Tie as tie
 
 returns : tie.Need-returns
 returns c = simp (lt-leb _ _ (c .if1 .taken))

@@ -1,0 +1,96 @@
+// What a kind word says, asked here and nowhere else: whether an item is code or a label, whether its kind opens or closes, what a condition is known to be, and whether a call raises.
+ghost use mathlib.Core.Path.{_≡_};
+ghost use Prim.Native.Nat.{ℕ};
+ghost use Rattle.flow.specs.Kinds.{isCode, opens, closes, literalTruth, raises};
+ghost use Rattle.kinds.specs.Label.{isLabel};
+use flow::Truth;
+use words::ARGUMENT;
+use words::kind::DO;
+use words::kind::ELSEIF;
+use words::kind::END;
+use words::kind::FOR;
+use words::kind::GOTO;
+use words::kind::IF;
+use words::kind::LABEL;
+use words::kind::LOCAL;
+use words::kind::PLAIN;
+use words::kind::UNTIL;
+use words::kind::WHILE;
+
+// The conditions 0 and 1 are false, those up to 8 true, and no other is known.
+const LAST_FALSE: u64 = 1;
+
+const LAST_TRUE: u64 = 8;
+
+// The argument of a CALL that raises: of bare `error`, whose span holds a reference of that name.
+const RAISES: u64 = 6;
+
+// Whether an item is code, whatever its span: of the labels those that have a name.
+pub fn is_code(word: u64) -> bool
+    ensures { λ r. ⌜ ((s : ℕ) → r ≡ isCode (record { word = word; span = s })) ⌝ }
+{
+    let kind = word % ARGUMENT;
+    match kind {
+        WHILE => true,
+        FOR => true,
+        IF => true,
+        ELSEIF => true,
+        UNTIL => true,
+        LOCAL => true,
+        LABEL => word / ARGUMENT != 0,
+        _ => {
+            if kind < GOTO {
+                return false;
+            }
+            kind <= PLAIN
+        }
+    }
+}
+
+// Whether an item is a label that has a name.
+pub fn is_label(w: u64) -> bool
+    ensures { λ r. ⌜ r ≡ isLabel w ⌝ }
+{
+    if w % ARGUMENT != LABEL {
+        return false;
+    }
+    w / ARGUMENT != 0
+}
+
+pub fn is_opener(kind: u64) -> bool
+    ensures { λ r. ⌜ r ≡ opens kind ⌝ }
+{
+    if kind < DO {
+        return false;
+    }
+    kind <= IF
+}
+
+pub fn is_closer(kind: u64) -> bool
+    ensures { λ r. ⌜ r ≡ closes kind ⌝ }
+{
+    if kind == END {
+        return true;
+    }
+    kind == UNTIL
+}
+
+// What a condition code is known to be.
+pub fn literal_truth(condition: u64) -> Truth
+    ensures { λ r. ⌜ r ≡ literalTruth condition ⌝ }
+{
+    if condition <= LAST_FALSE {
+        return Truth::False;
+    }
+    if condition <= LAST_TRUE {
+        return Truth::True;
+    }
+    Truth::Unknown
+}
+
+// Whether a call with this argument raises.
+pub fn call_raises(argument: u64) -> bool
+    ensures { λ r. ⌜ r ≡ raises argument ⌝ }
+{
+    argument == RAISES
+}
