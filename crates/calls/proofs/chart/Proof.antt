@@ -45,7 +45,11 @@ enum-told : tie.Need-enum-told
 enum-told c = search needs
 
 of-sheet-requires : tie.Need-of-sheet-requires
-of-sheet-requires c κs = let t = c .before .before .before .before .before .before .before .before .before in let d = t .before .before in let e = verdict-is d ∙ t .enum-told .given .1 in (sheet-admitted (x d) (S d) e, wide-enough (x d) (S d) e)
+of-sheet-requires c κs =
+    let t = c .before .before .before .before .before .before .before .before .before in
+    let d = t .before .before in
+    let e = verdict-is d ∙ t .enum-told .given .1 in
+    (sheet-admitted (x d) (S d) e, wide-enough (x d) (S d) e)
 
 same-length : tie.Need-same-length
 same-length c = search needs
@@ -75,7 +79,12 @@ same-length-9 : tie.Need-same-length-9
 same-length-9 c = search needs
 
 returns-2 : tie.Need-returns-2
-returns-2 c = let o = c .before .before .before .before .before .before .before .before .before .before .before .before .before .before .before .before .before .before in let t = o .before .before .before .before .before .before .before .before .before .before in let d = t .before .before in chart-accepted (x d) (S d) (verdict-is d ∙ t .enum-told .given .1) (o .of-sheet .ensures)
+returns-2 c =
+    let k = c .before .before .before .before .before .before .before .before .before in
+    let o = k .before .before .before .before .before .before .before .before .before in
+    let t = o .before .before .before .before .before .before .before .before .before .before in
+    let d = t .before .before in
+    chart-accepted (x d) (S d) (verdict-is d ∙ t .enum-told .given .1) (o .of-sheet .ensures)
 
 pub chart-spec : {M : Type 1} → statement M
 chart-spec =

@@ -13,7 +13,7 @@ use Rattle.chart.proofs.of_sheet.Tie as tie
 -- ---- where both parts are taken
 
 abbrev begun : tie.After-spans → tie.Start
-begun c = c .before .before .before .before .before .before .before .before .before .before .before .before .before
+begun c = let k = c .before .before .before .before .before .before .before .before .before in k .before .before .before .before
 
 abbrev S : tie.After-spans → List ℕ
 S c = now (begun c .args .sheet)
@@ -31,7 +31,9 @@ spans-requires : tie.Need-spans-requires
 spans-requires c κs = search needs
 
 write-chart-requires : tie.Need-write-chart-requires
-write-chart-requires c κs = let d = c .before .before .before .before .before .before .before .before .before in ((S d, parts d), begun d .pre .1)
+write-chart-requires c κs =
+    let d = c .before .before .before .before .before .before .before .before .before in
+    ((S d, parts d), begun d .pre .1)
 
 same-length : tie.Need-same-length
 same-length c = search needs
@@ -61,7 +63,11 @@ same-length-9 : tie.Need-same-length-9
 same-length-9 c = search needs
 
 returns : tie.Need-returns
-returns c = let w = c .before .before .before .before .before .before .before .before .before .before .before .before .before .before .before .before .before .before in let d = w .before .before .before .before .before .before .before .before .before .before in w .write-chart .ensures (S d) (parts d)
+returns c =
+    let k = c .before .before .before .before .before .before .before .before .before in
+    let w = k .before .before .before .before .before .before .before .before .before in
+    let d = w .before .before .before .before .before .before .before .before .before .before in
+    w .write-chart .ensures (S d) (parts d)
 
 pub of-sheet-spec : {M : Type 1} → statement M
 of-sheet-spec =

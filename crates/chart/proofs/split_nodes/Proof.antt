@@ -9,6 +9,14 @@ use Rattle.chart.proofs.Laid.{front}
 use Rattle.chart.proofs.split_nodes.Statement.{statement}
 use Rattle.chart.proofs.split_nodes.Tie as tie
 
+-- ---- the places: from each place back to the one before it
+
+abbrev before-reach : tie.After-reach → tie.After-split-edges
+before-reach c = c .before .before .before .before .before .before .before .before .before
+
+abbrev before-split-edges : tie.After-split-edges → tie.Start
+before-split-edges c = c .before .before .before .before .before .before .before
+
 split-edges-requires : tie.Need-split-edges-requires
 split-edges-requires c κs = search needs
 
@@ -29,10 +37,13 @@ same-length-4 c = search needs
 
 returns : tie.Need-returns
 returns c =
-    let a = c .before .before .before .before .before .before .before .before .before .before .before .before .before .before .before .before .before .before .before .before .args in
-    let long = c .before .before .before .before .before .before .before .before .before .before .before .before .before .before .before .before .before .before .before .before .pre .1 in
-    let e = c .before .before .before .before .before .before .before .before .before .before .before .before .before .split-edges .ensures in
-    let r = c .before .before .before .before .reach .ensures in
+    let after-reach = c .before .before .before .before in
+    let after-split-edges = before-reach after-reach in
+    let start = before-split-edges after-split-edges in
+    let a = start .args in
+    let long = start .pre .1 in
+    let e = after-split-edges .split-edges .ensures in
+    let r = after-reach .reach .ensures in
     (e .0, (e .1, (r .1, λ g f s. r .0 g (f ∙ sym (ap (take (a .n)) (e .0) ∙ front lo (a .n) (now (a .first)) (drop (a .n) (now (a .first))) long)) (s ∙ sym (ap (take (a .n)) (e .1) ∙ front hi (a .n) (now (a .first)) (drop (a .n) (now (a .second))) long)))))
 
 pub split-nodes-spec : {M : Type 1} → statement M

@@ -37,6 +37,17 @@ nested-here c =
 room-here : (c : tie.In-loop Inv-loop μ-loop) → Room (c .before .loop .count) (getD (now (c .before .before .before .before .args .kinds)) (c .before .loop .i) 0 % 256)
 room-here c = nested-room (c .before .loop .count) _ _ (c .before .loop .inv .1) (nested-here c)
 
+-- ---- the places: from each place back to the one before it
+
+abbrev before-is-code : tie.After-is-code Inv-loop μ-loop → tie.In-loop Inv-loop μ-loop
+before-is-code c = c .before .before .before
+
+abbrev before-loop : tie.At-loop Inv-loop μ-loop → tie.Start Inv-loop μ-loop
+before-loop c = c .before .before .before
+
+abbrev before-item-held : tie.After-item-held Inv-loop μ-loop → tie.After-is-code Inv-loop μ-loop
+before-item-held c = c .before .before .before
+
 loop-holds : tie.Need-loop-holds Inv-loop μ-loop
 loop-holds c = (
   record { ends-long = refl; lows-long = refl; lowest = refl },
@@ -64,13 +75,23 @@ item-held-requires : tie.Need-item-held-requires Inv-loop μ-loop
 item-held-requires c κs = (room-here (c .before .before .before .before .before), (c .before .before .before .before .before .before .loop .inv .0, c .before .before .is-code .ensures _))
 
 returns : tie.Need-returns Inv-loop μ-loop
-returns c = rw (fails (c .before .before .before .before .before .before .before .before .loop .inv .3) (c .before .before .before .before .before .before .before .before .before .before .before .pre .0 .0) (c .before .before .before .before .before .before .before .loop-test .taken) (sym (c .before .item-held .ensures) ∙ not-true _ (c .if1 .taken)))
+returns c =
+    let after-is-code = c .before .before .before .before in
+    let in-loop = before-is-code after-is-code in
+    let at-loop = in-loop .before in
+    let start = before-loop at-loop in
+    rw (fails (at-loop .loop .inv .3) (start .pre .0 .0) (in-loop .loop-test .taken) (sym (c .before .item-held .ensures) ∙ not-true _ (c .if1 .taken)))
 
 line-after-requires : tie.Need-line-after-requires Inv-loop μ-loop
 line-after-requires c κs = tt
 
 scopes-after-requires : tie.Need-scopes-after-requires Inv-loop μ-loop
-scopes-after-requires c κs = (room-here (c .before .before .before .before .before .before .before .before .before .before), c .before .before .before .before .before .before .before .before .before .before .before .loop .inv .0)
+scopes-after-requires c κs =
+    let after-item-held = c .before .before .before .before in
+    let after-is-code = before-item-held after-item-held in
+    let in-loop = before-is-code after-is-code in
+    let at-loop = in-loop .before in
+    (room-here (in-loop), at-loop .loop .inv .0)
 
 add-i : tie.Need-add-i Inv-loop μ-loop
 add-i c = omega arith
@@ -80,15 +101,21 @@ loop-less c = omega arith
 
 loop-again : tie.Need-loop-again Inv-loop μ-loop
 loop-again c =
-    let a = c .before .before .before .before .before .before .before .before .before .before .before .before .before .before .before .args in
-    let l = c .before .before .before .before .before .before .before .before .before .before .before .before .loop in
+    let else1 = c .before .before .before .before in
+    let after-item-held = else1 .before in
+    let after-is-code = before-item-held after-item-held in
+    let in-loop = before-is-code after-is-code in
+    let at-loop = in-loop .before in
+    let start = before-loop at-loop in
+    let a = start .args in
+    let l = at-loop .loop in
     let it : Item = item (now (a .kinds)) (now (a .spans)) (l .i) in
-    let next = scopes-next it (rest (now (a .kinds)) (now (a .spans)) (l .i + 1)) (it .word / 256 / 32) (l .count) (c .scopes-after .result) (l .ends) (c .scopes-after .last .0) (l .inv .1) (nested-here (c .before .before .before .before .before .before .before .before .before .before .before)) (c .scopes-after .ensures .0) in (
+    let next = scopes-next it (rest (now (a .kinds)) (now (a .spans)) (l .i + 1)) (it .word / 256 / 32) (l .count) (c .scopes-after .result) (l .ends) (c .scopes-after .last .0) (l .inv .1) (nested-here (in-loop)) (c .scopes-after .ensures .0) in (
       c .scopes-after .ensures .1,
       next .0,
       next .1,
-      rw (c .before .before .before .line-after .ensures ∙ ap (λ (b : Bool). cond b (endOf (it .span)) (l .line)) (c .before .before .before .before .before .before .before .before .is-code .ensures (it .span)), c .scopes-after .ensures .0)
-          (onward (l .inv .3) (c .before .before .before .before .before .before .before .before .before .before .before .before .before .before .before .pre .0 .0) (c .before .before .before .before .before .before .before .before .before .before .before .loop-test .taken) (sym (c .before .before .before .before .before .item-held .ensures) ∙ not-false _ (c .before .before .before .before .if1 .left))),
+      rw (c .before .before .before .line-after .ensures ∙ ap (λ (b : Bool). cond b (endOf (it .span)) (l .line)) (after-is-code .is-code .ensures (it .span)), c .scopes-after .ensures .0)
+          (onward (l .inv .3) (start .pre .0 .0) (in-loop .loop-test .taken) (sym (after-item-held .item-held .ensures) ∙ not-false _ (else1 .if1 .left))),
     )
 
 returns-2 : tie.Need-returns-2 Inv-loop μ-loop

@@ -9,6 +9,11 @@ use Rattle.run.proofs.Running.{run-refused, run-accepted}
 use Rattle.run.proofs.run.Statement.{statement}
 use Rattle.run.proofs.run.Tie as tie
 
+-- ---- the places: from each place back to the one before it
+
+abbrev before-run-in : tie.After-run-in → tie.After-enum-told
+before-run-in c = c .before .before .before .before .before .before .before .before .before .before
+
 sheet-verdict-requires : tie.Need-sheet-verdict-requires
 sheet-verdict-requires c κs = search needs
 
@@ -49,10 +54,19 @@ slice-aggregate-run-in-9 : tie.Need-slice-aggregate-run-in-9
 slice-aggregate-run-in-9 c = search needs
 
 run-in-requires : tie.Need-run-in-requires
-run-in-requires c κs = (admitted (now (c .before .before .before .before .before .before .before .before .before .before .before .before .before .args .sheet)) (sym (c .before .before .before .before .before .before .before .before .before .before .before .sheet-verdict .ensures) ∙ c .before .before .before .before .before .before .before .before .before .enum-told .given .1), record { first = lit≤ tt; second = lit≤ tt; start = lit≤ tt; reachable = lit≤ tt; codeSpan = lit≤ tt; codeNode = lit≤ tt; nameSpan = lit≤ tt; nameNode = lit≤ tt; nameEnd = lit≤ tt })
+run-in-requires c κs =
+    let after-enum-told = c .before .before .before .before .before .before .before .before .before in
+    let after-sheet-verdict = after-enum-told .before .before in
+    let start = after-sheet-verdict .before .before in
+    (admitted (now (start .args .sheet)) (sym (after-sheet-verdict .sheet-verdict .ensures) ∙ after-enum-told .enum-told .given .1), record { first = lit≤ tt; second = lit≤ tt; start = lit≤ tt; reachable = lit≤ tt; codeSpan = lit≤ tt; codeNode = lit≤ tt; nameSpan = lit≤ tt; nameNode = lit≤ tt; nameEnd = lit≤ tt })
 
 returns-2 : tie.Need-returns-2
-returns-2 c = run-accepted (now (c .before .before .before .before .before .before .before .before .before .before .before .before .before .before .before .before .before .before .before .before .before .before .before .args .sheet)) (c .before .before .before .before .before .before .before .before .before .before .before .before .before .before .before .before .before .before .before .before .before .before .before .args .offset) (sym (c .before .before .before .before .before .before .before .before .before .before .before .before .before .before .before .before .before .before .before .before .before .sheet-verdict .ensures) ∙ c .before .before .before .before .before .before .before .before .before .before .before .before .before .before .before .before .before .before .before .enum-told .given .1) (c .before .before .before .before .before .before .before .before .before .run-in .ensures)
+returns-2 c =
+    let after-run-in = c .before .before .before .before .before .before .before .before .before in
+    let after-enum-told = before-run-in after-run-in in
+    let after-sheet-verdict = after-enum-told .before .before in
+    let start = after-sheet-verdict .before .before in
+    run-accepted (now (start .args .sheet)) (start .args .offset) (sym (after-sheet-verdict .sheet-verdict .ensures) ∙ after-enum-told .enum-told .given .1) (after-run-in .run-in .ensures)
 
 pub run-spec : {M : Type 1} → statement M
 run-spec =

@@ -7,14 +7,27 @@ use Rattle.run.proofs.Running.{node-asks, place-is, place-in, place-lon
 use Rattle.run.proofs.run_in.Statement.{statement}
 use Rattle.run.proofs.run_in.Tie as tie
 
+-- ---- the places: from each place back to the one before it
+
+abbrev before-of-sheet : tie.After-of-sheet → tie.Start
+before-of-sheet c = let way = c .before .before .before .before .before .before .before .before .before .before .before .before in way .before .before .before .before .before .before .before .before
+
 of-sheet-requires : tie.Need-of-sheet-requires
 of-sheet-requires c κs = search needs
 
 node-at-requires : tie.Need-node-at-requires
-node-at-requires c κs = node-asks (c .before .before .before .before .before .before .before .before .before .before .before .before .before .before .before .before .before .before .before .before .before .before .before .before .before .before .before .before .before .before .before .before .before .before .before .before .before .before .before .before .pre .0) (c .before .before .before .before .before .before .before .before .before .before .before .before .before .before .before .before .before .before .before .before .of-sheet .ensures)
+node-at-requires c κs =
+    let on-the-way = c .before .before .before .before .before .before .before .before .before .before .before .before in
+    let after-of-sheet = on-the-way .before .before .before .before .before .before .before .before in
+    let start = before-of-sheet after-of-sheet in
+    node-asks (start .pre .0) (after-of-sheet .of-sheet .ensures)
 
 can-run-requires : tie.Need-can-run-requires
-can-run-requires c κs = let a = c .before .before .before .before .before .before .before .before .before .before .before .before .before .before .before .before .before .before .before .before .before .before .before .before .before .before .before .before .before .before .before .before .before .before .before .before .before .before .before .before .before .before .pre .0 in let h = c .before .before .before .before .before .before .before .before .before .before .before .before .before .before .before .before .before .before .before .before .before .before .of-sheet .ensures in place-long a h (c .before .before .before .before .before .before .before .before .before .before .before .before .before .before .before .before .before .before .before .before .before .before .before .before .before .before .before .before .before .before .before .before .before .before .before .before .before .before .before .before .before .before .args .offset) (place-is a h (c .before .before .before .before .before .before .before .before .before .before .before .before .before .before .before .before .before .before .before .before .before .before .before .before .before .before .before .before .before .before .before .before .before .before .before .before .before .before .before .before .before .before .args .offset) (c .before .node-at .ensures))
+can-run-requires c κs =
+    let on-the-way = c .before .before .before .before .before .before .before .before .before .before .before .before in
+    let after-of-sheet = on-the-way .before .before .before .before .before .before .before .before .before .before in
+    let start = before-of-sheet after-of-sheet in
+    let a = start .pre .0 in let h = after-of-sheet .of-sheet .ensures in place-long a h (start .args .offset) (place-is a h (start .args .offset) (c .before .node-at .ensures))
 
 same-length : tie.Need-same-length
 same-length c = search needs
@@ -45,11 +58,14 @@ same-length-9 c = search needs
 
 returns : tie.Need-returns
 returns c =
-    let a = c .before .before .before .before .before .before .before .before .before .before .before .before .before .before .before .before .before .before .before .before .before .before .before .before .before .before .before .before .before .before .before .before .before .before .before .before .before .before .before .before .before .before .before .pre .0 in
-    let h = c .before .before .before .before .before .before .before .before .before .before .before .before .before .before .before .before .before .before .before .before .before .before .before .of-sheet .ensures in
-    let o = c .before .before .before .before .before .before .before .before .before .before .before .before .before .before .before .before .before .before .before .before .before .before .before .before .before .before .before .before .before .before .before .before .before .before .before .before .before .before .before .before .before .before .before .args .offset in
+    let on-the-way = c .before .before .before .before .before .before .before .before .before .before .before .before in
+    let after-of-sheet = on-the-way .before .before .before .before .before .before .before .before .before .before .before in
+    let start = before-of-sheet after-of-sheet in
+    let a = start .pre .0 in
+    let h = after-of-sheet .of-sheet .ensures in
+    let o = start .args .offset in
     let p = place-is a h o (c .before .before .node-at .ensures) in
-    let S = now (c .before .before .before .before .before .before .before .before .before .before .before .before .before .before .before .before .before .before .before .before .before .before .before .before .before .before .before .before .before .before .before .before .before .before .before .before .before .before .before .before .before .before .before .args .sheet) in
+    let S = now (start .args .sheet) in
     ran S o p (c .can-run .ensures (graph S) (flags-are a h) (place-in a h o p))
 
 pub run-in-spec : {M : Type 1} → statement M

@@ -10,6 +10,14 @@ use Rattle.cfg_steps.proofs.Simple.{stands}
 use Rattle.cfg_steps.proofs.GraphBuilder.for_head.Statement.{statement}
 use Rattle.cfg_steps.proofs.GraphBuilder.for_head.Tie as tie
 
+-- ---- the places: from each place back to the one before it
+
+abbrev before-code-and-after : tie.After-code-and-after → tie.Start
+before-code-and-after c = c .before .before .before .before .before .before
+
+abbrev before-advance-to : tie.After-advance-to → tie.After-code-and-after
+before-advance-to c = c .before .before .before .before .before .before
+
 add-head : tie.Need-add-head
 add-head c = search needs
 
@@ -17,10 +25,16 @@ code-and-after-requires : tie.Need-code-and-after-requires
 code-and-after-requires c κs = search needs
 
 advance-to-requires : tie.Need-advance-to-requires
-advance-to-requires c κs = let d = c .before .before .before .before .before .code-and-after .ensures [] _ _ (c .before .before .before .before .before .before .before .before .before .before .before .pre .0 .2) refl in (stands (d .good), omega (arith, d .nodes))
+advance-to-requires c κs =
+    let after-code-and-after = c .before .before .before .before .before in
+    let start = before-code-and-after after-code-and-after in
+    let d = after-code-and-after .code-and-after .ensures [] _ _ (start .pre .0 .2) refl in (stands (d .good), omega (arith, d .nodes))
 
 new-node-requires : tie.Need-new-node-requires
-new-node-requires c κs = let d = c .before .before .before .before .before .before .before .before .before .code-and-after .ensures [] _ _ (c .before .before .before .before .before .before .before .before .before .before .before .before .before .before .before .pre .0 .2) refl in let e = c .before .before .before .advance-to .ensures [] _ _ _ (d .good) in (omega (arith, e .good .wideEdges, d .nodes, e .nodes), omega (arith, d .nodes, e .nodes))
+new-node-requires c κs =
+    let after-code-and-after = c .before .before .before .before .before .before .before .before .before in
+    let start = before-code-and-after after-code-and-after in
+    let d = after-code-and-after .code-and-after .ensures [] _ _ (start .pre .0 .2) refl in let e = c .before .before .before .advance-to .ensures [] _ _ _ (d .good) in (omega (arith, e .good .wideEdges, d .nodes, e .nodes), omega (arith, d .nodes, e .nodes))
 
 same-length : tie.Need-same-length
 same-length c = search needs
@@ -29,9 +43,12 @@ same-length-2 : tie.Need-same-length-2
 same-length-2 c = search needs
 
 returns : tie.Need-returns
-returns c = λ ks n l ok q.
-    let d = c .before .before .before .before .before .before .before .before .before .before .before .before .code-and-after .ensures ks n l ok q in
-    let e = c .before .before .before .before .before .before .advance-to .ensures ks _ n l (d .good) in
+returns c =
+    let after-advance-to = c .before .before .before .before .before .before in
+    let after-code-and-after = before-advance-to after-advance-to in
+    λ ks n l ok q.
+    let d = after-code-and-after .code-and-after .ensures ks n l ok q in
+    let e = after-advance-to .advance-to .ensures ks _ n l (d .good) in
     did-trans {x = cols _ _ n l} (did-trans {x = cols _ _ n l} {y = cols _ _ n l} d e) (c .before .before .new-node .ensures ks _ n l (e .good))
 
 pub for-head-spec : {M : Type 1} → statement M

@@ -8,6 +8,17 @@ use Rattle.cfg_steps.proofs.Simple.{did-as, may-jump, label-below}
 use Rattle.cfg_steps.proofs.GraphBuilder.goto_stmt.Statement.{statement}
 use Rattle.cfg_steps.proofs.GraphBuilder.goto_stmt.Tie as tie
 
+-- ---- the places: from each place back to the one before it
+
+abbrev before-jump : tie.After-jump → tie.After-enum-told
+before-jump c = c .before .before .before
+
+abbrev before-label-node : tie.After-label-node → tie.Start
+before-label-node c = c .before .before .before .before
+
+abbrev before-jump2 : tie.After-jump2 → tie.After-node
+before-jump2 c = c .before .before .before .before
+
 label-node-requires : tie.Need-label-node-requires
 label-node-requires c κs = search needs
 
@@ -27,10 +38,18 @@ same-length-2 : tie.Need-same-length-2
 same-length-2 c = search needs
 
 returns : tie.Need-returns
-returns c = λ ks n ok q. did-as refl (λ ss g. ap (λ f. jump (getD ss (c .before .before .before .before .before .before .before .before .before .before .before .before .before .args .i) 0) (orBreak f) g) (sym (sym (c .before .before .before .before .before .before .before .before .before .label-node .ensures) ∙ c .before .before .before .before .before .before .before .enum-told .given .1))) (c .before .before .before .before .jump .ensures ks n _ ok q)
+returns c =
+    let after-jump = c .before .before .before .before in
+    let after-enum-told = before-jump after-jump in
+    let after-label-node = after-enum-told .before .before in
+    let start = before-label-node after-label-node in
+    λ ks n ok q. did-as refl (λ ss g. ap (λ f. jump (getD ss (start .args .i) 0) (orBreak f) g) (sym (sym (after-label-node .label-node .ensures) ∙ after-enum-told .enum-told .given .1))) (after-jump .jump .ensures ks n _ ok q)
 
 jump-requires-2 : tie.Need-jump-requires-2
-jump-requires-2 c κs = may-jump _ _ (c .before .before .before .before .before .before .before .before .before .pre .0 .1) (c .before .before .before .before .before .before .before .before .before .pre .1 .0) (c .before .before .before .before .before .before .before .before .before .pre .1 .1) (c .before .before .before .before .before .before .before .before .before .pre .1 .2) (label-below (c .before .before .before .before .before .before .before .before .before .args .name) (c .before .before .before .before .before .before .before .before .before .pre .0 .1) (sym (c .before .before .before .before .before .label-node .ensures) ∙ c .before .before .before .node .given .1))
+jump-requires-2 c κs =
+    let after-label-node = c .before .before .before .before .before in
+    let start = before-label-node after-label-node in
+    may-jump _ _ (start .pre .0 .1) (start .pre .1 .0) (start .pre .1 .1) (start .pre .1 .2) (label-below (start .args .name) (start .pre .0 .1) (sym (after-label-node .label-node .ensures) ∙ c .before .before .before .node .given .1))
 
 same-length-3 : tie.Need-same-length-3
 same-length-3 c = search needs
@@ -39,7 +58,12 @@ same-length-4 : tie.Need-same-length-4
 same-length-4 c = search needs
 
 returns-2 : tie.Need-returns-2
-returns-2 c = λ ks n ok q. did-as refl (λ ss g. ap (λ f. jump (getD ss (c .before .before .before .before .before .before .before .before .before .before .before .before .before .before .args .i) 0) (orBreak f) g) (sym (sym (c .before .before .before .before .before .before .before .before .before .before .label-node .ensures) ∙ c .before .before .before .before .before .before .before .before .node .given .1))) (c .before .before .before .before .jump2 .ensures ks n _ ok q)
+returns-2 c =
+    let after-jump2 = c .before .before .before .before in
+    let after-node = before-jump2 after-jump2 in
+    let after-label-node = after-node .before .before in
+    let start = before-label-node after-label-node in
+    λ ks n ok q. did-as refl (λ ss g. ap (λ f. jump (getD ss (start .args .i) 0) (orBreak f) g) (sym (sym (after-label-node .label-node .ensures) ∙ after-node .node .given .1))) (after-jump2 .jump2 .ensures ks n _ ok q)
 
 pub goto-stmt-spec : {M : Type 1} → statement M
 goto-stmt-spec =

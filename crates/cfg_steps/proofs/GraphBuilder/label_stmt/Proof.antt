@@ -9,6 +9,14 @@ use Rattle.cfg_steps.proofs.Ops.{did-trans}
 use Rattle.cfg_steps.proofs.GraphBuilder.label_stmt.Statement.{statement}
 use Rattle.cfg_steps.proofs.GraphBuilder.label_stmt.Tie as tie
 
+-- ---- the places: from each place back to the one before it
+
+abbrev before-else1 : tie.Else1 → tie.Start
+before-else1 c = c .before .before .before .before
+
+abbrev before-record-code : tie.After-record-code → tie.After-node
+before-record-code c = c .before .before .before
+
 returns : tie.Need-returns
 returns c = λ ks n ok q. did-as refl (λ ss g. labelled-none _ _ _ g (c .if1 .taken)) (did-none ks _ _ ok)
 
@@ -25,10 +33,19 @@ returns-2 : tie.Need-returns-2
 returns-2 c = λ ks n ok q. did-as refl (λ ss g. labelled-lost _ _ _ g (sym (c .before .before .label-node .ensures) ∙ c .enum-told .given .1)) (did-none ks _ _ ok)
 
 record-code-requires : tie.Need-record-code-requires
-record-code-requires c κs = let ok = c .before .before .before .before .before .before .before .before .before .pre .0 .1 in ((omega (arith, ok .wideCodes, ok .items), c .before .before .before .before .before .before .before .before .before .pre .1 .0), (c .before .before .before .before .before .before .before .before .before .pre .1 .1, label-below (c .before .before .before .before .before .before .before .before .before .args .name) (c .before .before .before .before .before .before .before .before .before .pre .0 .1) (sym (c .before .before .before .before .label-node .ensures) ∙ c .before .before .node .given .1), ok .nodes, ok .items))
+record-code-requires c κs =
+    let after-label-node = c .before .before .before .before in
+    let else1 = after-label-node .before in
+    let start = before-else1 else1 in
+    let ok = start .pre .0 .1 in ((omega (arith, ok .wideCodes, ok .items), start .pre .1 .0), (start .pre .1 .1, label-below (start .args .name) (start .pre .0 .1) (sym (after-label-node .label-node .ensures) ∙ c .before .before .node .given .1), ok .nodes, ok .items))
 
 advance-to-requires : tie.Need-advance-to-requires
-advance-to-requires c κs = (stands-as (c .before .before .before .record-code .ensures .1 .0) (c .before .before .before .record-code .ensures .1 .1) (stands (c .before .before .before .before .before .before .before .before .before .before .before .before .before .pre .0 .1)), rw (c .before .before .before .record-code .ensures .1 .0) (label-below (c .before .before .before .before .before .before .before .before .before .before .before .before .before .args .name) (c .before .before .before .before .before .before .before .before .before .before .before .before .before .pre .0 .1) (sym (c .before .before .before .before .before .before .before .before .label-node .ensures) ∙ c .before .before .before .before .before .before .node .given .1)))
+advance-to-requires c κs =
+    let after-node = c .before .before .before .before .before .before in
+    let after-label-node = after-node .before .before in
+    let else1 = after-label-node .before in
+    let start = before-else1 else1 in
+    (stands-as (c .before .before .before .record-code .ensures .1 .0) (c .before .before .before .record-code .ensures .1 .1) (stands (start .pre .0 .1)), rw (c .before .before .before .record-code .ensures .1 .0) (label-below (start .args .name) (start .pre .0 .1) (sym (after-label-node .label-node .ensures) ∙ after-node .node .given .1)))
 
 same-length : tie.Need-same-length
 same-length c = search needs
@@ -37,9 +54,14 @@ same-length-2 : tie.Need-same-length-2
 same-length-2 c = search needs
 
 returns-3 : tie.Need-returns-3
-returns-3 c = λ ks n ok q.
-    let d = c .before .before .before .before .before .before .record-code .ensures .0 ks _ n _ ok q in
-    did-as refl (λ ss g. labelled-at _ _ _ g _ (c .before .before .before .before .before .before .before .before .before .before .before .before .if1 .left) (sym (c .before .before .before .before .before .before .before .before .before .before .before .label-node .ensures) ∙ c .before .before .before .before .before .before .before .before .before .node .given .1)) (did-trans d (c .before .before .advance-to .ensures ks _ n _ (d .good)))
+returns-3 c =
+    let after-record-code = c .before .before .before .before .before .before in
+    let after-node = before-record-code after-record-code in
+    let after-label-node = after-node .before .before in
+    let else1 = after-label-node .before in
+    λ ks n ok q.
+    let d = after-record-code .record-code .ensures .0 ks _ n _ ok q in
+    did-as refl (λ ss g. labelled-at _ _ _ g _ (else1 .if1 .left) (sym (after-label-node .label-node .ensures) ∙ after-node .node .given .1)) (did-trans d (c .before .before .advance-to .ensures ks _ n _ (d .good)))
 
 pub label-stmt-spec : {M : Type 1} → statement M
 label-stmt-spec =
