@@ -49,18 +49,18 @@ abbrev pub AllFound : List Word → List Word → LocalNumber → Type 0
 AllFound S U ℓ = (u : UseNumber) → Own U ℓ u → (v : Node) × AtNode S U u v
 
 -- an own use at the node v
-pub record OwnAt (S U : List Word) (ℓ : LocalNumber) (v : Node) (u : UseNumber) : Type 0 where
+pub record OwnAt (S U : List Word) (ℓ : LocalNumber) (u : UseNumber) (v : Node) : Type 0 where
   pub own : Own U ℓ u
   pub atNode : AtNode S U u v
 
 -- "that node holds a use of the local"
 abbrev pub Holds : List Word → List Word → LocalNumber → Node → Type 0
-Holds S U ℓ v = (u : UseNumber) × OwnAt S U ℓ v u
+Holds S U ℓ v = (u : UseNumber) × OwnAt S U ℓ u v
 
 -- "First, next and earlier, said of uses, mean use order": the first own use at v
-pub record FirstAt (S U : List Word) (ℓ : LocalNumber) (v : Node) (u : UseNumber) : Type 0 where
-  pub here : OwnAt S U ℓ v u
-  pub first : (w : UseNumber) → w < u → OwnAt S U ℓ v w → ⊥
+pub record FirstAt (S U : List Word) (ℓ : LocalNumber) (u : UseNumber) (v : Node) : Type 0 where
+  pub here : OwnAt S U ℓ u v
+  pub first : (w : UseNumber) → w < u → OwnAt S U ℓ w v → ⊥
 
 -- some live path from after x meets a use that is P: "the local's first use there decides whether it meets a read or a pure write"
 pub record MeetsFrom (S U : List Word) (ℓ : LocalNumber) (x : Node) (P : List Word → UseNumber → Type 0) : Type 0 where
@@ -69,7 +69,7 @@ pub record MeetsFrom (S U : List Word) (ℓ : LocalNumber) (x : Node) (P : List 
   pub which : UseNumber
   pub edge : Edge (graph S) x begin
   pub path : Meets (graph S) (declaration (graph S) ℓ) (Holds S U ℓ) begin end
-  pub first : FirstAt S U ℓ end which
+  pub first : FirstAt S U ℓ which end
   pub kind : P U which
 
 -- "some live path from after it meets a pure write and none meets a read"
@@ -82,8 +82,8 @@ pub record EmptyRead (S U : List Word) (ℓ : LocalNumber) (u : UseNumber) : Typ
   pub own : Own U ℓ u
   pub read : IsRead U u
   pub outside : InClosure S U ℓ u → ⊥
-  pub unreached : (w : UseNumber) (x v : Node) → OwnAt S U ℓ x w → IsWrite U w → AtNode S U u v → After (graph S) (declaration (graph S) ℓ) x v → ⊥
-  pub unshared : (w : UseNumber) (v : Node) → w < u → OwnAt S U ℓ v w → IsWrite U w → AtNode S U u v → ⊥
+  pub unreached : (w : UseNumber) (x v : Node) → OwnAt S U ℓ w x → IsWrite U w → AtNode S U u v → After (graph S) (declaration (graph S) ℓ) x v → ⊥
+  pub unshared : (w : UseNumber) (v : Node) → w < u → OwnAt S U ℓ w v → IsWrite U w → AtNode S U u v → ⊥
 
 -- "for every tracked local whose uses all find a node"
 pub record Judgeable (S U : List Word) (ℓ : LocalNumber) : Type 0 where
@@ -97,20 +97,20 @@ pub record Unassigned (S U : List Word) (ℓ : LocalNumber) (u : UseNumber) : Ty
   pub empty : EmptyRead S U ℓ u
   pub first : (w : UseNumber) → w < u → EmptyRead S U ℓ w → ⊥
 
--- "the next use in its node", of w in its node v
-pub record NextAt (S U : List Word) (ℓ : LocalNumber) (v : Node) (w u : UseNumber) : Type 0 where
+-- "the next use in its node": u, after w in its node v
+pub record NextAt (S U : List Word) (ℓ : LocalNumber) (w u : UseNumber) (v : Node) : Type 0 where
   pub later : w < u
-  pub here : OwnAt S U ℓ v u
-  pub next : (between : UseNumber) → w < between → between < u → OwnAt S U ℓ v between → ⊥
+  pub here : OwnAt S U ℓ u v
+  pub next : (between : UseNumber) → w < between → between < u → OwnAt S U ℓ between v → ⊥
 
 -- "If it is modified and not captured, a write is listed overwritten exactly when the next use in its node is a pure write or, where none follows there, some live path .."
 pub record Overwritten (S U : List Word) (ℓ : LocalNumber) (w : UseNumber) : Type 0 where
   pub judgeable : Judgeable S U ℓ
   pub judged : writesJudged (localAt S ℓ) ≡ true
   pub node : Node
-  pub here : OwnAt S U ℓ node w
+  pub here : OwnAt S U ℓ w node
   pub write : IsWrite U w
-  pub lost : ((u : UseNumber) × NextAt S U ℓ node w u × PureWrite U u) ⊎ (((u : UseNumber) → NextAt S U ℓ node w u → ⊥) × OverwrittenUnread S U ℓ node)
+  pub lost : ((u : UseNumber) × NextAt S U ℓ w u node × PureWrite U u) ⊎ (((u : UseNumber) → NextAt S U ℓ w u node → ⊥) × OverwrittenUnread S U ℓ node)
 
 -- "Its initial value, if any, is listed so exactly when some live path from after its declaration meets a pure write and none meets a read."
 pub record OverwrittenInitial (S U : List Word) (ℓ : LocalNumber) : Type 0 where
