@@ -127,12 +127,12 @@ module _ {f : Use → Use} (k : Renumbers f) where
 
   -- ---- the findings of one local
 
-  pub renumbered-found : ((u : Use) → isFound (f u .place) ≡ isFound (u .place)) → (us : List Use) → allFound (map f us) ≡ allFound us
+  pub renumbered-found : ((u : Use) → isFound (f u .found) ≡ isFound (u .found)) → (us : List Use) → allFound (map f us) ≡ allFound us
   unfolding allFound all
   renumbered-found h [] = refl
   renumbered-found h (u ∷ us) = λ i. h u i && renumbered-found h us i
 
-  module _ (h : (u : Use) → isFound (f u .place) ≡ isFound (u .place)) (g : Graph) (l : Local) (d : Declaration) (us : List Use) where
+  module _ (h : (u : Use) → isFound (f u .found) ≡ isFound (u .found)) (g : Graph) (l : Local) (d : Declaration) (us : List Use) where
     pub renumbered-unassigned : firstUnassignedUse g l d (map f us) ≡ map f (firstUnassignedUse g l d us)
     unfolding firstUnassignedUse
     renumbered-unassigned =
@@ -155,7 +155,7 @@ module _ {f : Use → Use} (k : Renumbers f) where
         ∙ sym (map-only f b (overwrittenBelow g a (nodeCount g) us))
 
   -- two use sheets that agree on a local's own uses in order give it the same findings, with the numbers and spans that f gives
-  module _ (h : (u : Use) → isFound (f u .place) ≡ isFound (u .place)) (S U W : List ℕ) (ℓ : ℕ) (own : map f (usesOf S U ℓ) ≡ usesOf S W ℓ) where
+  module _ (h : (u : Use) → isFound (f u .found) ≡ isFound (u .found)) (S U W : List ℕ) (ℓ : ℕ) (own : map f (usesOf S U ℓ) ≡ usesOf S W ℓ) where
     pub own-unassigned : unassignedOf S W ℓ ≡ map (λ u. ofUse 0 ℓ (f u)) (firstUnassignedUse (graph S) (localAt S ℓ) (declaration (graph S) ℓ) (usesOf S U ℓ))
     unfolding unassignedOf
     own-unassigned =

@@ -14,7 +14,8 @@ use Rattle.flow.specs.Refusals.{one, number, Test, firstApplying, itemTe
 use Rattle.flow.specs.Answers.{tells, foundValues, countValues}
 use Rattle.flow.specs.Graph.{graph}
 use Rattle.flow.specs.Reachable.{nodeAt, canRun, run, countsOf, chart}
-use Rattle.flow.specs.Findings.{findings, judge}
+use Rattle.flow.specs.Findings.{findings}
+use Rattle.flow.specs.Judge.{judge}
 use Rattle.flow.specs.Labels.{labelsFine, labelCheck}
 use Rattle.flow.proofs.Tests.{passed-one}
 use Rattle.flow.proofs.Answers.{refuses}

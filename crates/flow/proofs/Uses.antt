@@ -28,7 +28,7 @@ nodeNum S U u = nodeOf (nodeAt (graph S) (startOf (useSpan U u)))
 
 -- a use as the local's list holds it
 abbrev pub entry : List ℕ → List ℕ → ℕ → ℕ → Use
-entry S U ℓ u = record { number = u; span = useSpan U u; kind = useKindOf (useWord U u); inClosure = isInClosure (localAt S ℓ) (useWord U u); place = nodeAt (graph S) (startOf (useSpan U u)) }
+entry S U ℓ u = record { number = u; span = useSpan U u; kind = useKindOf (useWord U u); inClosure = isInClosure (localAt S ℓ) (useWord U u); found = nodeAt (graph S) (startOf (useSpan U u)) }
 
 -- the list of the own uses from number k on
 pub data From (S U : List ℕ) (ℓ : ℕ) : ℕ → List Use → Type 0 where

@@ -14,7 +14,8 @@ use Rattle.flow.specs.Answers.{Told}
 use Rattle.flow.specs.Graph.{graph}
 use Rattle.flow.specs.Reachable.{reachable}
 use Rattle.flow.specs.Locals.{Finding}
-use Rattle.flow.specs.Findings.{findings, judge}
+use Rattle.flow.specs.Findings.{findings}
+use Rattle.flow.specs.Judge.{judge}
 
 -- the bytes of a text, of which the first k
 abbrev pub firstBytes : ℕ → String → List ℕ

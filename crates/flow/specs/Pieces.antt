@@ -18,7 +18,8 @@ use Rattle.flow.specs.Refusals.{pairVerdict, miscount, badItem, outnumbe
 use Rattle.flow.specs.Graph.{nodeCount, graph, newNode, connect, setCurrent, advanceTo, recordCode, setStart, code, closeInto, jump, declare, labelNode, simpleStmt, newNodes, withLabels, entered, inside, inLoop, startGraph, outside, buildStmt, buildBlock, buildArms}
 use Rattle.flow.specs.Reachable.{successors, reachable, nodeAt, canRun, nodeAmong}
 use Rattle.flow.specs.Locals.{Finding, localsFrom, locals, noValue, writesJudged, tracked, isInClosure}
-use Rattle.flow.specs.Findings.{findings, usesFrom, allFound, isAliveAt, afterWrites, liveAfterWrites, isEmptyRead, firstEmptyRead, firstAt, meetsHere, predecessors, meets, ahead, anyFlag, isOverwrittenUnread, isOverwritten, overwrittenAt, overwrittenBelow, firstUnassignedUse, initialOverwritten, writesOverwritten, usesOf, unassignedOf, overwrittenOf, ofEach, judge}
+use Rattle.flow.specs.Findings.{findings, usesFrom, allFound, isAliveAt, afterWrites, liveAfterWrites, isEmptyRead, firstEmptyRead, firstAt, meetsHere, predecessors, meets, ahead, anyFlag, isOverwrittenUnread, isOverwritten, overwrittenAt, overwrittenBelow, firstUnassignedUse, initialOverwritten, writesOverwritten, usesOf, unassignedOf, overwrittenOf, ofEach}
+use Rattle.flow.specs.Judge.{judge}
 use Rattle.flow.specs.Tree.{inFront, opened, read, parse, tree, labelsOf}
 use Rattle.flow.specs.Listing.{bytes, printedWords, digits, numbers, findingLine, findingLines, report}
 open record kinds using (WHILE, REPEAT, IF, END, UNTIL, LOCAL, NAME, LABEL, GOTO, DO, CALL, PLAIN)

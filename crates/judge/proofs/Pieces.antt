@@ -15,7 +15,8 @@ use Rattle.flow.specs.Tree.{inFront, opened, read, parse, tree, labelsOf}
 use Rattle.flow.specs.Graph.{graph, newNode, connect, setCurrent, advanceTo, recordCode, setStart, code, closeInto, jump, declare, labelNode, simpleStmt, newNodes, withLabels, entered, inside, inLoop, startGraph, outside, buildStmt, buildBlock, buildArms}
 use Rattle.flow.specs.Reachable.{reachable, nodeAmong, nodeAt, canRun}
 use Rattle.flow.specs.Locals.{Finding, localsFrom, locals, noValue, writesJudged, tracked, isInClosure}
-use Rattle.flow.specs.Findings.{findings, wordsOf, spansOf, judge, usesFrom, allFound, isAliveAt, afterWrites, liveAfterWrites, isEmptyRead, firstEmptyRead, firstAt, meetsHere, predecessors, meets, ahead, anyFlag, isOverwrittenUnread, isOverwritten, overwrittenAt, overwrittenBelow, firstUnassignedUse, initialOverwritten, writesOverwritten, usesOf, unassignedOf, overwrittenOf, ofEach}
+use Rattle.flow.specs.Findings.{findings, usesFrom, allFound, isAliveAt, afterWrites, liveAfterWrites, isEmptyRead, firstEmptyRead, firstAt, meetsHere, predecessors, meets, ahead, anyFlag, isOverwrittenUnread, isOverwritten, overwrittenAt, overwrittenBelow, firstUnassignedUse, initialOverwritten, writesOverwritten, usesOf, unassignedOf, overwrittenOf, ofEach}
+use Rattle.flow.specs.Judge.{wordsOf, spansOf, judge}
 use Rattle.flow.specs.Pieces.{Fact, nodes, edges, reached, offset, lists, prints, sameList, starred}
 use Rattle.judge.specs.Lent.{leaves}
 

@@ -9,7 +9,8 @@ use lib.ListN.{length, length-map}
 use Rattle.search.specs.Search.{zeros}
 use Rattle.flow.specs.Graph.{Graph, nodeCount, graph}
 use Rattle.flow.specs.Locals.{onlyIf, localAt, Declaration, declaration}
-use Rattle.flow.specs.Findings.{Use, usesOf, allFound, liveAfterWrites, firstEmptyRead, firstUnassignedUse, ofUse, unassignedOf, wordsOf}
+use Rattle.flow.specs.Findings.{Use, usesOf, allFound, liveAfterWrites, firstEmptyRead, firstUnassignedUse, ofUse, unassignedOf}
+use Rattle.flow.specs.Judge.{wordsOf}
 use Rattle.flow.proofs.OwnUses.{Renumbers, nodes-live, renumbered-live, renumbered-first}
 use Rattle.use_words.specs.Words.{usesIn, spanless}
 use Rattle.live_steps.specs.Walk.{chart}

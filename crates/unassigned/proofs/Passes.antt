@@ -8,7 +8,8 @@ use native.Mathlib.Numerals.{add-one}
 use native.Mathlib.Decide.{ℕ-discrete}
 use lib.ListN.{length, set, drop, length-set, length-append}
 use lib.Seq.{getD-set-same, getD-set-other, drop-set-lt, drop-drop}
-use Rattle.flow.specs.Findings.{unassignedOf, ofEach, wordsOf}
+use Rattle.flow.specs.Findings.{unassignedOf, ofEach}
+use Rattle.flow.specs.Judge.{wordsOf}
 use Rattle.live_walk.specs.Walk.{Ready}
 use Rattle.locals.specs.Entries.{Room, Added}
 use Rattle.locals.proofs.Entries.{added-none, added-more, added-long}
