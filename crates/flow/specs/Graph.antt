@@ -181,12 +181,12 @@ unfoldable mutual
   -- "REPEAT: nodes body, condition, after; move to body; body end to condition; then condition to body unless true, to after unless false. UNTIL records its span at condition, whose code start remains 0."
   buildStmt (repeat-loop w b until) st g =
       let body = nodeCount g in let condition = nodeCount g + 1 in let after = nodeCount g + 2 in let t = literalTruth (conditionOf w) in
-      let h : Graph = g ▷ newNode ▷ advanceTo body ▷ newNode ▷ newNode in
+      let h : Graph = g ▷ newNode ▷ newNode ▷ newNode ▷ advanceTo body in
       buildBlock b (inside (scopeEndOf w) b (inLoop after condition st) h) (h ▷ entered b)
       ▷ closeInto condition
-      ▷ recordCode until condition
       ▷ unlessTrue t (connect condition body)
       ▷ unlessFalse t (connect condition after)
+      ▷ recordCode until condition
       ▷ setCurrent after
   -- "FOR: code node; node head, moved to; node after; body end to head; then head to after."
   buildStmt (for-loop w s b) st g =

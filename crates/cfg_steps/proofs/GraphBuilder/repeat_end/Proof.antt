@@ -43,7 +43,7 @@ same-length-2 : tie.Need-same-length-2
 same-length-2 c = search needs
 
 returns : tie.Need-returns
-returns c = λ ks n l ok q. repeat-did ks _ _ n l _ (c .before .before .before .before .before .before .before .before .before .before .before .before .before .before .before .before .args .body) (c .before .before .before .before .before .before .before .before .before .before .before .before .before .before .before .before .args .truth) _ _ (c .before .before .before .before .before .before .before .before .before .before .before .before .record-code .ensures .0 ks _ n l ok q) (c .before .before .before .before .before .before .before .before .before .may-fail .ensures) (c .before .before .before .before .may-hold .ensures) (c .before .before .before .before .before .before .before .connect-if .ensures) (c .before .before .connect-if2 .ensures) (omega (arith, c .before .before .before .before .before .before .before .before .before .before .before .before .before .before .before .before .pre .1 .0, c .before .before .before .before .before .before .before .before .before .before .before .before .record-code .ensures .1 .0))
+returns c = λ ks n l ok q. repeat-did ks _ _ n l _ (c .before .before .before .before .before .before .before .before .before .before .before .before .before .before .before .before .args .body) (c .before .before .before .before .before .before .before .before .before .before .before .before .before .before .before .before .args .j) (c .before .before .before .before .before .before .before .before .before .before .before .before .before .before .before .before .args .truth) _ _ (c .before .before .before .before .before .before .before .before .before .before .before .before .record-code .ensures .0 ks _ n l ok q) (c .before .before .before .before .before .before .before .before .before .may-fail .ensures) (c .before .before .before .before .may-hold .ensures) (c .before .before .before .before .before .before .before .connect-if .ensures) (c .before .before .connect-if2 .ensures) (omega (arith, c .before .before .before .before .before .before .before .before .before .before .before .before .before .before .before .before .pre .1 .0, c .before .before .before .before .before .before .before .before .before .before .before .before .record-code .ensures .1 .0))
 
 pub repeat-end-spec : {M : Type 1} → statement M
 repeat-end-spec =
