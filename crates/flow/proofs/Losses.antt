@@ -28,7 +28,7 @@ any-law flags (v ∷ vs) =
 
 meets-map : {g : Graph} {d : Declaration} {H K : ℕ → Type 0} → ((v : ℕ) → H v ↔ K v) → {a b : ℕ} → Meets g d H a b → Meets g d K a b
 meets-map f (met {v = v} l h) = met l (f v .0 h)
-meets-map f (past {u = u} l n e m) = past l (λ h. n (f u .1 h)) e (meets-map f m)
+meets-map f (past {x = u} l n e m) = past l (λ h. n (f u .1 h)) e (meets-map f m)
 
 -- "the next use in its node is a pure write or, where none follows there, .."
 abbrev pub Lost : List ℕ → List ℕ → ℕ → ℕ → ℕ → Type 0

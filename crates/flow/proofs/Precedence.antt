@@ -53,6 +53,7 @@ unfolding firstApplying
 admitted-none [] e = tt
 admitted-none (t ∷ ts) e = let p = passed-one (t .1) (t .0) (firstApplying ts) e in (p .0, admitted-none ts (p .1))
 
+-- "Sheets are admitted when none applies"; nothing rests on it
 pub none-admitted : (ts : List Test) → NoneApplies ts → firstApplying ts ≡ Admitted
 unfolding firstApplying
 none-admitted [] n = refl

@@ -12,15 +12,14 @@ use borrow.Author.Tests.{eqb-true, eqb-false}
 use lib.Dec.{eqb}
 use lib.ListN.{length, getD, drop, drop-of-length-le}
 use lib.Seq.{drop-cons}
-use Rattle.flow.specs.declared.Found.{Found}
-use Rattle.flow.specs.declared.Found.the-variants.{At, Nothing}
+use Rattle.flow.specs.declared.Found.the-variants.{At}
 use Rattle.flow.specs.Sheet.{all, startOf, useWords, useSpans, localOf, useKindOf}
 use Rattle.flow.specs.Graph.{graph}
 use Rattle.flow.specs.Reachable.{nodeAt, nodeOf}
 use Rattle.flow.specs.Locals.{localAt, isInClosure, onlyIf}
-use Rattle.flow.specs.Findings.{Use, isFound, usesFrom, usesOf, allFound, Meeting, noUse, aRead, aPureWrite, meeting, firstAt, isNoUse, isARead, isAPureWrite, isRead, isWrite, orElse}
+use Rattle.flow.specs.Findings.{Use, usesFrom, usesOf, allFound, Meeting, noUse, aRead, aPureWrite, meeting, firstAt, isNoUse, isARead, isAPureWrite, isRead, isWrite, orElse}
 use Rattle.flow.specs.Demand.{useWord, useSpan, Own, OwnAt, AtNode, AllFound, PureWrite, IsRead, IsWrite}
-use Rattle.flow.proofs.Laws.{Next, next-split, next-unique, next-here, next-skip, next-past, and-law, or-map, eqb-law, mem-append, mem-one, mem-only}
+use Rattle.flow.proofs.Laws.{found-law, Next, next-split, next-unique, next-here, next-skip, next-past, and-law, or-map, eqb-law, mem-append, mem-one, mem-only}
 
 -- the node of a use, where it finds one
 abbrev pub nodeNum : List ℕ → List ℕ → ℕ → ℕ
@@ -72,10 +71,6 @@ module _ (S U : List ℕ) (ℓ : ℕ) where
   from-all = from-uses (length (useWords U)) 0 (omega arith)
 
   -- ---- "whose uses all find a node"
-
-  found-law : (f : Found) → (isFound f ≡ true) ↔ ((v : ℕ) × (f ≡ At v))
-  found-law (At v) = (λ e. (v, refl), λ q. refl)
-  found-law Nothing = (λ e. absurd (false≢true e), λ q. ap isFound (q .1))
 
   found-from : {k : ℕ} {us : List Use} → From S U ℓ k us → (allFound us ≡ true) ↔ ((u : ℕ) → k ≤ u → Own U ℓ u → (v : ℕ) × AtNode S U u v)
   unfolding allFound all

@@ -1,4 +1,4 @@
--- Demand 3, over what judge writes. S is a sheet, U a use sheet, ℓ a local number, u and w are use numbers, v and x nodes.
+-- Demand 3, over what judge writes. Here w is a use number, as u is.
 -- Assumes nothing: these are definitions.
 use mathlib.Core.Path.{_≡_}
 use mathlib.Core.Logic.{_⊎_, _↔_}
@@ -77,7 +77,7 @@ pub record OverwrittenUnread (S U : List Word) (ℓ : LocalNumber) (x : Node) : 
   pub written : MeetsFrom S U ℓ x PureWrite
   pub unread : MeetsFrom S U ℓ x IsRead → ⊥
 
--- "the reads outside closures that no live path from after a write reaches and no earlier write shares a node with"
+-- "the reads outside closures that no live path from after a write reaches and no earlier write shares a node with"; "A path reaches a use when it ends at the use's node."
 pub record EmptyRead (S U : List Word) (ℓ : LocalNumber) (u : UseNumber) : Type 0 where
   pub own : Own U ℓ u
   pub read : IsRead U u
