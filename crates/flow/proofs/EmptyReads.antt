@@ -11,9 +11,8 @@ use lib.Dec.{eqb}
 use lib.ListN.{getD}
 use Rattle.flow.specs.Sheet.{member}
 use Rattle.flow.specs.Graph.{Graph, graph}
-use Rattle.flow.specs.Reachable.{nodeOf}
 use Rattle.flow.specs.Locals.{Declaration, declaration, onlyIf}
-use Rattle.flow.specs.Findings.{Use, isWrite, usesOf, node, liveAfterWrites, isEmptyRead, firstEmptyRead}
+use Rattle.flow.specs.Findings.{Use, nodeOf, isWrite, usesOf, node, liveAfterWrites, isEmptyRead, firstEmptyRead}
 use Rattle.flow.specs.Paths.{After}
 use Rattle.flow.specs.Demand.{Own, OwnAt, AtNode, AllFound, IsRead, IsWrite, InClosure, EmptyRead}
 use Rattle.flow.proofs.Flags.{live-decides}

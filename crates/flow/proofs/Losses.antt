@@ -10,9 +10,9 @@ use lib.Dec.{eqb}
 use lib.ListN.{getD}
 use Rattle.search.specs.Search.{In}
 use Rattle.flow.specs.Graph.{Graph, graph}
-use Rattle.flow.specs.Reachable.{successors, nodeOf}
+use Rattle.flow.specs.Reachable.{successors}
 use Rattle.flow.specs.Locals.{Declaration, declaration}
-use Rattle.flow.specs.Findings.{Use, Meeting, usesOf, meets, ahead, anyFlag, isOverwrittenUnread, isOverwritten, overwrittenAt, orElse, firstAt}
+use Rattle.flow.specs.Findings.{Use, nodeOf, Meeting, usesOf, meets, ahead, anyFlag, isOverwrittenUnread, isOverwritten, overwrittenAt, orElse, firstAt}
 use Rattle.flow.specs.Paths.{Meets, met, past}
 use Rattle.flow.specs.Demand.{Own, OwnAt, AllFound, Holds, MeetsFrom, OverwrittenUnread, NextAt, PureWrite, IsRead, IsWrite}
 use Rattle.flow.proofs.Flags.{HoldsIn, edge-node, meets-decides}

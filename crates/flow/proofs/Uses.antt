@@ -15,9 +15,9 @@ use lib.Seq.{drop-cons}
 use Rattle.flow.specs.declared.Found.the-variants.{At}
 use Rattle.flow.specs.Sheet.{all, startOf, useWords, useSpans, localOf, useKindOf}
 use Rattle.flow.specs.Graph.{graph}
-use Rattle.flow.specs.Reachable.{nodeAt, nodeOf}
+use Rattle.flow.specs.Reachable.{nodeAt}
 use Rattle.flow.specs.Locals.{localAt, isInClosure, onlyIf}
-use Rattle.flow.specs.Findings.{Use, usesFrom, usesOf, allFound, Meeting, noUse, aRead, aPureWrite, meeting, firstAt, isNoUse, isARead, isAPureWrite, isRead, isWrite, orElse}
+use Rattle.flow.specs.Findings.{Use, nodeOf, usesFrom, usesOf, allFound, Meeting, noUse, aRead, aPureWrite, meeting, firstAt, isNoUse, isARead, isAPureWrite, isRead, isWrite, orElse}
 use Rattle.flow.specs.Demand.{useWord, useSpan, Own, OwnAt, AtNode, AllFound, PureWrite, IsRead, IsWrite}
 use Rattle.flow.proofs.Laws.{found-law, Next, next-split, next-unique, next-here, next-skip, next-past, and-law, or-map, eqb-law, mem-append, mem-one, mem-only}
 

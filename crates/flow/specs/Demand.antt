@@ -3,13 +3,14 @@
 use mathlib.Core.Path.{_≡_}
 use mathlib.Core.Logic.{_⊎_, _↔_}
 use mathlib.Core.Bool.{true}
-use mathlib.Core.List.{List, [], _∷_}
+use mathlib.Core.List.{List, [], _∷_, _++_}
 use Prim.Native.Nat.{ℕ, _+_, _-_, _/_, _%_, _^_, _<_, min}
 use lib.ListN.{length, getD}
 use Rattle.flow.specs.declared.Found.the-variants.{At}
 use Rattle.flow.specs.Sheet.{Word, Span, Node, LocalNumber, UseNumber, useWords, useSpans, localOf, useKindOf, startOf}
+use Rattle.flow.specs.Answers.{foundValues}
 use Rattle.flow.specs.Graph.{graph}
-use Rattle.flow.specs.Reachable.{nodeAt, nodeOf}
+use Rattle.flow.specs.Reachable.{nodeAt}
 use Rattle.flow.specs.Locals.{declaration, locals, localAt, tracked, noValue, writesJudged, isInClosure, findingWord}
 use Rattle.flow.specs.Paths.{Edge, After, Meets}
 
@@ -125,10 +126,10 @@ pub record Listed (words : List Word) (spans : List Span) (word : Word) (span : 
   pub isWord : getD words place 0 ≡ word
   pub isSpan : getD spans place 0 ≡ span
 
--- "Unassigned come first, in local order; overwritten follow per local: initial value, then writes by node, use order within a node": what a word is ordered by
+-- "Unassigned come first, in local order; overwritten follow per local: initial value, then writes by node, use order within a node": what a word is ordered by, the node being that of its use
 abbrev pub order : List Word → List Word → Word → List ℕ
 order S U word =
-    word % 2 ∷ word / 2 % 2 ^ 31 ∷ min 1 (word / 2 ^ 32) ∷ nodeOf (nodeAt (graph S) (startOf (useSpan U (word / 2 ^ 32 - 1)))) ∷ word / 2 ^ 32 ∷ []
+    word % 2 ∷ word / 2 % 2 ^ 31 ∷ min 1 (word / 2 ^ 32) ∷ foundValues (nodeAt (graph S) (startOf (useSpan U (word / 2 ^ 32 - 1)))) ++ (word / 2 ^ 32 ∷ [])
 
 -- by the first number that differs
 abbrev pub Before : List ℕ → List ℕ → Type 0

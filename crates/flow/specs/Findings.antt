@@ -10,7 +10,7 @@ use Rattle.flow.specs.declared.Found.{Found}
 use Rattle.flow.specs.declared.Found.the-variants.{At, Nothing}
 use Rattle.flow.specs.Sheet.{Word, Span, Node, LocalNumber, UseNumber, member, all, startOf, useWords, useSpans, localOf, useKindOf}
 use Rattle.flow.specs.Graph.{Graph, nodeCount, graph}
-use Rattle.flow.specs.Reachable.{successors, nodeAt, nodeOf}
+use Rattle.flow.specs.Reachable.{successors, nodeAt}
 use Rattle.flow.specs.Locals.{onlyIf, Local, locals, noValue, writesJudged, tracked, isInClosure, Declaration, declaration, localAt, Finding, findingWord}
 
 -- a use of a local, with its number and the node of its span's start; below, u is a use and us are uses in use order
@@ -19,6 +19,10 @@ Use = record { number : UseNumber; span : Span; kind : ℕ; inClosure : Bool; fo
 
 abbrev pub isFound : Found → Bool
 isFound f = elim f [ At v ↦ true | Nothing ↦ false ]
+
+-- the node that was found, 0 where none was; a local with such a use yields nothing
+abbrev pub nodeOf : Found → Node
+nodeOf f = elim f [ At v ↦ v | Nothing ↦ 0 ]
 
 abbrev pub node : Use → Node
 node u = nodeOf (u .found)
