@@ -6,7 +6,8 @@ use mathlib.Core.List.{List, _++_, map-append}
 use native.Mathlib.Omega.{arith}
 use lib.ListN.{length}
 use Rattle.flow.specs.Locals.{Finding, locals}
-use Rattle.flow.specs.Findings.{usesOf, unassignedOf, overwrittenOf, ofEach, findings, wordsOf}
+use Rattle.flow.specs.Findings.{usesOf, unassignedOf, overwrittenOf, ofEach, findings}
+use Rattle.flow.specs.Judge.{wordsOf}
 use Rattle.locals.specs.Columns.{Pass, usesByNode}
 use Rattle.locals.specs.Entries.{Added}
 use Rattle.locals.proofs.Entries.{added-more}

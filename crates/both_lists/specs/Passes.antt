@@ -4,7 +4,8 @@ use Prim.Native.Nat.{ℕ}
 use mathlib.Core.List.{List}
 use denote.Ref.{RefT, now}
 use Rattle.search.specs.Lent.{Column, held, left}
-use Rattle.flow.specs.Findings.{findings, wordsOf}
+use Rattle.flow.specs.Findings.{findings}
+use Rattle.flow.specs.Judge.{wordsOf}
 use Rattle.live_walk.specs.Walk.{Ready}
 use Rattle.locals.specs.Columns.{Charted, Named, Tables}
 use Rattle.locals.specs.Entries.{Adds}

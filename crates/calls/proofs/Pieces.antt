@@ -9,7 +9,7 @@ use lib.Dec.{eqb, ltb}
 use Rattle.search.specs.Search.{closure, filter}
 use Rattle.flow.specs.Sheet.{all}
 use Rattle.flow.specs.Kinds.{argumentFits, itemFits, isCode, literalTruth}
-use Rattle.flow.specs.Refusals.{one, miscount, badItem, outnumbered, tooDeep, mayStand, openAfter, pairsUp, mayFollow, sideBySide, badNesting, inLine, scopesAfter, held, offTheLine, nameFits, namesFit, badName, firstApplying, itemTests, sheetTests, sheetVerdict}
+use Rattle.flow.specs.Refusals.{one, miscount, badItem, outnumbered, tooDeep, mayStand, openAfter, pairsUp, mayFollow, sideBySide, badNesting, inOrder, scopesAfter, insideScopes, offTheLine, nameFits, namesFit, badName, firstApplying, itemTests, sheetTests, sheetVerdict}
 use Rattle.flow.specs.Answers.{Told, told, foundValues}
 use Rattle.flow.specs.Tree.{inFront, opened, read, parse, tree, labelsOf}
 use Rattle.flow.specs.Graph.{graph, newNode, connect, setCurrent, advanceTo, recordCode, setStart, code, closeInto, jump, declare, labelNode, simpleStmt, newNodes, withLabels, entered, inside, inLoop, startGraph, outside, buildStmt, buildBlock, buildArms}
@@ -34,5 +34,5 @@ called x S (lists fs) = true
 called x S (prints t) = true
 
 pub pieces-called : (x : Columns) → all (λ p. all (called x (p .sheetOf)) (p .facts)) starred ≡ true
-unfolding starred closure argumentFits itemFits isCode literalTruth miscount all badItem outnumbered tooDeep mayStand openAfter pairsUp mayFollow sideBySide badNesting inLine scopesAfter held offTheLine nameFits namesFit badName firstApplying itemTests sheetTests sheetVerdict inFront opened read parse tree labelsOf newNode connect setCurrent advanceTo recordCode setStart code closeInto jump declare labelNode simpleStmt newNodes withLabels entered inside inLoop startGraph outside graph buildStmt buildBlock buildArms reachable nodeAmong nodeAt canRun run chart chartOf
+unfolding starred closure argumentFits itemFits isCode literalTruth miscount all badItem outnumbered tooDeep mayStand openAfter pairsUp mayFollow sideBySide badNesting inOrder scopesAfter insideScopes offTheLine nameFits namesFit badName firstApplying itemTests sheetTests sheetVerdict inFront opened read parse tree labelsOf newNode connect setCurrent advanceTo recordCode setStart code closeInto jump declare labelNode simpleStmt newNodes withLabels entered inside inLoop startGraph outside graph buildStmt buildBlock buildArms reachable nodeAmong nodeAt canRun run chart chartOf
 pieces-called x = refl

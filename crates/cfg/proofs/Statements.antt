@@ -163,9 +163,9 @@ module _ (ks ss : List ℕ) (e : length ss ≡ length ks) (few : length ks ≤ 1
 
   pub repeat-opened : {b h t r : GraphBuilder} {x y z u : Cols} (truth : Truth) (s j : ℕ) → kindOf word ≡ 3 → truth ≡ literalTruth (conditionOf word) → s ≡ scopeEndOf word
       → b .item ≡ i + 1 → Good b x → o .top .arms ≡ no-more
-      → Did ks (λ js g. newNode (newNode (advanceTo (b .nodes) (newNode g)))) 3 b x h y → Looped ks ss s (b .nodes + 2) (b .nodes + 1) h y t z
+      → Did ks (λ js g. advanceTo (b .nodes) (newNode (newNode (newNode g)))) 3 b x h y → Looped ks ss s (b .nodes + 2) (b .nodes + 1) h y t z
       → (t .item < length ks → j ≡ t .item + 1) → (length ks ≤ t .item → j ≡ t .item) → j ≤ length ks → t .item ≤ j → getD ss (t .item) 0 ≡ o .top .close
-      → Did ks (λ js g. setCurrent (b .nodes + 2) (unlessFalse truth (connect (b .nodes + 1) (b .nodes + 2)) (unlessTrue truth (connect (b .nodes + 1) (b .nodes)) (recordCode (getD js (t .item) 0) (b .nodes + 1) g)))) 0 (withItem j t) z r u → Opened ks ss i b x r u
+      → Did ks (λ js g. setCurrent (b .nodes + 2) (recordCode (getD js (t .item) 0) (b .nodes + 1) (unlessFalse truth (connect (b .nodes + 1) (b .nodes + 2)) (unlessTrue truth (connect (b .nodes + 1) (b .nodes)) g)))) 0 (withItem j t) z r u → Opened ks ss i b x r u
   unfolding buildStmt
   repeat-opened truth s j k et es at ok a hd bd j1 j2 j3 j4 close tl =
       loop-opened (repeat-loop word B (o .top .close)) _ _ 3 s _ _ j at ok a (read-at ks ss e i lt ∙ read-repeat (itemAt ks ss i) o k) hd bd j1 j2 j3 j4 tl

@@ -6,12 +6,13 @@ use mathlib.Core.List.{List}
 use mathlib.Core.Bool.{Bool, true, false, cond}
 use Prim.Native.Nat.{ℕ, _+_, _<_}
 use native.Mathlib.Omega.{arith}
+use lib.ListN.{getD}
 use Rattle.flow.specs.declared.Truth.{Truth}
 use Rattle.flow.specs.declared.Truth.the-variants.{False, True, Unknown}
-use Rattle.flow.specs.Graph.{Graph, absent, connect, setCurrent, enterWhen, unlessTrue, unlessFalse}
+use Rattle.flow.specs.Graph.{Graph, absent, connect, setCurrent, recordCode, enterWhen, unlessTrue, unlessFalse}
 use Rattle.cfg_steps.specs.declared.GraphBuilder.{GraphBuilder}
 use Rattle.cfg_edges.specs.Halves.{joined, mayFail, mayHold}
-use Rattle.cfg_steps.specs.Columns.{Cols, cols, graphOf, settingsOf, Good, Did}
+use Rattle.cfg_steps.specs.Columns.{Cols, cols, graphOf, settingsOf, Good, Did, repeatEnd}
 use Rattle.cfg_steps.proofs.Fits.{good-as}
 use Rattle.cfg_steps.proofs.Ops.{edge-did, withCursor, did-trans, current-of}
 use Rattle.cfg_steps.proofs.Simple.{did-as}
@@ -74,13 +75,21 @@ unfolding setCurrent connect
 moved-twice u v true a b g = refl
 moved-twice u v false a b g = refl
 
-pub repeat-did : (ks e c n l : List ℕ) {b : GraphBuilder} {x : Cols} (t : GraphBuilder) (body : ℕ) (truth : Truth) (e1 e2 : List ℕ) {f : List ℕ → Graph → Graph} {p q : Bool}
-    → (d : Did ks f 0 b x t (cols e c n l)) → p ≡ mayFail truth → q ≡ mayHold truth → e1 ≡ cond p (joined (body + 1) body e) e → e2 ≡ cond q (joined (body + 1) (body + 2) e1) e1 → body + 2 < t .nodes
-    → Did ks (λ ss g. setCurrent (body + 2) (unlessFalse truth (connect (body + 1) (body + 2)) (unlessTrue truth (connect (body + 1) body) (f ss g)))) 0 b x (withCursor ks t e c n l (d .good) (body + 2)) (cols e2 c n l)
-repeat-did ks e c n l t body truth e1 e2 {f} {p} {q} d ep eq h1 h2 hb =
+-- a span and edges leave each other alone
+span-last : (t : Truth) (body s : ℕ) (g : Graph)
+    → setCurrent (body + 2) (unlessFalse t (connect (body + 1) (body + 2)) (unlessTrue t (connect (body + 1) body) (recordCode s (body + 1) g))) ≡ repeatEnd t body s g
+unfolding setCurrent connect recordCode
+span-last False body s g = refl
+span-last True body s g = refl
+span-last Unknown body s g = refl
+
+pub repeat-did : (ks e c n l : List ℕ) {b : GraphBuilder} {x : Cols} (t : GraphBuilder) (body j : ℕ) (truth : Truth) (e1 e2 : List ℕ) {p q : Bool}
+    → (d : Did ks (λ ss. recordCode (getD ss j 0) (body + 1)) 0 b x t (cols e c n l)) → p ≡ mayFail truth → q ≡ mayHold truth → e1 ≡ cond p (joined (body + 1) body e) e → e2 ≡ cond q (joined (body + 1) (body + 2) e1) e1 → body + 2 < t .nodes
+    → Did ks (λ ss. repeatEnd truth body (getD ss j 0)) 0 b x (withCursor ks t e c n l (d .good) (body + 2)) (cols e2 c n l)
+repeat-did ks e c n l t body j truth e1 e2 {p} {q} d ep eq h1 h2 hb =
     let d1 = if-did ks t e c n l (d .good) (body + 1) body (body + 2) p e1 h1 (omega arith) (omega arith) (inl hb) in
     let d2 = if-did ks _ e1 c n l (d1 .good) (body + 1) (body + 2) (body + 2) q e2 h2 (omega arith) hb (inl hb) in
-    did-as (omega arith) (λ ss g. moved-twice (body + 2) (body + 2) q (body + 1) (body + 2) _ ∙ ap (setCurrent (body + 2)) (same-edges truth p q ep eq (f ss g))) (did-trans (did-trans d d1) d2)
+    did-as (omega arith) (λ ss g. moved-twice (body + 2) (body + 2) q (body + 1) (body + 2) _ ∙ ap (setCurrent (body + 2)) (same-edges truth p q ep eq (recordCode (getD ss j 0) (body + 1) g)) ∙ span-last truth body (getD ss j 0) g) (did-trans (did-trans d d1) d2)
   where
     same-edges : (t : Truth) (p q : Bool) → p ≡ mayFail t → q ≡ mayHold t → (g : Graph)
         → cond q (connect (body + 1) (body + 2) (cond p (connect (body + 1) body g) g)) (cond p (connect (body + 1) body g) g)

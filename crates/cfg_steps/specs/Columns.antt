@@ -151,9 +151,9 @@ Does ks f n b r x = Good b (x held) → Did ks f n b (x held) r (x left)
 abbrev pub DoesCode : List ℕ → ℕ → Bool → (ℕ → Graph → Graph) → ℕ → GraphBuilder → GraphBuilder → Lent → Type 0
 DoesCode ks i starts f n b r x = Good b (x held) → hasStart (getD ks i 0) ≡ starts → Did ks (λ ss. f (getD ss i 0)) n b (x held) r (x left)
 
--- "UNTIL records its span at condition"; "then condition to body unless true, to after unless false": the three nodes stand in a row
+-- "then condition to body unless true, to after unless false. UNTIL records its span at condition": the three nodes stand in a row
 abbrev pub repeatEnd : Truth → ℕ → ℕ → Graph → Graph
-repeatEnd t body s g = setCurrent (body + 2) (unlessFalse t (connect (body + 1) (body + 2)) (unlessTrue t (connect (body + 1) body) (recordCode s (body + 1) g)))
+repeatEnd t body s g = setCurrent (body + 2) (recordCode s (body + 1) (unlessFalse t (connect (body + 1) (body + 2)) (unlessTrue t (connect (body + 1) body) g)))
 
 -- ---- the labels standing directly in a block
 

@@ -392,17 +392,17 @@ impl GraphBuilder {
         h
     }
 
-    // REPEAT's nodes: its body, which is moved to, its condition, and the node after it.
+    // REPEAT's nodes: its body, its condition, and the node after it; the body is moved to.
     pub fn repeat_head(self, edges: &mut [u64]) -> GraphBuilder
         requires { ⌜ ((c n l : List ℕ) × Good self (cols (now edges) c n l)) ⌝ }
         requires { ⌜ self .nodes + 3 ≤ 1600 ⌝ }
-        ensures { λ r. ⌜ ((ks c n l : List ℕ) → Does ks (λ ss g. newNode (newNode (advanceTo (self .nodes) (newNode g)))) 3 self r (λ at. cols (at edges) c n l)) ⌝ }
+        ensures { λ r. ⌜ ((ks c n l : List ℕ) → Does ks (λ ss g. advanceTo (self .nodes) (newNode (newNode (newNode g)))) 3 self r (λ at. cols (at edges) c n l)) ⌝ }
     {
         let body = self.nodes;
         let b = self.new_node(edges);
-        let a = b.advance_to(edges, body);
-        let c = a.new_node(edges);
-        c.new_node(edges)
+        let c = b.new_node(edges);
+        let a = c.new_node(edges);
+        a.advance_to(edges, body)
     }
 
     // FOR's code, its head, which is moved to, and the node after it.

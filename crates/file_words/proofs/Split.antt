@@ -20,7 +20,7 @@ use Rattle.search.proofs.Bools.{neither, not-false-true}
 use Rattle.flow.specs.declared.Refusal.the-variants.{Miscount}
 use Rattle.flow.specs.Sheet.{countWord}
 use Rattle.flow.specs.Refusals.{number, miscount, firstApplying, pairTests, pairVerdict}
-use Rattle.flow.specs.Findings.{judge}
+use Rattle.flow.specs.Judge.{judge}
 use Rattle.flow.specs.Listing.{refused, fileWords, printedWords, printed, sheetsPrint}
 use Rattle.flow.proofs.Tests.{counted}
 use Rattle.file_words.specs.Input.{lostOrSpare}

@@ -14,7 +14,8 @@ use Rattle.flow.specs.Sheet.{kindWords, useWords, useSpans}
 use Rattle.flow.specs.Refusals.{sheetVerdict}
 use Rattle.flow.specs.Graph.{graph}
 use Rattle.flow.specs.Locals.{locals}
-use Rattle.flow.specs.Findings.{findings, wordsOf, spansOf}
+use Rattle.flow.specs.Findings.{findings}
+use Rattle.flow.specs.Judge.{wordsOf, spansOf}
 use Rattle.flow.specs.Admitted.{AdmittedSheet, AdmittedUses}
 use Rattle.flow.proofs.Flags.{node-count}
 use Rattle.flow.proofs.NameNodes.{name-node}

@@ -11,7 +11,8 @@ use lib.Seq.{getD-take}
 use Rattle.flow.specs.Sheet.{useWords, useSpans}
 use Rattle.flow.specs.Graph.{graph}
 use Rattle.flow.specs.Locals.{Finding, findingWord, locals}
-use Rattle.flow.specs.Findings.{findings, wordsOf, spansOf}
+use Rattle.flow.specs.Findings.{findings}
+use Rattle.flow.specs.Judge.{wordsOf, spansOf}
 use Rattle.flow.specs.Demand.{Entry}
 use Rattle.flow.specs.Admitted.{AdmittedSheet, AdmittedUses}
 use Rattle.flow.proofs.Demand3.{demand3}

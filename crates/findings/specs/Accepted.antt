@@ -11,7 +11,8 @@ use Rattle.flow.specs.Sheet.{kindWords, useWords, useSpans}
 use Rattle.flow.specs.Graph.{graph}
 use Rattle.flow.specs.Reachable.{countsOf}
 use Rattle.flow.specs.Locals.{locals}
-use Rattle.flow.specs.Findings.{findings, wordsOf, spansOf}
+use Rattle.flow.specs.Findings.{findings}
+use Rattle.flow.specs.Judge.{wordsOf, spansOf}
 use Rattle.unassigned.specs.Pass.{Figures}
 use Rattle.local_flow.specs.Sheets.{Sheets}
 use Rattle.search.specs.Lent.{Column, held, left}

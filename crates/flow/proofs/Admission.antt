@@ -59,8 +59,8 @@ module _ (S : List ℕ) (e : sheetVerdict false S ≡ Admitted) where
         shallow = passes .shallow;
         pairs = passes .pairs;
         beside = passes .beside;
-        inOrder = passes .line;
-        heldBy = passes .heldBy;
+        inOrder = passes .inOrder;
+        insideScopes = passes .insideScopes;
         namesInside = passes .named;
         tidy = tidy (kindWords S) (spanWords S) as-many (passes .pairs);
         closed = closed (kindWords S) (spanWords S) as-many (passes .pairs);
@@ -68,7 +68,7 @@ module _ (S : List ℕ) (e : sheetVerdict false S ≡ Admitted) where
         codes = codes;
         codeNodes = rw (graph-columns S .codeSpans) (graph-columns S .codeNodes);
         fewCodes = rw codes (few-items _ (few-spans isCode (items S)));
-        ends = rw codes (ends-rise (items S) (passes .fits) (passes .line));
+        ends = rw codes (ends-rise (items S) (passes .fits) (passes .inOrder));
         names = names;
         nameNodes = rw (graph-columns S .nameSpans) (graph-columns S .nameNodes);
         nameEnds = rw (graph-columns S .nameSpans) (graph-columns S .nameEnds);

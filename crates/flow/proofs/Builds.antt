@@ -271,13 +271,12 @@ module _ {c d : Bool} {P : ℕ → List ℕ → List ℕ → Graph → Type 0} (
         let v = nodeCount g in
         let e = r .count in
         let x = literalTruth (conditionOf w) in
-        let i = new (new (advance v (λ t. omega arith) (new r))) in
+        let i = advance v (λ t. omega arith) (new (new (new r))) in
         let o = arm b (of-block b) (scopeEndOf w) (v + 1) (inLoop (v + 2) (v + 1) st) (λ t. (fits-loop (v + 2) (v + 1) (omega arith) (omega arith) (omega arith) (h t), omega arith)) f i in
-        let y = span u (v + 1) (λ t. (omega (arith, r .many t), omega arith)) o in
-        let p = edge (v + 1) v (λ t. omega arith) y in
-        let z = by-truth x p y p in
+        let p = edge (v + 1) v (λ t. omega arith) o in
+        let z = by-truth x p o p in
         let m = edge (v + 1) (v + 2) (λ t. omega arith) z in
-        counted (move (v + 2) (by-truth x z m m)) (omega arith)
+        counted (move (v + 2) (span u (v + 1) (λ t. (omega (arith, r .many t), omega arith)) (by-truth x z m m))) (omega arith)
     of-stmt (for-loop w s b) n cs ns g q st h f l r =
         let v = nodeCount g in
         let e = r .count in

@@ -3,7 +3,7 @@
 use Prim.Native.Nat.{ℕ, zero, suc, _<_}
 use mathlib.Core.Path.{_≡_, refl, subst}
 use mathlib.Core.Bool.{true, false}
-use mathlib.Core.List.{List, [], _∷_, _++_, tail}
+use mathlib.Core.List.{List, [], _∷_, _++_}
 use native.Mathlib.Omega.{arith}
 use lib.ListN.{getD}
 use lib.Dec.{ltb}
@@ -44,14 +44,11 @@ abbrev Within : ℕ → Found → Type 0
 Within n (At v) = v < n
 Within n Nothing = Unit {0}
 
-tail-below : (vs : List ℕ) (n : ℕ) → AllBelow n vs → AllBelow n (tail vs)
-tail-below [] n h i = h i
-tail-below (v ∷ vs) n h i = h (suc i)
-
 among : (ss vs : List ℕ) (o n : ℕ) → AllBelow n vs → Within n (nodeAmong ss vs o)
 unfolding nodeAmong
 among [] vs o n h = tt
-among (s ∷ ss) vs o n h = either (Within n) (ltb o (endOf s)) (h 0) (among ss (tail vs) o n (tail-below vs n h))
+among (s ∷ ss) [] o n h = tt
+among (s ∷ ss) (v ∷ vs) o n h = either (Within n) (ltb o (endOf s)) (h 0) (among ss vs o n (λ i. h (suc i)))
 
 -- the node of an offset is a node
 pub code-node : (S : List ℕ) (o v : ℕ) → nodeAt (graph S) o ≡ At v → v < nodeCount (graph S)

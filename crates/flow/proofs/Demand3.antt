@@ -8,7 +8,8 @@ use native.Mathlib.Omega.{arith}
 use lib.ListN.{length, getD, length-map, List·getD-map}
 use Rattle.flow.specs.Sheet.{useWords, useKindOf}
 use Rattle.flow.specs.Locals.{Finding, findingWord, locals}
-use Rattle.flow.specs.Findings.{findings, unassignedOf, overwrittenOf, ofEach, wordsOf, spansOf}
+use Rattle.flow.specs.Findings.{findings, unassignedOf, overwrittenOf, ofEach}
+use Rattle.flow.specs.Judge.{wordsOf, spansOf}
 use Rattle.flow.specs.Demand.{useWord, Listed, Entry, Demand3, Before, order}
 use Rattle.flow.proofs.Laws.{mem-append, mem-at, mem-place, or-map}
 use Rattle.flow.proofs.Order.{each-findings, mem-each, Rising, rising-append, rising-each, rising-at, Coded, same-word, Prior, prior-by}

@@ -11,9 +11,8 @@ use lib.Dec.{eqb}
 use lib.ListN.{getD}
 use Rattle.flow.specs.Sheet.{member}
 use Rattle.flow.specs.Graph.{Graph, graph}
-use Rattle.flow.specs.Reachable.{nodeOf}
 use Rattle.flow.specs.Locals.{Declaration, declaration, onlyIf}
-use Rattle.flow.specs.Findings.{Use, isWrite, usesOf, node, liveAfterWrites, isEmptyRead, firstEmptyRead}
+use Rattle.flow.specs.Findings.{Use, nodeOf, isWrite, usesOf, node, liveAfterWrites, isEmptyRead, firstEmptyRead}
 use Rattle.flow.specs.Paths.{After}
 use Rattle.flow.specs.Demand.{Own, OwnAt, AtNode, AllFound, IsRead, IsWrite, InClosure, EmptyRead}
 use Rattle.flow.proofs.Flags.{live-decides}
@@ -22,11 +21,11 @@ use Rattle.flow.proofs.Uses.{nodeNum, entry, From, end, one, from-all, 
 
 -- a write of the local before k, at v
 abbrev Written : List ℕ → List ℕ → ℕ → ℕ → ℕ → Type 0
-Written S U ℓ k v = (w : ℕ) × (w < k) × OwnAt S U ℓ v w × IsWrite U w
+Written S U ℓ k v = (w : ℕ) × (w < k) × OwnAt S U ℓ w v × IsWrite U w
 
 -- a write from after which a live path reaches v
 abbrev Reached : List ℕ → List ℕ → ℕ → ℕ → Type 0
-Reached S U ℓ v = (w : ℕ) × (x : ℕ) × OwnAt S U ℓ x w × IsWrite U w × After (graph S) (declaration (graph S) ℓ) x v
+Reached S U ℓ v = (w : ℕ) × (x : ℕ) × OwnAt S U ℓ w x × IsWrite U w × After (graph S) (declaration (graph S) ℓ) x v
 
 module _ (S U : List ℕ) (ℓ : ℕ) (kinds : Kinds U) (all : AllFound S U ℓ) where
   live-law : (v : ℕ) → (eqb (getD (liveAfterWrites (graph S) (declaration (graph S) ℓ) (usesOf S U ℓ)) v 0) 1 ≡ true) ↔ Reached S U ℓ v
@@ -89,7 +88,7 @@ module _ (S U : List ℕ) (ℓ : ℕ) (kinds : Kinds U) (all : AllFound S U ℓ)
         read = t .0 .0 .0;
         outside = t .0 .0 .1;
         unreached = λ x y z a b n c. t .0 .1 (x, y, a, b, subst (After (graph S) (declaration (graph S) ℓ) y) (sym (ap nodeOf n)) c);
-        unshared = λ x z h a b n. t .1 (x, h, subst (λ (y : ℕ). OwnAt S U ℓ y x) (sym (ap nodeOf n)) a, b);
+        unshared = λ x z h a b n. t .1 (x, h, subst (λ (y : ℕ). OwnAt S U ℓ x y) (sym (ap nodeOf n)) a, b);
       },
       λ r. tests .1 (((r .read, r .outside), λ q. r .unreached (q .0) (q .1) v (q .2) (q .3) at (q .4)), λ q. r .unshared (q .0) v (q .1) (q .2) (q .3) at),
     )

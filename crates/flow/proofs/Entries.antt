@@ -9,12 +9,11 @@ use native.Mathlib.Omega.{arith}
 use native.Mathlib.Numerals.{add-one}
 use lib.ListN.{getD}
 use Rattle.flow.specs.Graph.{Graph, graph, nodeCount}
-use Rattle.flow.specs.Reachable.{nodeOf}
 use Rattle.flow.specs.Locals.{Declaration, declaration, localAt, tracked, noValue, writesJudged, Finding, findingWord}
 use Rattle.flow.specs.Findings.{Use, liveAfterWrites, ofUse, ofInitial, usesOf, allFound, ahead, firstUnassignedUse, initialOverwritten, writesOverwritten, unassignedOf, overwrittenOf, overwrittenAt, overwrittenBelow, isEmptyRead, firstEmptyRead}
 use Rattle.flow.specs.Demand.{useSpan, AllFound, Judgeable, Unassigned, Overwritten, OverwrittenInitial, Before}
 use Rattle.flow.proofs.Laws.{either, and-then, and-law, not-law, or-map, mem-append, mem-one, mem-only, mem-map}
-use Rattle.flow.proofs.Uses.{nodeNum, entry, all-found, From, end, one, from-all, Kinds, Is, Among}
+use Rattle.flow.proofs.Uses.{entry, all-found, From, end, one, from-all, Kinds, Is, Among}
 use Rattle.flow.proofs.EmptyReads.{empty-read}
 use Rattle.flow.proofs.Losses.{LostWrite, unread-law, lost-law, lost-from}
 use Rattle.flow.proofs.CodeNodes.{code-node}
@@ -144,11 +143,9 @@ module _ (S U : List ℕ) (kinds : Kinds U) (ℓ : ℕ) where
     abbrev Later : Use → Use → Type 0
     Later x y = Prior S U (ofUse 1 ℓ x) (ofUse 1 ℓ y)
 
-    later-by : (x y : Use) (u w : ℕ) → x ≡ entry S U ℓ u → y ≡ entry S U ℓ w → Before (nodeNum S U u ∷ suc u ∷ []) (nodeNum S U w ∷ suc w ∷ []) → Later x y
-    later-by x y u w e f b = prior-by S U (coded (suc u) (ap (ofUse 1 ℓ) e ∙ of-use 1 u)) (coded (suc w) (ap (ofUse 1 ℓ) f ∙ of-use 1 w)) (inr (refl, inr (refl, inr (refl, b))))
-
-    node-of : {v w : ℕ} → LostWrite S U ℓ v w → nodeNum S U w ≡ v
-    node-of l = ap nodeOf (l .here .atNode)
+    later-by : (x y : Use) {u w v z : ℕ} → x ≡ entry S U ℓ u → y ≡ entry S U ℓ w → LostWrite S U ℓ v u → LostWrite S U ℓ z w → Before (v ∷ suc u ∷ []) (z ∷ suc w ∷ []) → Later x y
+    later-by x y {u} {w} e f m n b =
+        prior-by S U (coded (suc u) (ap (ofUse 1 ℓ) e ∙ of-use 1 u)) (coded (suc w) (ap (ofUse 1 ℓ) f ∙ of-use 1 w)) (inr (refl, inr (refl, inr (refl, rw (m .here .atNode, n .here .atNode) b))))
 
     module _ (all : AllFound S U ℓ) where
       at-rising : (v : ℕ) {k : ℕ} {rest : List Use} → From S U ℓ k rest → Rising Later (overwrittenAt g (ahead g d us) v rest)
@@ -157,13 +154,13 @@ module _ (S U : List ℕ) (kinds : Kinds U) (ℓ : ℕ) where
       at-rising v (one {u = u} n r) =
           let test = lost-law S U ℓ kinds all v (n .here) r in
           rising-append _ _ (rising-only test (λ w. rising-one (entry S U ℓ u))) (at-rising v r)
-          (λ x y m k. let p = mem-only test (λ w. mem-one (entry S U ℓ u)) .0 m in let q = lost-from S U ℓ kinds all v r y .0 k in later-by x y u (q .0) (p .1) (q .1) (inr (node-of (p .0) ∙ sym (node-of (q .3)), inl (omega (arith, q .2)))))
+          (λ x y m k. let p = mem-only test (λ w. mem-one (entry S U ℓ u)) .0 m in let q = lost-from S U ℓ kinds all v r y .0 k in later-by x y (p .1) (q .1) (p .0) (q .3) (inr (refl, inl (omega (arith, q .2)))))
 
       lost-rising : Rising Later (overwrittenBelow g (ahead g d us) (nodeCount g) us)
       lost-rising =
           rw (each-node g (ahead g d us) (nodeCount g) us)
           (rising-each (λ v. overwrittenAt g (ahead g d us) v us) (nodeCount g) (λ v h. at-rising v (from-all S U ℓ))
-          (λ i j h k x y m l. let p = at-node i all x .0 m in let q = at-node j all y .0 l in later-by x y (p .0) (q .0) (p .1) (q .1) (inl (omega (arith, node-of (p .3), node-of (q .3))))))
+          (λ i j h k x y m l. let p = at-node i all x .0 m in let q = at-node j all y .0 l in later-by x y (p .1) (q .1) (p .3) (q .3) (inl h)))
 
     pub overwritten-rising : Rising (Prior S U) (overwrittenOf S U ℓ)
     unfolding overwrittenOf writesOverwritten

@@ -87,6 +87,10 @@ unfolding ofEach
 each-few f h zero = omega arith
 each-few f h (suc k) = omega (arith, length-append (ofEach f k) (f k), each-few f h k, h k)
 
+-- of the locals below k
+pub all-unassigned-few : (S U : List ℕ) (k : ℕ) → length (ofEach (unassignedOf S U) k) ≤ k
+all-unassigned-few S U k = each-few (unassignedOf S U) (unassigned-few S U) k
+
 -- ---- the writes of one local
 
 at-few : (g : Graph) (a : Ahead) (v : ℕ) (us : List Use) → length (overwrittenAt g a v us) ≤ often node v us
@@ -130,4 +134,4 @@ module _ (S U : List ℕ) where
   unfolding findings
   findings-few h k =
       let n : ℕ = length (locals S) in
-      omega (arith, length-append (ofEach (unassignedOf S U) n) (ofEach (overwrittenOf S U) n), each-few (unassignedOf S U) (unassigned-few S U) n, each-local n, all-keys localOf (useWords U) n)
+      omega (arith, length-append (ofEach (unassignedOf S U) n) (ofEach (overwrittenOf S U) n), all-unassigned-few S U n, each-local n, all-keys localOf (useWords U) n)

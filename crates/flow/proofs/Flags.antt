@@ -79,9 +79,6 @@ module _ (ws : List ℕ) where
   pub reachable-length : length (reachable (graph ws)) ≡ nodeCount (graph ws)
   reachable-length = reachable-flags .size
 
-  pub reachable-bits : (v : ℕ) → getD (reachable (graph ws)) v 0 ≤ 1
-  reachable-bits = reachable-flags .bits
-
 -- ---- live paths
 
 only-in : (v : ℕ) (b : Bool) (xs : List ℕ) → In v (onlyIf b xs) → (b ≡ true) × In v xs
@@ -106,7 +103,7 @@ module _ (g : Graph) (d : Declaration) where
 
   reach-on : {starts : List ℕ} {u v : ℕ} → Reach starts (liveSuccessors g d) u → Live g d u v → Reach starts (liveSuccessors g d) v
   reach-on r (last a) = r
-  reach-on r (more {u = u} {v = v} a e l) = reach-on (on r (step-live u v e (first-alive l))) l
+  reach-on r (more {x = u} {y = v} a e l) = reach-on (on r (step-live u v e (first-alive l))) l
 
   module _ (v : ℕ) where
     -- where a search from after the writes starts
@@ -156,12 +153,6 @@ module _ (g : Graph) (d : Declaration) where
     pub live-decides : (v : ℕ) → (getD (liveAfterWrites g d us) v 0 ≡ 1) ↔ ((w : Use) × List·Memᴰ w us × (isWrite w ≡ true) × After g d (node w) v)
     live-decides v = (λ e. reach-after (live-flags .sound v e), λ k. live-flags .complete v (after-reach v k))
 
-    pub live-length : length (liveAfterWrites g d us) ≡ nodeCount g
-    live-length = live-flags .size
-
-    pub live-bits : (v : ℕ) → getD (liveAfterWrites g d us) v 0 ≤ 1
-    live-bits = live-flags .bits
-
 -- ---- what a path meets
 
 -- the node v holds one of the uses us
@@ -206,12 +197,6 @@ module _ (g : Graph) (d : Declaration) (us : List Use) where
         closure-decides (nodeCount g) ends (predecessors g d us)
         (λ v i. in-range (nodeCount g) v (filter-in (meetsHere g d us m) (range (nodeCount g)) v i .0)) (λ v u i. from-in u v i .0)
 
-    pub meets-length : length (meets g d us m) ≡ nodeCount g
-    meets-length = meets-flags .size
-
-    pub meets-bits : (v : ℕ) → getD (meets g d us m) v 0 ≤ 1
-    meets-bits = meets-flags .bits
-
     module _ (q : m noUse ≡ false) where
       is-use : (x : Meeting) → m x ≡ true → isNoUse x ≡ false
       is-use noUse e = absurd (true-not-false e q)
@@ -230,7 +215,7 @@ module _ (g : Graph) (d : Declaration) (us : List Use) where
     meets-reach : {a b : ℕ} → Meets g d (HoldsIn us) a b → a < nodeCount g → m (firstAt b us) ≡ true → Reach ends (predecessors g d us) a
     meets-reach (met {v = v} a h) l e =
         here (in-filter (meetsHere g d us m) (range (nodeCount g)) v (range-in (nodeCount g) v l) (in-here m v a e))
-    meets-reach (past {u = u} {v = v} a z i r) l e =
+    meets-reach (past {x = u} {y = v} a z i r) l e =
         on (meets-reach r (edge-node g u v i) e) (in-from u v l i a (not-false-true (isNoUse (firstAt u us)) z))
 
     pub meets-decides : m noUse ≡ false → (a : ℕ) → a < nodeCount g → (getD (meets g d us m) a 0 ≡ 1) ↔ ((b : ℕ) × Meets g d (HoldsIn us) a b × (m (firstAt b us) ≡ true))

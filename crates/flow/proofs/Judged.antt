@@ -7,7 +7,8 @@ use native.Mathlib.Omega.{arith}
 use mathlib.Core.Bool.{Bool}
 use Rattle.flow.specs.declared.Verdict.the-variants.{Admitted}
 use Rattle.flow.specs.Refusals.{pairVerdict}
-use Rattle.flow.specs.Findings.{findings, wordsOf, spansOf}
+use Rattle.flow.specs.Findings.{findings}
+use Rattle.flow.specs.Judge.{wordsOf, spansOf}
 use Rattle.flow.specs.Demand.{Demand3}
 use Rattle.flow.proofs.Admission.{admitted, of-pair}
 use Rattle.flow.proofs.Demand3.{demand3}

@@ -1,7 +1,7 @@
 -- Laws that the proofs of the findings share: what tests decide, the first number with a property, and what stands in a list.
 -- Assumes nothing.
 use Prim.Native.Nat.{ℕ, zero, suc, _≤_, _<_}
-use mathlib.Core.Path.{_≡_, refl, sym, subst}
+use mathlib.Core.Path.{_≡_, refl, sym, ap, subst}
 use mathlib.Core.Logic.{_⊎_, inl, inr, ⊎-elim, ⊎-map, _↔_}
 use mathlib.Core.Bool.{Bool, true, false, cond, _&&_, _||_, not, false≢true}
 use mathlib.Core.List.{List, [], _∷_, _++_, map, List·Memᴰ, List·Memᴰ·head, List·Memᴰ·tail, List·Memᴰ·not-nil, List·Memᴰ·append-cases, Memᴰ·append-left, Memᴰ·append-right, List·Memᴰ·eq-of-singleton, Memᴰ·map, Memᴰ·of-map, Memᴰ·cast}
@@ -10,7 +10,10 @@ use native.Mathlib.Decide.{ℕ-discrete, decLt}
 use borrow.Author.Tests.{eqb-true, eq-eqb}
 use lib.Dec.{eqb}
 use lib.ListN.{length, getD}
+use Rattle.flow.specs.declared.Found.{Found}
+use Rattle.flow.specs.declared.Found.the-variants.{At, Nothing}
 use Rattle.flow.specs.Locals.{onlyIf}
+use Rattle.flow.specs.Findings.{isFound}
 
 -- ---- tests
 
@@ -39,6 +42,11 @@ not-law {a = false} f = (λ e x. false≢true (f .1 x), λ n. refl)
 
 pub eqb-law : (a b : ℕ) → (eqb a b ≡ true) ↔ (a ≡ b)
 eqb-law a b = (eqb-true a b, eq-eqb a b)
+
+-- what is found is a node
+pub found-law : (f : Found) → (isFound f ≡ true) ↔ ((v : ℕ) × (f ≡ At v))
+found-law (At v) = (λ e. (v, refl), λ q. refl)
+found-law Nothing = (λ e. absurd (false≢true e), λ q. ap isFound (q .1))
 
 -- ---- the first number from k on with a property
 

@@ -3,13 +3,13 @@
 use Prim.Native.Nat.{ℕ, _+_}
 use mathlib.Core.Path.{_≡_, refl, sym, ap, _∙_}
 use mathlib.Core.Logic.{⊎-elim, _↔_}
-use mathlib.Core.Bool.{Bool, true, false, cond, _&&_, _||_, not, or-assoc, or-false, false≢true}
+use mathlib.Core.Bool.{Bool, true, false, cond, _&&_, _||_, not, or-assoc, or-false}
 use mathlib.Core.List.{List, [], _∷_, _++_, List·Memᴰ, List·Memᴰ·head, List·Memᴰ·tail, List·Memᴰ·not-nil, List·Memᴰ·cases-cons}
 use borrow.Author.Tests.{eqb-true, eqb-false}
 use lib.Dec.{eqb}
 use Rattle.search.proofs.Bools.{and-both}
 use Rattle.flow.specs.declared.Found.{Found}
-use Rattle.flow.specs.declared.Found.the-variants.{At, Nothing}
+use Rattle.flow.specs.declared.Found.the-variants.{At}
 use Rattle.flow.specs.Sheet.{items, outerEnd, member, kindOf, argumentOf}
 use Rattle.flow.specs.Kinds.{kinds}
 use Rattle.flow.specs.Tree.{Stmt, Block, Arms, simple, do-block, while-loop, repeat-loop, for-loop, if-stmt, done, then, no-more, elseif, otherwise, tree, labelName, labelsOf}
@@ -17,6 +17,7 @@ use Rattle.flow.specs.Graph.{Graph, Label, Settings, nodeCount, labelNod
 use Rattle.flow.specs.Findings.{isFound}
 use Rattle.flow.specs.Labels.{distinct, labelsFineIn, blockFine, armsFine, labelsFine}
 use Rattle.flow.proofs.Members.{both-and}
+use Rattle.flow.proofs.Laws.{found-law}
 open record kinds using (GOTO)
 
 -- the blocks that a statement holds
@@ -55,10 +56,6 @@ unfolding labelNode withLabels
 found-with a [] v ls = refl
 found-with a (x ∷ names) v ls = found-with a names (v + 1) _ ∙ newer (eqb a x) (member a names) v (labelNode a ls)
 
-found-node : (f : Found) → (isFound f ≡ true) ↔ ((v : ℕ) × (f ≡ At v))
-found-node (At v) = (λ e. (v, refl), λ q. refl)
-found-node Nothing = (λ e. absurd (false≢true e), λ q. ap isFound (q .1))
-
 module _ (S : List ℕ) where
   agree : {b : Block} {visible : List ℕ} {st : Settings} → Comes S b visible st → (a : ℕ) → member a visible ≡ isFound (labelNode a (st .labels))
   unfolding inside outside labelNode
@@ -69,7 +66,7 @@ module _ (S : List ℕ) where
 
   -- the label check finds a name exactly where the builder's lookup gives a node
   pub lookup-law : {b : Block} {visible : List ℕ} {st : Settings} → Comes S b visible st → (a : ℕ) → (member a visible ≡ true) ↔ LooksUp a st
-  lookup-law {st = st} c a = rw (agree c a) (found-node (labelNode a (st .labels)))
+  lookup-law {st = st} c a = rw (agree c a) (found-law (labelNode a (st .labels)))
 
 -- ---- the blocks that a statement holds
 

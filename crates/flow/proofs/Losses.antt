@@ -10,9 +10,9 @@ use lib.Dec.{eqb}
 use lib.ListN.{getD}
 use Rattle.search.specs.Search.{In}
 use Rattle.flow.specs.Graph.{Graph, graph}
-use Rattle.flow.specs.Reachable.{successors, nodeOf}
+use Rattle.flow.specs.Reachable.{successors}
 use Rattle.flow.specs.Locals.{Declaration, declaration}
-use Rattle.flow.specs.Findings.{Use, Meeting, usesOf, meets, ahead, anyFlag, isOverwrittenUnread, isOverwritten, overwrittenAt, orElse, firstAt}
+use Rattle.flow.specs.Findings.{Use, nodeOf, Meeting, usesOf, meets, ahead, anyFlag, isOverwrittenUnread, isOverwritten, overwrittenAt, orElse, firstAt}
 use Rattle.flow.specs.Paths.{Meets, met, past}
 use Rattle.flow.specs.Demand.{Own, OwnAt, AllFound, Holds, MeetsFrom, OverwrittenUnread, NextAt, PureWrite, IsRead, IsWrite}
 use Rattle.flow.proofs.Flags.{HoldsIn, edge-node, meets-decides}
@@ -28,14 +28,14 @@ any-law flags (v ∷ vs) =
 
 meets-map : {g : Graph} {d : Declaration} {H K : ℕ → Type 0} → ((v : ℕ) → H v ↔ K v) → {a b : ℕ} → Meets g d H a b → Meets g d K a b
 meets-map f (met {v = v} l h) = met l (f v .0 h)
-meets-map f (past {u = u} l n e m) = past l (λ h. n (f u .1 h)) e (meets-map f m)
+meets-map f (past {x = u} l n e m) = past l (λ h. n (f u .1 h)) e (meets-map f m)
 
 -- "the next use in its node is a pure write or, where none follows there, .."
 abbrev pub Lost : List ℕ → List ℕ → ℕ → ℕ → ℕ → Type 0
-Lost S U ℓ v w = ((u : ℕ) × NextAt S U ℓ v w u × PureWrite U u) ⊎ (((u : ℕ) → NextAt S U ℓ v w u → ⊥) × OverwrittenUnread S U ℓ v)
+Lost S U ℓ v w = ((u : ℕ) × NextAt S U ℓ w u v × PureWrite U u) ⊎ (((u : ℕ) → NextAt S U ℓ w u v → ⊥) × OverwrittenUnread S U ℓ v)
 
 pub record LostWrite (S U : List ℕ) (ℓ v w : ℕ) : Type 0 where
-  pub here : OwnAt S U ℓ v w
+  pub here : OwnAt S U ℓ w v
   pub write : IsWrite U w
   pub lost : Lost S U ℓ v w
 
@@ -94,10 +94,10 @@ module _ (S U : List ℕ) (ℓ : ℕ) (kinds : Kinds U) (all : AllFound S U ℓ)
       n : ℕ
       n = nodeNum S U u
 
-      to : (y : ℕ) → Next (OwnAt S U ℓ n) (suc u) y → NextAt S U ℓ n u y
+      to : (y : ℕ) → Next (λ w. OwnAt S U ℓ w n) (suc u) y → NextAt S U ℓ u y n
       to y m = record { later = m .from; here = m .here; next = m .first }
 
-      of : (y : ℕ) → NextAt S U ℓ n u y → Next (OwnAt S U ℓ n) (suc u) y
+      of : (y : ℕ) → NextAt S U ℓ u y n → Next (λ w. OwnAt S U ℓ w n) (suc u) y
       of y m = record { from = m .later; here = m .here; first = m .next }
 
       lost : (orElse (firstAt n rest) (isOverwrittenUnread g (ahead g d us) n) ≡ true) ↔ Lost S U ℓ n u

@@ -10,10 +10,12 @@ use native.Mathlib.Decide.{ℕ-discrete}
 use lib.ListN.{length, getD}
 use Rattle.flow.specs.Locals.{Finding, findingWord, onlyIf}
 use Rattle.flow.specs.Findings.{Use, Ahead, ofEach, overwrittenAt, overwrittenBelow}
-use Rattle.flow.specs.Graph.{Graph}
-use Rattle.flow.specs.Demand.{order, Before}
+use Rattle.flow.specs.Sheet.{startOf}
+use Rattle.flow.specs.Answers.{foundValues}
+use Rattle.flow.specs.Graph.{Graph, graph}
+use Rattle.flow.specs.Reachable.{nodeAt}
+use Rattle.flow.specs.Demand.{useSpan, order, Before}
 use Rattle.flow.proofs.Laws.{mem-append, mem-map, mem-at}
-use Rattle.flow.proofs.Uses.{nodeNum}
 
 -- ---- the lists of the numbers below n, one after the other
 
@@ -82,10 +84,14 @@ rising-map R f (cons {x = x} {l = l} a r) = cons (λ y m. let q = mem-map f l .0
 
 -- ---- words
 
+-- the node of a use, if it finds one
+abbrev nodesFor : List ℕ → List ℕ → ℕ → List ℕ
+nodesFor S U u = foundValues (nodeAt (graph S) (startOf (useSpan U u)))
+
 -- what such a word is ordered by
 abbrev pub key : List ℕ → List ℕ → ℕ → List ℕ
-key S U zero = 0 ∷ nodeNum S U 0 ∷ 0 ∷ []
-key S U (suc u) = 1 ∷ nodeNum S U u ∷ suc u ∷ []
+key S U zero = 0 ∷ nodesFor S U 0 ++ (0 ∷ [])
+key S U (suc u) = 1 ∷ nodesFor S U u ++ (suc u ∷ [])
 
 min-one : (u : ℕ) → min 1 (suc u) ≡ 1
 min-one u = omega arith
@@ -93,7 +99,7 @@ min-one u = omega arith
 pred-suc : (u : ℕ) → suc u - 1 ≡ u
 pred-suc u = omega arith
 
-key-is : (S U : List ℕ) (c : ℕ) → _≡_ {A = List ℕ} (min 1 c ∷ nodeNum S U (c - 1) ∷ c ∷ []) (key S U c)
+key-is : (S U : List ℕ) (c : ℕ) → _≡_ {A = List ℕ} (min 1 c ∷ nodesFor S U (c - 1) ++ (c ∷ [])) (key S U c)
 key-is S U zero = refl
 key-is S U (suc u) = rw (min-one u, pred-suc u)
 

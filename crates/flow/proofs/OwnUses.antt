@@ -1,17 +1,21 @@
 -- The findings of one local are a function of the graph's nodes, its declaration and its own uses: they go by kind, closure and node of a use alone.
--- Assumes nothing.
-use Prim.Native.Nat.{ℕ, zero, suc}
+-- Assumes `few` at the end, that the local's number is below 1024, so that its word can be taken apart.
+use Prim.Native.Nat.{ℕ, zero, suc, _+_, _*_, _-_, _/_, _%_, _^_, _≤_, _<_}
 use mathlib.Core.Path.{_≡_, refl, sym, ap, ap₂, _∙_}
 use mathlib.Core.Bool.{Bool, true, false, cond, _&&_, not}
-use mathlib.Core.List.{List, [], _∷_, _++_, map, map-append, map-map}
-use lib.ListN.{getD}
+use mathlib.Core.List.{List, [], _∷_, _++_, tail, map, map-append}
+use lib.ListN.{length, getD}
+use native.Mathlib.Omega.{arith}
+use native.Mathlib.Numerals.{add-one}
 use lib.Dec.{eqb}
 use Rattle.search.specs.Search.{closure, filter}
-use Rattle.flow.specs.Sheet.{member, all}
+use Rattle.flow.specs.Sheet.{member, all, useWords, useSpans, localOf}
+use Rattle.flow.specs.Refusals.{one}
 use Rattle.flow.specs.Graph.{Graph, Nodes, nodeCount, graph}
 use Rattle.flow.specs.Reachable.{successors}
-use Rattle.flow.specs.Locals.{onlyIf, Local, noValue, writesJudged, tracked, Declaration, declaration, localAt, Finding}
-use Rattle.flow.specs.Findings.{Use, isFound, node, isWrite, usesOf, allFound, isAliveAt, liveSuccessors, afterWrites, liveAfterWrites, isEmptyRead, firstEmptyRead, Meeting, aRead, aPureWrite, firstAt, isARead, isAPureWrite, isNoUse, range, meetsHere, predecessors, meets, Ahead, ahead, isOverwrittenUnread, orElse, isOverwritten, overwrittenAt, overwrittenBelow, firstUnassignedUse, initialOverwritten, writesOverwritten, ofUse, ofInitial, unassignedOf, overwrittenOf}
+use Rattle.flow.specs.Locals.{onlyIf, Local, noValue, writesJudged, tracked, Declaration, declaration, localAt, Finding, findingWord}
+use Rattle.flow.specs.Findings.{Use, isFound, node, isWrite, usesFrom, usesOf, allFound, isAliveAt, liveSuccessors, afterWrites, liveAfterWrites, isEmptyRead, firstEmptyRead, Meeting, aRead, aPureWrite, firstAt, isARead, isAPureWrite, isNoUse, range, meetsHere, predecessors, meets, Ahead, ahead, isOverwrittenUnread, orElse, isOverwritten, overwrittenAt, overwrittenBelow, firstUnassignedUse, initialOverwritten, writesOverwritten, ofUse, ofInitial, unassignedOf, overwrittenOf}
+use Rattle.flow.specs.Demand.{useWord}
 
 -- ---- by the nodes of the graph alone
 
@@ -127,12 +131,12 @@ module _ {f : Use → Use} (k : Renumbers f) where
 
   -- ---- the findings of one local
 
-  pub renumbered-found : ((u : Use) → isFound (f u .place) ≡ isFound (u .place)) → (us : List Use) → allFound (map f us) ≡ allFound us
+  pub renumbered-found : ((u : Use) → isFound (f u .found) ≡ isFound (u .found)) → (us : List Use) → allFound (map f us) ≡ allFound us
   unfolding allFound all
   renumbered-found h [] = refl
   renumbered-found h (u ∷ us) = λ i. h u i && renumbered-found h us i
 
-  module _ (h : (u : Use) → isFound (f u .place) ≡ isFound (u .place)) (g : Graph) (l : Local) (d : Declaration) (us : List Use) where
+  module _ (h : (u : Use) → isFound (f u .found) ≡ isFound (u .found)) (g : Graph) (l : Local) (d : Declaration) (us : List Use) where
     pub renumbered-unassigned : firstUnassignedUse g l d (map f us) ≡ map f (firstUnassignedUse g l d us)
     unfolding firstUnassignedUse
     renumbered-unassigned =
@@ -154,21 +158,113 @@ module _ {f : Use → Use} (k : Renumbers f) where
         ∙ ap (λ (x : List Use). onlyIf b x) (renumbered-below g a (nodeCount g) us)
         ∙ sym (map-only f b (overwrittenBelow g a (nodeCount g) us))
 
-  -- two use sheets that agree on a local's own uses in order give it the same findings, with the numbers and spans that f gives
-  module _ (h : (u : Use) → isFound (f u .place) ≡ isFound (u .place)) (S U W : List ℕ) (ℓ : ℕ) (own : map f (usesOf S U ℓ) ≡ usesOf S W ℓ) where
-    pub own-unassigned : unassignedOf S W ℓ ≡ map (λ u. ofUse 0 ℓ (f u)) (firstUnassignedUse (graph S) (localAt S ℓ) (declaration (graph S) ℓ) (usesOf S U ℓ))
-    unfolding unassignedOf
-    own-unassigned =
-        let found : List Use → List Use = firstUnassignedUse (graph S) (localAt S ℓ) (declaration (graph S) ℓ) in
-        ap (map (ofUse 0 ℓ)) (ap found (sym own) ∙ renumbered-unassigned h (graph S) (localAt S ℓ) (declaration (graph S) ℓ) (usesOf S U ℓ))
-        ∙ map-map (ofUse 0 ℓ) f (found (usesOf S U ℓ))
+-- ---- by the local's own uses alone, wherever they stand in the use sheet
 
-    pub own-overwritten : overwrittenOf S W ℓ ≡ onlyIf (initialOverwritten (graph S) (localAt S ℓ) (declaration (graph S) ℓ) (usesOf S U ℓ)) (ofInitial ℓ (getD (graph S .names .span) ℓ 0) ∷ []) ++ map (λ u. ofUse 1 ℓ (f u)) (writesOverwritten (graph S) (localAt S ℓ) (declaration (graph S) ℓ) (usesOf S U ℓ))
-    unfolding overwrittenOf
-    own-overwritten =
-        let initial : List Use → Bool = initialOverwritten (graph S) (localAt S ℓ) (declaration (graph S) ℓ) in
-        let writes : List Use → List Use = writesOverwritten (graph S) (localAt S ℓ) (declaration (graph S) ℓ) in
-        ap₂ (λ (b : Bool) (l : List Finding). onlyIf b (ofInitial ℓ (getD (graph S .names .span) ℓ 0) ∷ []) ++ l)
-        (ap initial (sym own) ∙ renumbered-initial h (graph S) (localAt S ℓ) (declaration (graph S) ℓ) (usesOf S U ℓ))
-        (ap (map (ofUse 1 ℓ)) (ap writes (sym own) ∙ renumbered-writes h (graph S) (localAt S ℓ) (declaration (graph S) ℓ) (usesOf S U ℓ))
-        ∙ map-map (ofUse 1 ℓ) f (writes (usesOf S U ℓ)))
+-- a use with another number
+abbrev numbered : ℕ → Use → Use
+numbered k u = record { number = k; span = u .span; kind = u .kind; inClosure = u .inClosure; found = u .found }
+
+-- uses numbered by their place among each other, from k on
+abbrev pub inPlaces : ℕ → List Use → List Use
+inPlaces k [] = []
+inPlaces k (u ∷ us) = numbered k u ∷ inPlaces (k + 1) us
+
+-- the place of the use u among the own uses of ℓ: how many of these stand before it
+abbrev pub ownBefore : List ℕ → ℕ → ℕ → ℕ
+ownBefore U ℓ zero = 0
+ownBefore U ℓ (suc u) = ownBefore U ℓ u + one (eqb (localOf (useWord U u)) ℓ)
+
+-- "use number + 1, or 0 for an initial value", with the place for the number
+abbrev codeByPlace : List ℕ → ℕ → ℕ → ℕ
+codeByPlace U ℓ zero = 0
+codeByPlace U ℓ (suc u) = suc (ownBefore U ℓ u)
+
+-- a finding of ℓ, its use number read as the place among the own uses
+abbrev pub byPlace : List ℕ → ℕ → Finding → Finding
+byPlace U ℓ f = record { word = f .word % 2 ^ 32 + 2 ^ 32 * codeByPlace U ℓ (f .word / 2 ^ 32); span = f .span }
+
+-- what is listed of ℓ, by its uses
+module _ (S : List ℕ) (ℓ : ℕ) where
+  abbrev unassigned : List Use → List Use
+  unassigned us = firstUnassignedUse (graph S) (localAt S ℓ) (declaration (graph S) ℓ) us
+
+  abbrev initial : List Use → Bool
+  initial us = initialOverwritten (graph S) (localAt S ℓ) (declaration (graph S) ℓ) us
+
+  abbrev writes : List Use → List Use
+  writes us = writesOverwritten (graph S) (localAt S ℓ) (declaration (graph S) ℓ) us
+
+  abbrev value : Bool → List Finding
+  value b = onlyIf b (ofInitial ℓ (getD (graph S .names .span) ℓ 0) ∷ [])
+
+module _ (U : List ℕ) (ℓ : ℕ) where
+  abbrev placed : Use → Use
+  placed u = numbered (ownBefore U ℓ (u .number)) u
+
+  placed-one : (b : Bool) (k : ℕ) (u : Use) (us : List Use) → placed u ≡ numbered k u → map placed us ≡ inPlaces (k + one b) us → map placed (onlyIf b (u ∷ []) ++ us) ≡ inPlaces k (onlyIf b (u ∷ []) ++ us)
+  placed-one true k u us e r = ap₂ _∷_ e r
+  placed-one false k u us e r = r ∙ ap (λ (n : ℕ). inPlaces n us) (omega arith)
+
+  placed-from : (g : Graph) (l : Local) (k : ℕ) (ws ss : List ℕ) → ((i : ℕ) → i < length ws → getD ws i 0 ≡ useWord U (k + i)) → map placed (usesFrom g l ℓ k ws ss) ≡ inPlaces (ownBefore U ℓ k) (usesFrom g l ℓ k ws ss)
+  unfolding usesFrom
+  placed-from g l k [] ss h = refl
+  placed-from g l k (w ∷ ws) ss h =
+      let rest : List Use = usesFrom g l ℓ (k + 1) ws (tail ss) in
+      let here : w ≡ useWord U k = h 0 (omega arith) ∙ ap (useWord U) (omega arith) in
+      let next : ownBefore U ℓ (k + 1) ≡ ownBefore U ℓ k + one (eqb (localOf w) ℓ) = ap (ownBefore U ℓ) (add-one k) ∙ ap (λ (x : ℕ). ownBefore U ℓ k + one (eqb (localOf x) ℓ)) (sym here) in
+      placed-one (eqb (localOf w) ℓ) (ownBefore U ℓ k) _ rest refl
+      (placed-from g l (k + 1) ws (tail ss) (λ i b. h (suc i) (omega arith) ∙ ap (useWord U) (omega arith)) ∙ ap (λ (n : ℕ). inPlaces n rest) next)
+
+  -- read so, the own uses are numbered from 0 on
+  placed-own : (S : List ℕ) → map placed (usesOf S U ℓ) ≡ inPlaces 0 (usesOf S U ℓ)
+  unfolding usesOf
+  placed-own S = placed-from (graph S) (localAt S ℓ) 0 (useWords U) (useSpans U) (λ i h. ap (useWord U) (omega arith))
+
+  -- a renumbering like any other
+  renumbers : Renumbers placed
+  renumbers = record { kinds = λ u. refl; closures = λ u. refl; nodes = λ u. refl }
+
+  module _ (few : ℓ < 1024) where
+    word-by-place : (list c s : ℕ) → list ≤ 1 → byPlace U ℓ (record { word = findingWord list ℓ c; span = s }) ≡ record { word = findingWord list ℓ (codeByPlace U ℓ c); span = s }
+    word-by-place list c s small =
+        let low : findingWord list ℓ c % 2 ^ 32 ≡ list + 2 * ℓ = omega arith in
+        let high : findingWord list ℓ c / 2 ^ 32 ≡ c = omega arith in
+        λ i. record { word = low i + 2 ^ 32 * codeByPlace U ℓ (high i); span = s }
+
+    use-by-place : (list : ℕ) → list ≤ 1 → (u : Use) → byPlace U ℓ (ofUse list ℓ u) ≡ ofUse list ℓ (placed u)
+    use-by-place list small u =
+        let next : codeByPlace U ℓ (u .number + 1) ≡ ownBefore U ℓ (u .number) + 1 = ap (codeByPlace U ℓ) (add-one (u .number)) ∙ sym (add-one (ownBefore U ℓ (u .number))) in
+        word-by-place list (u .number + 1) (u .span) small ∙ ap (λ (c : ℕ). record { word = findingWord list ℓ c; span = u .span }) next
+
+    uses-by-place : (list : ℕ) → list ≤ 1 → (us : List Use) → map (byPlace U ℓ) (map (ofUse list ℓ) us) ≡ map (ofUse list ℓ) (map placed us)
+    uses-by-place list small [] = refl
+    uses-by-place list small (u ∷ us) = ap₂ _∷_ (use-by-place list small u) (uses-by-place list small us)
+
+    -- the findings of ℓ so read are those of its own uses so numbered
+    module _ (S : List ℕ) where
+      value-by-place : (b : Bool) → map (byPlace U ℓ) (value S ℓ b) ≡ value S ℓ b
+      value-by-place true = ap (λ (f : Finding). f ∷ []) (word-by-place 1 0 (getD (graph S .names .span) ℓ 0) (omega arith))
+      value-by-place false = refl
+
+      unassigned-by-place : map (byPlace U ℓ) (unassignedOf S U ℓ) ≡ map (ofUse 0 ℓ) (unassigned S ℓ (inPlaces 0 (usesOf S U ℓ)))
+      unfolding unassignedOf
+      unassigned-by-place =
+          uses-by-place 0 (omega arith) (unassigned S ℓ (usesOf S U ℓ))
+          ∙ ap (map (ofUse 0 ℓ)) (sym (renumbered-unassigned renumbers (λ u. refl) (graph S) (localAt S ℓ) (declaration (graph S) ℓ) (usesOf S U ℓ)) ∙ ap (unassigned S ℓ) (placed-own S))
+
+      overwritten-by-place : map (byPlace U ℓ) (overwrittenOf S U ℓ) ≡ value S ℓ (initial S ℓ (inPlaces 0 (usesOf S U ℓ))) ++ map (ofUse 1 ℓ) (writes S ℓ (inPlaces 0 (usesOf S U ℓ)))
+      unfolding overwrittenOf
+      overwritten-by-place =
+          let us : List Use = usesOf S U ℓ in
+          map-append (byPlace U ℓ) (value S ℓ (initial S ℓ us)) (map (ofUse 1 ℓ) (writes S ℓ us))
+          ∙ ap₂ _++_
+          (value-by-place (initial S ℓ us) ∙ ap (value S ℓ) (sym (renumbered-initial renumbers (λ u. refl) (graph S) (localAt S ℓ) (declaration (graph S) ℓ) us) ∙ ap (initial S ℓ) (placed-own S)))
+          (uses-by-place 1 (omega arith) (writes S ℓ us) ∙ ap (map (ofUse 1 ℓ)) (sym (renumbered-writes renumbers (λ u. refl) (graph S) (localAt S ℓ) (declaration (graph S) ℓ) us) ∙ ap (writes S ℓ) (placed-own S)))
+
+-- two use sheets that agree on a local's own uses in order (kind, closure, span and node of each) give it the same findings, use numbers read as places among them
+module _ (S U U′ : List ℕ) (ℓ : ℕ) (few : ℓ < 1024) (same : inPlaces 0 (usesOf S U ℓ) ≡ inPlaces 0 (usesOf S U′ ℓ)) where
+  pub own-unassigned : map (byPlace U ℓ) (unassignedOf S U ℓ) ≡ map (byPlace U′ ℓ) (unassignedOf S U′ ℓ)
+  own-unassigned = unassigned-by-place U ℓ few S ∙ ap (λ (us : List Use). map (ofUse 0 ℓ) (unassigned S ℓ us)) same ∙ sym (unassigned-by-place U′ ℓ few S)
+
+  pub own-overwritten : map (byPlace U ℓ) (overwrittenOf S U ℓ) ≡ map (byPlace U′ ℓ) (overwrittenOf S U′ ℓ)
+  own-overwritten = overwritten-by-place U ℓ few S ∙ ap (λ (us : List Use). value S ℓ (initial S ℓ us) ++ map (ofUse 1 ℓ) (writes S ℓ us)) same ∙ sym (overwritten-by-place U′ ℓ few S)

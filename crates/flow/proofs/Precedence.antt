@@ -14,7 +14,8 @@ use Rattle.flow.specs.Refusals.{one, number, Test, firstApplying, itemTe
 use Rattle.flow.specs.Answers.{tells, foundValues, countValues}
 use Rattle.flow.specs.Graph.{graph}
 use Rattle.flow.specs.Reachable.{nodeAt, canRun, run, countsOf, chart}
-use Rattle.flow.specs.Findings.{findings, judge}
+use Rattle.flow.specs.Findings.{findings}
+use Rattle.flow.specs.Judge.{judge}
 use Rattle.flow.specs.Labels.{labelsFine, labelCheck}
 use Rattle.flow.proofs.Tests.{passed-one}
 use Rattle.flow.proofs.Answers.{refuses}
@@ -52,6 +53,7 @@ unfolding firstApplying
 admitted-none [] e = tt
 admitted-none (t ∷ ts) e = let p = passed-one (t .1) (t .0) (firstApplying ts) e in (p .0, admitted-none ts (p .1))
 
+-- "Sheets are admitted when none applies"; nothing rests on it
 pub none-admitted : (ts : List Test) → NoneApplies ts → firstApplying ts ≡ Admitted
 unfolding firstApplying
 none-admitted [] n = refl

@@ -13,7 +13,7 @@ use Rattle.search.proofs.Bools.{and-both}
 use Rattle.search.specs.Search.{filter}
 use Rattle.flow.specs.Sheet.{Item, items, kind, argumentOf, member, all, startOf, endOf}
 use Rattle.flow.specs.Kinds.{kinds, itemFits, isCode}
-use Rattle.flow.specs.Refusals.{one, pairsUp, inLine, nameCount}
+use Rattle.flow.specs.Refusals.{one, pairsUp, inOrder, nameCount}
 use Rattle.flow.specs.Tree.{Stmt, Frame, Open, outer, inFront, opened, simple, tree}
 use Rattle.flow.specs.Locals.{onlyIf, localsFrom, locals}
 use Rattle.flow.specs.Findings.{range}
@@ -159,13 +159,13 @@ rise-on : (b : Bool) (p : ℕ) (i : Item) (ss : List ℕ) → Fitting i → (not
 rise-on true p i ss f e r = (le-trans (leb-true p _ e) (f .order), r)
 rise-on false p i ss f e r = r
 
-in-line : (p : ℕ) (is : List Item) → all itemFits is ≡ true → inLine p is ≡ true → Rising p (spansWhere isCode is)
-unfolding all inLine spansWhere
-in-line p [] a e = tt
-in-line p (i ∷ is) a e =
+in-order : (p : ℕ) (is : List Item) → all itemFits is ≡ true → inOrder p is ≡ true → Rising p (spansWhere isCode is)
+unfolding all inOrder spansWhere
+in-order p [] a e = tt
+in-order p (i ∷ is) a e =
     let f = and-both (itemFits i) (all itemFits is) a in
-    let l = and-both (not (isCode i) || leb p (startOf (i .span))) (inLine (cond (isCode i) (endOf (i .span)) p) is) e in
-    rise-on (isCode i) p i (spansWhere isCode is) (fitting i (f .0)) (l .0) (in-line (cond (isCode i) (endOf (i .span)) p) is (f .1) (l .1))
+    let l = and-both (not (isCode i) || leb p (startOf (i .span))) (inOrder (cond (isCode i) (endOf (i .span)) p) is) e in
+    rise-on (isCode i) p i (spansWhere isCode is) (fitting i (f .0)) (l .0) (in-order (cond (isCode i) (endOf (i .span)) p) is (f .1) (l .1))
 
 risen : (p : ℕ) (ss : List ℕ) → Rising p ss → (j : ℕ) → j < length ss → p ≤ endOf (getD ss j 0)
 risen p [] r j h = absurd (omega arith)
@@ -178,6 +178,6 @@ rises p (s ∷ ss) r i zero h l = absurd (omega arith)
 rises p (s ∷ ss) r zero (suc j) h l = risen (endOf s) ss (r .1) j (omega arith)
 rises p (s ∷ ss) r (suc i) (suc j) h l = rises (endOf s) ss (r .1) i j (omega arith) (omega arith)
 
-pub ends-rise : (is : List Item) → all itemFits is ≡ true → inLine 0 is ≡ true
+pub ends-rise : (is : List Item) → all itemFits is ≡ true → inOrder 0 is ≡ true
     → (i j : ℕ) → i < j → j < length (spansWhere isCode is) → endOf (getD (spansWhere isCode is) i 0) ≤ endOf (getD (spansWhere isCode is) j 0)
-ends-rise is a e = rises 0 (spansWhere isCode is) (in-line 0 is a e)
+ends-rise is a e = rises 0 (spansWhere isCode is) (in-order 0 is a e)

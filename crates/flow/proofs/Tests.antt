@@ -15,7 +15,7 @@ use Rattle.flow.specs.declared.Verdict.{Verdict}
 use Rattle.flow.specs.declared.Verdict.the-variants.{Admitted, Refused}
 use Rattle.flow.specs.Sheet.{Item, all, kind, countWord, outerEnd, items, startOf, endOf, argumentOf}
 use Rattle.flow.specs.Kinds.{argumentFits, itemFits}
-use Rattle.flow.specs.Refusals.{number, Test, firstApplying, miscount, badItem, pairsUp, badNesting, inLine, offTheLine, itemTests, sheetTests, sheetVerdict, outnumbered, tooDeep, sideBySide, held, namesFit, badName}
+use Rattle.flow.specs.Refusals.{number, Test, firstApplying, miscount, badItem, pairsUp, badNesting, inOrder, offTheLine, itemTests, sheetTests, sheetVerdict, outnumbered, tooDeep, sideBySide, insideScopes, namesFit, badName}
 use Rattle.flow.specs.Admitted.{anItem}
 use Rattle.search.proofs.Worklist.{filter-in}
 
@@ -64,10 +64,10 @@ pub record Passed (ws : List ℕ) : Type 0 where
   pub outerEnd : outerEnd ws < 2 ^ 32
   pub fits : all itemFits (items ws) ≡ true
   pub pairs : pairsUp [] (items ws) ≡ true
-  pub line : inLine 0 (items ws) ≡ true
+  pub inOrder : inOrder 0 (items ws) ≡ true
   pub shallow : outnumbered 0 0 (items ws) ≡ false
   pub beside : sideBySide 0 (items ws) ≡ true
-  pub heldBy : held (Rattle.flow.specs.Sheet.outerEnd ws ∷ []) (items ws) ≡ true
+  pub insideScopes : insideScopes (Rattle.flow.specs.Sheet.outerEnd ws ∷ []) (items ws) ≡ true
   pub named : namesFit 0 0 (items ws) ≡ true
 
 pub sheet-passed : (short : Bool) (ws : List ℕ) → sheetVerdict short ws ≡ Admitted → Passed ws
@@ -77,17 +77,17 @@ sheet-passed short ws e =
     let c = counted 2 ws (p 2) in
     let i = and-both (ltb (outerEnd ws) (2 ^ 32)) _ (not-false _ (p 3)) in
     let nests = and-both (pairsUp [] (items ws)) _ (not-false _ (p 5)) in
-    let lies = and-both (inLine 0 (items ws)) _ (not-false _ (p 6)) in
+    let lies = and-both (inOrder 0 (items ws)) _ (not-false _ (p 6)) in
     record {
       words = c .0;
       few = c .1;
       outerEnd = ltb-true _ _ (i .0);
       fits = i .1;
       pairs = nests .0;
-      line = lies .0;
+      inOrder = lies .0;
       shallow = p 4;
       beside = nests .1;
-      heldBy = lies .1;
+      insideScopes = lies .1;
       named = not-false _ (p 7);
     }
 

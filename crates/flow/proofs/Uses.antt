@@ -12,15 +12,14 @@ use borrow.Author.Tests.{eqb-true, eqb-false}
 use lib.Dec.{eqb}
 use lib.ListN.{length, getD, drop, drop-of-length-le}
 use lib.Seq.{drop-cons}
-use Rattle.flow.specs.declared.Found.{Found}
-use Rattle.flow.specs.declared.Found.the-variants.{At, Nothing}
+use Rattle.flow.specs.declared.Found.the-variants.{At}
 use Rattle.flow.specs.Sheet.{all, startOf, useWords, useSpans, localOf, useKindOf}
 use Rattle.flow.specs.Graph.{graph}
-use Rattle.flow.specs.Reachable.{nodeAt, nodeOf}
+use Rattle.flow.specs.Reachable.{nodeAt}
 use Rattle.flow.specs.Locals.{localAt, isInClosure, onlyIf}
-use Rattle.flow.specs.Findings.{Use, isFound, usesFrom, usesOf, allFound, Meeting, noUse, aRead, aPureWrite, meeting, firstAt, isNoUse, isARead, isAPureWrite, isRead, isWrite, orElse}
+use Rattle.flow.specs.Findings.{Use, nodeOf, usesFrom, usesOf, allFound, Meeting, noUse, aRead, aPureWrite, meeting, firstAt, isNoUse, isARead, isAPureWrite, isRead, isWrite, orElse}
 use Rattle.flow.specs.Demand.{useWord, useSpan, Own, OwnAt, AtNode, AllFound, PureWrite, IsRead, IsWrite}
-use Rattle.flow.proofs.Laws.{Next, next-split, next-unique, next-here, next-skip, next-past, and-law, or-map, eqb-law, mem-append, mem-one, mem-only}
+use Rattle.flow.proofs.Laws.{found-law, Next, next-split, next-unique, next-here, next-skip, next-past, and-law, or-map, eqb-law, mem-append, mem-one, mem-only}
 
 -- the node of a use, where it finds one
 abbrev pub nodeNum : List ℕ → List ℕ → ℕ → ℕ
@@ -28,7 +27,7 @@ nodeNum S U u = nodeOf (nodeAt (graph S) (startOf (useSpan U u)))
 
 -- a use as the local's list holds it
 abbrev pub entry : List ℕ → List ℕ → ℕ → ℕ → Use
-entry S U ℓ u = record { number = u; span = useSpan U u; kind = useKindOf (useWord U u); inClosure = isInClosure (localAt S ℓ) (useWord U u); place = nodeAt (graph S) (startOf (useSpan U u)) }
+entry S U ℓ u = record { number = u; span = useSpan U u; kind = useKindOf (useWord U u); inClosure = isInClosure (localAt S ℓ) (useWord U u); found = nodeAt (graph S) (startOf (useSpan U u)) }
 
 -- the list of the own uses from number k on
 pub data From (S U : List ℕ) (ℓ : ℕ) : ℕ → List Use → Type 0 where
@@ -73,10 +72,6 @@ module _ (S U : List ℕ) (ℓ : ℕ) where
 
   -- ---- "whose uses all find a node"
 
-  found-law : (f : Found) → (isFound f ≡ true) ↔ ((v : ℕ) × (f ≡ At v))
-  found-law (At v) = (λ e. (v, refl), λ q. refl)
-  found-law Nothing = (λ e. absurd (false≢true e), λ q. ap isFound (q .1))
-
   found-from : {k : ℕ} {us : List Use} → From S U ℓ k us → (allFound us ≡ true) ↔ ((u : ℕ) → k ≤ u → Own U ℓ u → (v : ℕ) × AtNode S U u v)
   unfolding allFound all
   found-from (end h) = (λ e u l o. absurd (h u l o), λ q. refl)
@@ -89,11 +84,11 @@ module _ (S U : List ℕ) (ℓ : ℕ) where
 
 -- what the first own use at v from k on is, as `firstAt` says it
 pub data FirstIs (S U : List ℕ) (ℓ v k : ℕ) (r : Meeting) : Type 0 where
-  is : (u : ℕ) → Next (OwnAt S U ℓ v) k u → r ≡ meeting (entry S U ℓ u) → FirstIs S U ℓ v k r
-  none : ((u : ℕ) → k ≤ u → OwnAt S U ℓ v u → ⊥) → r ≡ noUse → FirstIs S U ℓ v k r
+  is : (u : ℕ) → Next (λ w. OwnAt S U ℓ w v) k u → r ≡ meeting (entry S U ℓ u) → FirstIs S U ℓ v k r
+  none : ((u : ℕ) → k ≤ u → OwnAt S U ℓ u v → ⊥) → r ≡ noUse → FirstIs S U ℓ v k r
 
 module _ (S U : List ℕ) (ℓ : ℕ) (all : AllFound S U ℓ) where
-  pub own-at : (u v : ℕ) → Own U ℓ u → nodeNum S U u ≡ v → OwnAt S U ℓ v u
+  pub own-at : (u v : ℕ) → Own U ℓ u → nodeNum S U u ≡ v → OwnAt S U ℓ u v
   own-at u v o e = let f = all u o in record { own = o; atNode = f .1 ∙ ap At (sym (ap nodeOf (f .1)) ∙ e) }
 
   pub first-is : (v : ℕ) {k : ℕ} {us : List Use} → From S U ℓ k us → FirstIs S U ℓ v k (firstAt v us)
@@ -101,10 +96,10 @@ module _ (S U : List ℕ) (ℓ : ℕ) (all : AllFound S U ℓ) where
   first-is v (end h) = none (λ u l o. h u l (o .own)) refl
   first-is v {k} (one {u = u} {us = us} n r) = go (eqb (nodeNum S U u) v) refl (first-is v r)
     where
-      own : (x : ℕ) → OwnAt S U ℓ v x → Own U ℓ x
+      own : (x : ℕ) → OwnAt S U ℓ x v → Own U ℓ x
       own x o = o .own
 
-      away : eqb (nodeNum S U u) v ≡ false → OwnAt S U ℓ v u → ⊥
+      away : eqb (nodeNum S U u) v ≡ false → OwnAt S U ℓ u v → ⊥
       away e o = eqb-false _ v e (ap nodeOf (o .atNode))
 
       go : (b : Bool) → eqb (nodeNum S U u) v ≡ b → FirstIs S U ℓ v (suc u) (firstAt v us) → FirstIs S U ℓ v k (cond b (meeting (entry S U ℓ u)) (firstAt v us))
@@ -126,7 +121,7 @@ is-lost true c = refl
 is-lost false c = refl
 
 module _ {S U : List ℕ} {ℓ v k : ℕ} {r : Meeting} where
-  pub first-tells : {m : Meeting → Bool} {P : ℕ → Type 0} → Tells S U ℓ m P → FirstIs S U ℓ v k r → (m r ≡ true) ↔ ((u : ℕ) × Next (OwnAt S U ℓ v) k u × P u)
+  pub first-tells : {m : Meeting → Bool} {P : ℕ → Type 0} → Tells S U ℓ m P → FirstIs S U ℓ v k r → (m r ≡ true) ↔ ((u : ℕ) × Next (λ w. OwnAt S U ℓ w v) k u × P u)
   first-tells {m} {P} t (is u n e) =
       let a = t .a-use u (n .here .own) in
       (λ q. (u, n, a .0 (ap m (sym e) ∙ q)), λ q. ap m e ∙ a .1 (subst P (next-unique n (q .1)) (q .2)))
@@ -134,12 +129,12 @@ module _ {S U : List ℕ} {ℓ v k : ℕ} {r : Meeting} where
       (λ q. absurd (true≢false (sym q ∙ ap m e ∙ t .no-use)), λ q. absurd (h (q .0) (q .1 .from) (q .1 .here)))
 
   -- some use or none
-  pub first-some : FirstIs S U ℓ v k r → (isNoUse r ≡ false) ↔ ((u : ℕ) × (k ≤ u) × OwnAt S U ℓ v u)
+  pub first-some : FirstIs S U ℓ v k r → (isNoUse r ≡ false) ↔ ((u : ℕ) × (k ≤ u) × OwnAt S U ℓ u v)
   first-some (is u n e) = (λ q. (u, n .from, n .here), λ q. ap isNoUse e ∙ is-use (isRead (entry S U ℓ u)))
   first-some (none h e) = (λ q. absurd (true≢false (sym (ap isNoUse e) ∙ q)), λ q. absurd (h (q .0) (q .1) (q .2)))
 
   -- the next is such, or there is none and B
-  pub first-lost : {P : ℕ → Type 0} → Tells S U ℓ isAPureWrite P → FirstIs S U ℓ v k r → {b : Bool} {B : Type 0} → (b ≡ true) ↔ B → (orElse r b ≡ true) ↔ (((u : ℕ) × Next (OwnAt S U ℓ v) k u × P u) ⊎ (((u : ℕ) → Next (OwnAt S U ℓ v) k u → ⊥) × B))
+  pub first-lost : {P : ℕ → Type 0} → Tells S U ℓ isAPureWrite P → FirstIs S U ℓ v k r → {b : Bool} {B : Type 0} → (b ≡ true) ↔ B → (orElse r b ≡ true) ↔ (((u : ℕ) × Next (λ w. OwnAt S U ℓ w v) k u × P u) ⊎ (((u : ℕ) → Next (λ w. OwnAt S U ℓ w v) k u → ⊥) × B))
   first-lost t (is u n e) {b} f =
       let same : orElse r b ≡ isAPureWrite r = ap (λ x. orElse x b) e ∙ is-lost (isRead (entry S U ℓ u)) b ∙ sym (ap isAPureWrite e) in
       let told = first-tells t (is u n e) in

@@ -9,7 +9,7 @@ use lib.Dec.{eqb}
 use Rattle.flow.specs.declared.Verdict.the-variants.{Admitted}
 use Rattle.flow.specs.Sheet.{Item, kind, countWord, outerEnd, items, kindWords, spanWords, zip, kindOf, endOf, useWords, useSpans, localOf, useKindOf}
 use Rattle.flow.specs.Kinds.{kinds, itemFits, isCode}
-use Rattle.flow.specs.Refusals.{nameCount, sheetVerdict, outnumbered, pairsUp, sideBySide, inLine, held, namesFit}
+use Rattle.flow.specs.Refusals.{nameCount, sheetVerdict, outnumbered, pairsUp, sideBySide, inOrder, insideScopes, namesFit}
 use Rattle.flow.specs.Tree.{parse, tree, no-more}
 use Rattle.flow.specs.Size.{blockNodes}
 use Rattle.flow.specs.Graph.{graph}
@@ -50,8 +50,8 @@ pub record AdmittedSheet (S : List ℕ) : Type 0 where
   pub shallow : outnumbered 0 0 (items S) ≡ false
   pub pairs : pairsUp [] (items S) ≡ true
   pub beside : sideBySide 0 (items S) ≡ true
-  pub inOrder : inLine 0 (items S) ≡ true
-  pub heldBy : held (Rattle.flow.specs.Sheet.outerEnd S ∷ []) (items S) ≡ true
+  pub inOrder : inOrder 0 (items S) ≡ true
+  pub insideScopes : insideScopes (Rattle.flow.specs.Sheet.outerEnd S ∷ []) (items S) ≡ true
   pub namesInside : namesFit 0 0 (items S) ≡ true
   pub tidy : Tidy (kindWords S)
   pub closed : Closed (kindWords S)

@@ -1,15 +1,16 @@
--- Demand 3, over what judge writes. S is a sheet, U a use sheet, ℓ a local number, u and w are use numbers, v and x nodes.
+-- Demand 3, over what judge writes. Here w is a use number, as u is.
 -- Assumes nothing: these are definitions.
 use mathlib.Core.Path.{_≡_}
 use mathlib.Core.Logic.{_⊎_, _↔_}
 use mathlib.Core.Bool.{true}
-use mathlib.Core.List.{List, [], _∷_}
+use mathlib.Core.List.{List, [], _∷_, _++_}
 use Prim.Native.Nat.{ℕ, _+_, _-_, _/_, _%_, _^_, _<_, min}
 use lib.ListN.{length, getD}
 use Rattle.flow.specs.declared.Found.the-variants.{At}
 use Rattle.flow.specs.Sheet.{Word, Span, Node, LocalNumber, UseNumber, useWords, useSpans, localOf, useKindOf, startOf}
+use Rattle.flow.specs.Answers.{foundValues}
 use Rattle.flow.specs.Graph.{graph}
-use Rattle.flow.specs.Reachable.{nodeAt, nodeOf}
+use Rattle.flow.specs.Reachable.{nodeAt}
 use Rattle.flow.specs.Locals.{declaration, locals, localAt, tracked, noValue, writesJudged, isInClosure, findingWord}
 use Rattle.flow.specs.Paths.{Edge, After, Meets}
 
@@ -49,18 +50,18 @@ abbrev pub AllFound : List Word → List Word → LocalNumber → Type 0
 AllFound S U ℓ = (u : UseNumber) → Own U ℓ u → (v : Node) × AtNode S U u v
 
 -- an own use at the node v
-pub record OwnAt (S U : List Word) (ℓ : LocalNumber) (v : Node) (u : UseNumber) : Type 0 where
+pub record OwnAt (S U : List Word) (ℓ : LocalNumber) (u : UseNumber) (v : Node) : Type 0 where
   pub own : Own U ℓ u
   pub atNode : AtNode S U u v
 
 -- "that node holds a use of the local"
 abbrev pub Holds : List Word → List Word → LocalNumber → Node → Type 0
-Holds S U ℓ v = (u : UseNumber) × OwnAt S U ℓ v u
+Holds S U ℓ v = (u : UseNumber) × OwnAt S U ℓ u v
 
 -- "First, next and earlier, said of uses, mean use order": the first own use at v
-pub record FirstAt (S U : List Word) (ℓ : LocalNumber) (v : Node) (u : UseNumber) : Type 0 where
-  pub here : OwnAt S U ℓ v u
-  pub first : (w : UseNumber) → w < u → OwnAt S U ℓ v w → ⊥
+pub record FirstAt (S U : List Word) (ℓ : LocalNumber) (u : UseNumber) (v : Node) : Type 0 where
+  pub here : OwnAt S U ℓ u v
+  pub first : (w : UseNumber) → w < u → OwnAt S U ℓ w v → ⊥
 
 -- some live path from after x meets a use that is P: "the local's first use there decides whether it meets a read or a pure write"
 pub record MeetsFrom (S U : List Word) (ℓ : LocalNumber) (x : Node) (P : List Word → UseNumber → Type 0) : Type 0 where
@@ -69,7 +70,7 @@ pub record MeetsFrom (S U : List Word) (ℓ : LocalNumber) (x : Node) (P : List 
   pub which : UseNumber
   pub edge : Edge (graph S) x begin
   pub path : Meets (graph S) (declaration (graph S) ℓ) (Holds S U ℓ) begin end
-  pub first : FirstAt S U ℓ end which
+  pub first : FirstAt S U ℓ which end
   pub kind : P U which
 
 -- "some live path from after it meets a pure write and none meets a read"
@@ -77,13 +78,13 @@ pub record OverwrittenUnread (S U : List Word) (ℓ : LocalNumber) (x : Node) : 
   pub written : MeetsFrom S U ℓ x PureWrite
   pub unread : MeetsFrom S U ℓ x IsRead → ⊥
 
--- "the reads outside closures that no live path from after a write reaches and no earlier write shares a node with"
+-- "the reads outside closures that no live path from after a write reaches and no earlier write shares a node with"; "A path reaches a use when it ends at the use's node."
 pub record EmptyRead (S U : List Word) (ℓ : LocalNumber) (u : UseNumber) : Type 0 where
   pub own : Own U ℓ u
   pub read : IsRead U u
   pub outside : InClosure S U ℓ u → ⊥
-  pub unreached : (w : UseNumber) (x v : Node) → OwnAt S U ℓ x w → IsWrite U w → AtNode S U u v → After (graph S) (declaration (graph S) ℓ) x v → ⊥
-  pub unshared : (w : UseNumber) (v : Node) → w < u → OwnAt S U ℓ v w → IsWrite U w → AtNode S U u v → ⊥
+  pub unreached : (w : UseNumber) (x v : Node) → OwnAt S U ℓ w x → IsWrite U w → AtNode S U u v → After (graph S) (declaration (graph S) ℓ) x v → ⊥
+  pub unshared : (w : UseNumber) (v : Node) → w < u → OwnAt S U ℓ w v → IsWrite U w → AtNode S U u v → ⊥
 
 -- "for every tracked local whose uses all find a node"
 pub record Judgeable (S U : List Word) (ℓ : LocalNumber) : Type 0 where
@@ -97,20 +98,20 @@ pub record Unassigned (S U : List Word) (ℓ : LocalNumber) (u : UseNumber) : Ty
   pub empty : EmptyRead S U ℓ u
   pub first : (w : UseNumber) → w < u → EmptyRead S U ℓ w → ⊥
 
--- "the next use in its node", of w in its node v
-pub record NextAt (S U : List Word) (ℓ : LocalNumber) (v : Node) (w u : UseNumber) : Type 0 where
+-- "the next use in its node": u, after w in its node v
+pub record NextAt (S U : List Word) (ℓ : LocalNumber) (w u : UseNumber) (v : Node) : Type 0 where
   pub later : w < u
-  pub here : OwnAt S U ℓ v u
-  pub next : (between : UseNumber) → w < between → between < u → OwnAt S U ℓ v between → ⊥
+  pub here : OwnAt S U ℓ u v
+  pub next : (between : UseNumber) → w < between → between < u → OwnAt S U ℓ between v → ⊥
 
 -- "If it is modified and not captured, a write is listed overwritten exactly when the next use in its node is a pure write or, where none follows there, some live path .."
 pub record Overwritten (S U : List Word) (ℓ : LocalNumber) (w : UseNumber) : Type 0 where
   pub judgeable : Judgeable S U ℓ
   pub judged : writesJudged (localAt S ℓ) ≡ true
   pub node : Node
-  pub here : OwnAt S U ℓ node w
+  pub here : OwnAt S U ℓ w node
   pub write : IsWrite U w
-  pub lost : ((u : UseNumber) × NextAt S U ℓ node w u × PureWrite U u) ⊎ (((u : UseNumber) → NextAt S U ℓ node w u → ⊥) × OverwrittenUnread S U ℓ node)
+  pub lost : ((u : UseNumber) × NextAt S U ℓ w u node × PureWrite U u) ⊎ (((u : UseNumber) → NextAt S U ℓ w u node → ⊥) × OverwrittenUnread S U ℓ node)
 
 -- "Its initial value, if any, is listed so exactly when some live path from after its declaration meets a pure write and none meets a read."
 pub record OverwrittenInitial (S U : List Word) (ℓ : LocalNumber) : Type 0 where
@@ -125,10 +126,10 @@ pub record Listed (words : List Word) (spans : List Span) (word : Word) (span : 
   pub isWord : getD words place 0 ≡ word
   pub isSpan : getD spans place 0 ≡ span
 
--- "Unassigned come first, in local order; overwritten follow per local: initial value, then writes by node, use order within a node": what a word is ordered by
+-- "Unassigned come first, in local order; overwritten follow per local: initial value, then writes by node, use order within a node": what a word is ordered by, the node being that of its use
 abbrev pub order : List Word → List Word → Word → List ℕ
 order S U word =
-    word % 2 ∷ word / 2 % 2 ^ 31 ∷ min 1 (word / 2 ^ 32) ∷ nodeOf (nodeAt (graph S) (startOf (useSpan U (word / 2 ^ 32 - 1)))) ∷ word / 2 ^ 32 ∷ []
+    word % 2 ∷ word / 2 % 2 ^ 31 ∷ min 1 (word / 2 ^ 32) ∷ foundValues (nodeAt (graph S) (startOf (useSpan U (word / 2 ^ 32 - 1)))) ++ (word / 2 ^ 32 ∷ [])
 
 -- by the first number that differs
 abbrev pub Before : List ℕ → List ℕ → Type 0

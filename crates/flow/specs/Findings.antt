@@ -9,21 +9,23 @@ use Rattle.search.specs.Search.{closure, filter}
 use Rattle.flow.specs.declared.Found.{Found}
 use Rattle.flow.specs.declared.Found.the-variants.{At, Nothing}
 use Rattle.flow.specs.Sheet.{Word, Span, Node, LocalNumber, UseNumber, member, all, startOf, useWords, useSpans, localOf, useKindOf}
-use Rattle.flow.specs.Refusals.{pairVerdict}
-use Rattle.flow.specs.Answers.{Told, tells, countValues}
 use Rattle.flow.specs.Graph.{Graph, nodeCount, graph}
-use Rattle.flow.specs.Reachable.{successors, nodeAt, nodeOf, countsOf}
+use Rattle.flow.specs.Reachable.{successors, nodeAt}
 use Rattle.flow.specs.Locals.{onlyIf, Local, locals, noValue, writesJudged, tracked, isInClosure, Declaration, declaration, localAt, Finding, findingWord}
 
 -- a use of a local, with its number and the node of its span's start; below, u is a use and us are uses in use order
 abbrev pub Use : Type 0
-Use = record { number : UseNumber; span : Span; kind : ℕ; inClosure : Bool; place : Found }
+Use = record { number : UseNumber; span : Span; kind : ℕ; inClosure : Bool; found : Found }
 
 abbrev pub isFound : Found → Bool
 isFound f = elim f [ At v ↦ true | Nothing ↦ false ]
 
+-- the node that was found, 0 where none was; a local with such a use yields nothing
+abbrev pub nodeOf : Found → Node
+nodeOf f = elim f [ At v ↦ v | Nothing ↦ 0 ]
+
 abbrev pub node : Use → Node
-node u = nodeOf (u .place)
+node u = nodeOf (u .found)
 
 -- "kind 0 Read, 1 Write, 2 ReadWrite"; "ReadWrite is a read and a write; a pure write is Write."
 abbrev pub isRead : Use → Bool
@@ -37,12 +39,12 @@ unfoldable pub usesFrom : Graph → Local → LocalNumber → UseNumber → List
 usesFrom g l ℓ k [] ss = []
 usesFrom g l ℓ k (w ∷ ws) ss =
     onlyIf (eqb (localOf w) ℓ)
-    (record { number = k; span = getD ss 0 0; kind = useKindOf w; inClosure = isInClosure l w; place = nodeAt g (startOf (getD ss 0 0)) } ∷ [])
+    (record { number = k; span = getD ss 0 0; kind = useKindOf w; inClosure = isInClosure l w; found = nodeAt g (startOf (getD ss 0 0)) } ∷ [])
     ++ usesFrom g l ℓ (k + 1) ws (tail ss)
 
 -- "A local with a use that finds no node yields nothing."
 unfoldable pub allFound : List Use → Bool
-allFound us = all (λ u. isFound (u .place)) us
+allFound us = all (λ u. isFound (u .found)) us
 
 -- "none the LOCAL's node, none with code start at or past the scope end"
 unfoldable pub isAliveAt : Graph → Declaration → Node → Bool
@@ -178,13 +180,3 @@ ofEach f (suc k) = ofEach f k ++ f k
 -- "Unassigned come first, in local order; overwritten follow per local"
 unfoldable pub findings : List Word → List Word → List Finding
 findings S U = ofEach (unassignedOf S U) (length (locals S)) ++ ofEach (overwrittenOf S U) (length (locals S))
-
-abbrev pub wordsOf : List Finding → List Word
-wordsOf = map (λ f. f .word)
-
-abbrev pub spansOf : List Finding → List Span
-spansOf = map (λ f. f .span)
-
--- judge's number and values, where `short` says whether a lent column is too short: the three counts, "then the findings and their count"
-unfoldable pub judge : Bool → List Word → List Word → Told
-judge short S U = tells (pairVerdict short S U) (countValues (countsOf (graph S)) ++ (length (findings S U) ∷ []))

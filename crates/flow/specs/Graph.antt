@@ -112,11 +112,11 @@ labelNode a (l ∷ ls) = cond (eqb a (l .name)) (At (l .node)) (labelNode a ls)
 abbrev pub standAt : Found → Span → Graph → Graph
 standAt f s g = elim f [ At v ↦ advanceTo v (recordCode s v g) | Nothing ↦ g ]
 
--- "when no visible label is found it jumps to exit Break"
+-- "GOTO jumps to its label; when no visible label is found it jumps to exit Break."
 abbrev pub orBreak : Found → Node
 orBreak f = elim f [ At v ↦ v | Nothing ↦ Break ]
 
--- a statement of one item, by its kind, argument and span
+-- a statement of one item, by its kind, argument and span. LABEL: "Name 0 does nothing." "BREAK, CONTINUE, RETURN, a raising CALL jump: RETURN to ReturnValue or ReturnEmpty by its argument, CALL to Error"
 unfoldable pub simpleStmt : ℕ → ℕ → Span → Settings → Graph → Graph
 simpleStmt k a s st g =
     cond (eqb k NAME) (declare s st g)
@@ -152,10 +152,10 @@ inLoop after next st = record { breakTo = after; continueTo = next; scopeEnd = s
 
 -- "unless the condition is true"; "unless true", "unless false"
 abbrev pub unlessTrue : Truth → (Graph → Graph) → Graph → Graph
-unlessTrue t f g = elim t [ False ↦ f g | True ↦ g | Unknown ↦ f g ]
+unlessTrue t step g = elim t [ False ↦ step g | True ↦ g | Unknown ↦ step g ]
 
 abbrev pub unlessFalse : Truth → (Graph → Graph) → Graph → Graph
-unlessFalse t f g = elim t [ False ↦ g | True ↦ f g | Unknown ↦ f g ]
+unlessFalse t step g = elim t [ False ↦ g | True ↦ step g | Unknown ↦ step g ]
 
 -- "A false condition enters the body with nothing current."
 abbrev pub enterWhen : Truth → Graph → Graph
@@ -166,6 +166,7 @@ infixl 1 _▷_
 abbrev pub _▷_ : Graph → (Graph → Graph) → Graph
 g ▷ f = f g
 
+-- "A block holds statements and a statement holds blocks, and numbering follows the source": each builds upon the graph of what stands before it. "Past a WHILE, REPEAT or FOR its after is current, past an IF its join."
 unfoldable mutual
   pub buildStmt : Stmt → Settings → Graph → Graph
   buildStmt (simple w s) st g = simpleStmt (kindOf w) (argumentOf w) s st g
@@ -181,12 +182,12 @@ unfoldable mutual
   -- "REPEAT: nodes body, condition, after; move to body; body end to condition; then condition to body unless true, to after unless false. UNTIL records its span at condition, whose code start remains 0."
   buildStmt (repeat-loop w b until) st g =
       let body = nodeCount g in let condition = nodeCount g + 1 in let after = nodeCount g + 2 in let t = literalTruth (conditionOf w) in
-      let h : Graph = g ▷ newNode ▷ advanceTo body ▷ newNode ▷ newNode in
+      let h : Graph = g ▷ newNode ▷ newNode ▷ newNode ▷ advanceTo body in
       buildBlock b (inside (scopeEndOf w) b (inLoop after condition st) h) (h ▷ entered b)
       ▷ closeInto condition
-      ▷ recordCode until condition
       ▷ unlessTrue t (connect condition body)
       ▷ unlessFalse t (connect condition after)
+      ▷ recordCode until condition
       ▷ setCurrent after
   -- "FOR: code node; node head, moved to; node after; body end to head; then head to after."
   buildStmt (for-loop w s b) st g =
@@ -196,29 +197,29 @@ unfoldable mutual
       ▷ closeInto head
       ▷ connect head after
       ▷ setCurrent after
-  -- "IF: code node test, node join; each arm ends in join"; "past an IF its join" is current
-  buildStmt (if-stmt w s b as') st g =
+  -- "IF: code node test, node join; each arm ends in join"
+  buildStmt (if-stmt w s b arms) st g =
       let test = nodeCount g in let join = nodeCount g + 1 in
       let h : Graph = g ▷ code s ▷ newNode in
       let arm : Graph = buildBlock b (inside (scopeEndOf w) b st h) (h ▷ entered b) ▷ closeInto join in
-      buildArms as' test join true st arm
+      buildArms arms test join true st arm
       ▷ setCurrent join
 
   pub buildBlock : Block → Settings → Graph → Graph
   buildBlock done st g = g
-  buildBlock (then s b) st g = buildBlock b st (buildStmt s st g)
+  buildBlock (then stmt b) st g = buildBlock b st (buildStmt stmt st g)
 
   -- the arms after a test: "ELSEIF is a code node reached from the test before; without ELSE the last test goes to join", which `falls` says
   pub buildArms : Arms → Node → Node → Bool → Settings → Graph → Graph
   buildArms no-more test join falls st g = cond falls (connect test join g) g
-  buildArms (elseif w s b as') test join falls st g =
+  buildArms (elseif w s b arms) test join falls st g =
       let h : Graph = g ▷ setCurrent test ▷ code s in
       let arm : Graph = buildBlock b (inside (scopeEndOf w) b st h) (h ▷ entered b) ▷ closeInto join in
-      buildArms as' (nodeCount g) join falls st arm
-  buildArms (otherwise w b as') test join falls st g =
+      buildArms arms (nodeCount g) join falls st arm
+  buildArms (otherwise w b arms) test join falls st g =
       let h : Graph = g ▷ setCurrent test in
       let arm : Graph = buildBlock b (inside (scopeEndOf w) b st h) (h ▷ entered b) ▷ closeInto join in
-      buildArms as' test join false st arm
+      buildArms arms test join false st arm
 
 -- five exits and the entry, which is current
 unfoldable pub startGraph : Graph

@@ -27,16 +27,16 @@ unfoldable mutual
   labelsFineIn (while-loop w s b) visible = distinct (labelsOf b) && blockFine b (labelsOf b ++ visible)
   labelsFineIn (repeat-loop w b until) visible = distinct (labelsOf b) && blockFine b (labelsOf b ++ visible)
   labelsFineIn (for-loop w s b) visible = distinct (labelsOf b) && blockFine b (labelsOf b ++ visible)
-  labelsFineIn (if-stmt w s b as') visible = distinct (labelsOf b) && blockFine b (labelsOf b ++ visible) && armsFine as' visible
+  labelsFineIn (if-stmt w s b arms) visible = distinct (labelsOf b) && blockFine b (labelsOf b ++ visible) && armsFine arms visible
 
   pub blockFine : Block → List ℕ → Bool
   blockFine done visible = true
-  blockFine (then st b) visible = labelsFineIn st visible && blockFine b visible
+  blockFine (then stmt b) visible = labelsFineIn stmt visible && blockFine b visible
 
   pub armsFine : Arms → List ℕ → Bool
   armsFine no-more visible = true
-  armsFine (elseif w s b as') visible = distinct (labelsOf b) && blockFine b (labelsOf b ++ visible) && armsFine as' visible
-  armsFine (otherwise w b as') visible = distinct (labelsOf b) && blockFine b (labelsOf b ++ visible) && armsFine as' visible
+  armsFine (elseif w s b arms) visible = distinct (labelsOf b) && blockFine b (labelsOf b ++ visible) && armsFine arms visible
+  armsFine (otherwise w b arms) visible = distinct (labelsOf b) && blockFine b (labelsOf b ++ visible) && armsFine arms visible
 
 -- of a sheet, whose outer block has no labels around it
 unfoldable pub labelsFine : List Word → Bool

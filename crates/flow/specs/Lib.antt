@@ -8,6 +8,7 @@ pub mod Size
 pub mod Reachable
 pub mod Locals
 pub mod Findings
+pub mod Judge
 pub mod Paths
 pub mod Demand
 pub mod Admitted

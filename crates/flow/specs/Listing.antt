@@ -14,15 +14,16 @@ use Rattle.flow.specs.Answers.{Told}
 use Rattle.flow.specs.Graph.{graph}
 use Rattle.flow.specs.Reachable.{reachable}
 use Rattle.flow.specs.Locals.{Finding}
-use Rattle.flow.specs.Findings.{findings, judge}
+use Rattle.flow.specs.Findings.{findings}
+use Rattle.flow.specs.Judge.{judge}
 
 -- the bytes of a text, of which the first k
 abbrev pub firstBytes : ℕ → String → List ℕ
-firstBytes zero s = []
-firstBytes (suc k) s = firstBytes k s ++ (code (charAt s k) ∷ [])
+firstBytes zero text = []
+firstBytes (suc k) text = firstBytes k text ++ (code (charAt text k) ∷ [])
 
 abbrev pub bytes : String → List ℕ
-bytes s = firstBytes (len s) s
+bytes text = firstBytes (len text) text
 
 -- a number in decimal, of at most k digits
 unfoldable pub digits : ℕ → ℕ → List ℕ

@@ -42,7 +42,7 @@ modified l = eqb (l .flags / 2 % 2) 1
 abbrev pub captured : Local → Bool
 captured l = eqb (l .flags / 4 % 2) 1
 
--- "A NAME has no value when at least as many names of its LOCAL stand before it as there are values, 65,535 meaning none lacks one"
+-- "A NAME has no value when at least as many names of its LOCAL stand before it as there are values, 65,535 meaning none lacks one; else it has an initial value."
 unfoldable pub noValue : Local → Bool
 noValue l = leb (l .values) (l .before) && not (eqb (l .values) 65535)
 

@@ -1,4 +1,4 @@
--- 01, "From uses to findings": live paths, and what a path from after a write meets, as relations over paths. u, v, w and x are nodes.
+-- 01, "From uses to findings": live paths, and what a path from after a write meets, as relations over paths.
 -- Assumes nothing: these are definitions.
 use mathlib.Core.Path.{_≡_}
 use Prim.Native.Nat.{_<_}
@@ -21,7 +21,7 @@ pub record Alive (g : Graph) (d : Declaration) (v : Node) : Type 0 where
 -- "A live path is one or more nodes joined by edges", each alive: from its first node to its last
 pub data Live (g : Graph) (d : Declaration) : Node → Node → Type 0 where
   last : {v : Node} → Alive g d v → Live g d v v
-  more : {u v w : Node} → Alive g d u → Edge g u v → Live g d v w → Live g d u w
+  more : {x y v : Node} → Alive g d x → Edge g x y → Live g d y v → Live g d x v
 
 -- "A path from after a write or a declaration begins at a successor of its node": a live path from after a node x ends at v
 pub record After (g : Graph) (d : Declaration) (x v : Node) : Type 0 where
@@ -32,4 +32,4 @@ pub record After (g : Graph) (d : Declaration) (x v : Node) : Type 0 where
 -- "A path meets its last node when only that node holds a use of the local"
 pub data Meets (g : Graph) (d : Declaration) (Holds : Node → Type 0) : Node → Node → Type 0 where
   met : {v : Node} → Alive g d v → Holds v → Meets g d Holds v v
-  past : {u v w : Node} → Alive g d u → (Holds u → ⊥) → Edge g u v → Meets g d Holds v w → Meets g d Holds u w
+  past : {x y v : Node} → Alive g d x → (Holds x → ⊥) → Edge g x y → Meets g d Holds y v → Meets g d Holds x v

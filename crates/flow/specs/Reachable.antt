@@ -3,7 +3,7 @@
 use mathlib.Core.Path.{_≡_}
 use mathlib.Core.Logic.{_↔_}
 use mathlib.Core.Bool.{Bool, true, false, cond}
-use mathlib.Core.List.{List, [], _∷_, tail}
+use mathlib.Core.List.{List, [], _∷_}
 use Prim.Native.Nat.{ℕ, _≤_, _<_}
 use lib.ListN.{length, getD}
 use lib.Dec.{eqb, ltb}
@@ -36,14 +36,11 @@ reachable g = closure (entryNode ∷ []) (successors g) (nodeCount g)
 -- "The node of an offset is that of the first code whose end is greater than the offset."
 unfoldable pub nodeAmong : List Span → List Node → ℕ → Found
 nodeAmong [] vs o = Nothing
-nodeAmong (s ∷ ss) vs o = cond (ltb o (endOf s)) (At (getD vs 0 0)) (nodeAmong ss (tail vs) o)
+nodeAmong (s ∷ ss) [] o = Nothing
+nodeAmong (s ∷ ss) (v ∷ vs) o = cond (ltb o (endOf s)) (At v) (nodeAmong ss vs o)
 
 unfoldable pub nodeAt : Graph → ℕ → Found
 nodeAt g o = nodeAmong (g .codes .span) (g .codes .node) o
-
--- its number, 0 where there is none
-abbrev pub nodeOf : Found → Node
-nodeOf f = elim f [ At v ↦ v | Nothing ↦ 0 ]
 
 -- "yes exactly when there is none or the node is reachable": over paths, and computed
 abbrev pub CanRun : Graph → Found → Type 0

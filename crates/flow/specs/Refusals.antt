@@ -71,23 +71,23 @@ unfoldable pub badNesting : List Word → Bool
 badNesting S = not (pairsUp [] (items S) && sideBySide 0 (items S))
 
 -- 6: "a code span starts before the previous one ends"
-unfoldable pub inLine : ℕ → List Item → Bool
-inLine p [] = true
-inLine p (i ∷ is) = (not (isCode i) || leb p (startOf (i .span))) && inLine (cond (isCode i) (endOf (i .span)) p) is
+unfoldable pub inOrder : ℕ → List Item → Bool
+inOrder p [] = true
+inOrder p (i ∷ is) = (not (isCode i) || leb p (startOf (i .span))) && inOrder (cond (isCode i) (endOf (i .span)) p) is
 
 -- the scope ends of the blocks around, the innermost first, after an item of kind k with scope end e
 unfoldable pub scopesAfter : ℕ → ℕ → List ℕ → List ℕ
 scopesAfter k e es = cond (opens k) (e ∷ es) (cond (closes k) (tail es) (cond (member k (ELSEIF ∷ ELSE ∷ [])) (e ∷ tail es) es))
 
 -- "or ends past the scope end of a block that holds it (for an ELSEIF, the blocks around its IF); REPEAT's scope end is not its UNTIL's end"
-unfoldable pub held : List ℕ → List Item → Bool
-held es [] = true
-held es (i ∷ is) =
+unfoldable pub insideScopes : List ℕ → List Item → Bool
+insideScopes es [] = true
+insideScopes es (i ∷ is) =
     (not (isCode i) || all (leb (endOf (i .span))) (cond (eqb (kind i) ELSEIF) (tail es) es))
-    && (not (eqb (kind i) UNTIL) || eqb (endOf (i .span)) (getD es 0 0)) && held (scopesAfter (kind i) (scopeEndOf (i .word)) es) is
+    && (not (eqb (kind i) UNTIL) || eqb (endOf (i .span)) (getD es 0 0)) && insideScopes (scopesAfter (kind i) (scopeEndOf (i .word)) es) is
 
 unfoldable pub offTheLine : List Word → Bool
-offTheLine S = not (inLine 0 (items S) && held (outerEnd S ∷ []) (items S))
+offTheLine S = not (inOrder 0 (items S) && insideScopes (outerEnd S ∷ []) (items S))
 
 -- 7: "a NAME span empty, outside its LOCAL, or starting before the previous NAME of that LOCAL ends": in the LOCAL's span, after a NAME that ends at p
 unfoldable pub nameFits : Span → ℕ → Span → Bool

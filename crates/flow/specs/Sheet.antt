@@ -7,7 +7,8 @@ use lib.ListN.{take, drop, getD}
 use lib.Dec.{eqb}
 
 -- All numbers are ℕ. These names say what a number is, where two could be swapped; kinds, arguments, offsets, scope ends, flags and counts are plain ℕ.
--- Letters, in these files: S a sheet, U a use sheet, w a word, s a span, g a graph, v and x nodes, d a declaration, ℓ a local number, k a kind or how many; u is a use number, and so is w in Demand.antt.
+-- Letters, in these files, a list with an s behind: S a sheet, U a use sheet, w a word, i an item, s a span; k a kind or how many, a an argument or a name number, c a condition, e a scope end, p where a span ends or code starts, o an offset or what is open; b a block or a test, stmt a statement, st settings, t a condition's truth; g and h graphs, n a graph's nodes or names, v, x and y nodes, f what was found or a finding, l a label or a local, d a declaration, ℓ a local number, u a use number; r a refusal.
+-- Otherwise: in Refusals.antt `outnumbered` counts openers o and closers c, and t is a test with its refusal; in Tree.antt f is a frame; in Answers.antt and Listing.antt a is an answer, c counts, t what is told and n any number; in Demand.antt w is a use number, and i and j are places in a list.
 abbrev pub Word : Type 0
 Word = ℕ
 

@@ -18,15 +18,15 @@ abbrev mutual
   stmtNodes (simple w s) = simpleNodes (kindOf w) (argumentOf w)
   stmtNodes (do-block w b) = blockNodes b
   stmtNodes (while-loop w s b) = 2 + blockNodes b
-  stmtNodes (repeat-loop w b u) = 3 + blockNodes b
+  stmtNodes (repeat-loop w b until) = 3 + blockNodes b
   stmtNodes (for-loop w s b) = 3 + blockNodes b
-  stmtNodes (if-stmt w s b as') = 2 + blockNodes b + armNodes as'
+  stmtNodes (if-stmt w s b arms) = 2 + blockNodes b + armNodes arms
 
   pub blockNodes : Block → ℕ
   blockNodes done = 0
-  blockNodes (then s b) = stmtNodes s + blockNodes b
+  blockNodes (then stmt b) = stmtNodes stmt + blockNodes b
 
   pub armNodes : Arms → ℕ
   armNodes no-more = 0
-  armNodes (elseif w s b as') = 1 + blockNodes b + armNodes as'
-  armNodes (otherwise w b as') = blockNodes b + armNodes as'
+  armNodes (elseif w s b arms) = 1 + blockNodes b + armNodes arms
+  armNodes (otherwise w b arms) = blockNodes b + armNodes arms

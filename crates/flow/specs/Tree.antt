@@ -42,11 +42,11 @@ outer o = elim (o .below) [ [] ↦ record { top = nothingRead; below = [] } | f 
 
 -- a statement put in front of the innermost block
 unfoldable pub inFront : Stmt → Open → Open
-inFront st o = record { top = record { body = then st (o .top .body); arms = o .top .arms; close = o .top .close }; below = o .below }
+inFront stmt o = record { top = record { body = then stmt (o .top .body); arms = o .top .arms; close = o .top .close }; below = o .below }
 
 -- a new innermost block, with the arms that follow it
 unfoldable pub opened : Arms → Span → Open → Open
-opened as' s o = record { top = record { body = done; arms = as'; close = s }; below = o .top ∷ o .below }
+opened arms s o = record { top = record { body = done; arms = arms; close = s }; below = o .top ∷ o .below }
 
 -- the item i, with all that stands after it read already: a closer starts a block, an opener ends one, ELSEIF and ELSE make it an arm
 unfoldable pub read : Item → Open → Open
@@ -71,11 +71,11 @@ tree is = parse is .top .body
 
 -- the name of a statement that is a named LABEL: "name number 0 to 65,535; 0 has no identifier"
 abbrev pub labelName : Stmt → List ℕ
-labelName st =
+labelName stmt =
     let name : Word → List ℕ = λ w. cond (eqb (kindOf w) LABEL && not (eqb (argumentOf w) 0)) (argumentOf w ∷ []) [] in
-    elim st [ simple w s ↦ name w | do-block w b ↦ [] | while-loop w s b ↦ [] | repeat-loop w b until ↦ [] | for-loop w s b ↦ [] | if-stmt w s b as' ↦ [] ]
+    elim stmt [ simple w s ↦ name w | do-block w b ↦ [] | while-loop w s b ↦ [] | repeat-loop w b until ↦ [] | for-loop w s b ↦ [] | if-stmt w s b arms ↦ [] ]
 
 -- "each named LABEL standing directly in it", in a block, "in order"
 unfoldable pub labelsOf : Block → List ℕ
 labelsOf done = []
-labelsOf (then st b) = labelName st ++ labelsOf b
+labelsOf (then stmt b) = labelName stmt ++ labelsOf b

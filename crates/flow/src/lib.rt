@@ -7,7 +7,7 @@ pub enum Truth {
     Unknown,
 }
 
-// What looking something up finds: the node of a label or of an offset's code, or the place of the first empty read; or nothing.
+// What looking something up finds: the node of a label or of an offset's code; or nothing.
 pub enum Found {
     At(usize),
     Nothing,

@@ -9,13 +9,14 @@ use lib.Dec.{eqb}
 use Rattle.search.specs.Search.{closure}
 use Rattle.flow.specs.Sheet.{all}
 use Rattle.flow.specs.Kinds.{argumentFits, itemFits, isCode, literalTruth}
-use Rattle.flow.specs.Refusals.{miscount, badItem, outnumbered, tooDeep, mayStand, openAfter, pairsUp, mayFollow, sideBySide, badNesting, inLine, scopesAfter, held, offTheLine, nameFits, namesFit, badName, nameCount, useFits, usesFit, badUse, firstApplying, itemTests, pairTests, pairVerdict}
+use Rattle.flow.specs.Refusals.{miscount, badItem, outnumbered, tooDeep, mayStand, openAfter, pairsUp, mayFollow, sideBySide, badNesting, inOrder, scopesAfter, insideScopes, offTheLine, nameFits, namesFit, badName, nameCount, useFits, usesFit, badUse, firstApplying, itemTests, pairTests, pairVerdict}
 use Rattle.flow.specs.Answers.{findingsTold}
 use Rattle.flow.specs.Tree.{inFront, opened, read, parse, tree, labelsOf}
 use Rattle.flow.specs.Graph.{graph, newNode, connect, setCurrent, advanceTo, recordCode, setStart, code, closeInto, jump, declare, labelNode, simpleStmt, newNodes, withLabels, entered, inside, inLoop, startGraph, outside, buildStmt, buildBlock, buildArms}
 use Rattle.flow.specs.Reachable.{reachable, nodeAmong, nodeAt, canRun}
 use Rattle.flow.specs.Locals.{Finding, localsFrom, locals, noValue, writesJudged, tracked, isInClosure}
-use Rattle.flow.specs.Findings.{findings, wordsOf, spansOf, judge, usesFrom, allFound, isAliveAt, afterWrites, liveAfterWrites, isEmptyRead, firstEmptyRead, firstAt, meetsHere, predecessors, meets, ahead, anyFlag, isOverwrittenUnread, isOverwritten, overwrittenAt, overwrittenBelow, firstUnassignedUse, initialOverwritten, writesOverwritten, usesOf, unassignedOf, overwrittenOf, ofEach}
+use Rattle.flow.specs.Findings.{findings, usesFrom, allFound, isAliveAt, afterWrites, liveAfterWrites, isEmptyRead, firstEmptyRead, firstAt, meetsHere, predecessors, meets, ahead, anyFlag, isOverwrittenUnread, isOverwritten, overwrittenAt, overwrittenBelow, firstUnassignedUse, initialOverwritten, writesOverwritten, usesOf, unassignedOf, overwrittenOf, ofEach}
+use Rattle.flow.specs.Judge.{wordsOf, spansOf, judge}
 use Rattle.flow.specs.Pieces.{Fact, nodes, edges, reached, offset, lists, prints, sameList, starred}
 use Rattle.judge.specs.Lent.{leaves}
 
@@ -31,5 +32,5 @@ abbrev pub judgedSo : List ℕ → List ℕ → List ℕ → List ℕ → Fact �
 judgedSo words spans S U f = elim f [ nodes n ↦ true | edges v vs ↦ true | reached v b ↦ true | offset o p b ↦ true | lists fs ↦ listed words spans S U fs | prints t ↦ true ]
 
 pub pieces-judged : (words spans : List ℕ) → all (λ p. all (judgedSo words spans (p .sheetOf) (p .usesOf)) (p .facts)) starred ≡ true
-unfolding starred closure argumentFits itemFits isCode literalTruth miscount all badItem outnumbered tooDeep mayStand openAfter pairsUp mayFollow sideBySide badNesting inLine scopesAfter held offTheLine nameFits namesFit badName nameCount useFits usesFit badUse firstApplying itemTests pairTests pairVerdict inFront opened read parse tree labelsOf newNode connect setCurrent advanceTo recordCode setStart code closeInto jump declare labelNode simpleStmt newNodes withLabels entered inside inLoop startGraph outside graph buildStmt buildBlock buildArms reachable nodeAmong nodeAt canRun judge localsFrom locals noValue writesJudged tracked isInClosure usesFrom allFound isAliveAt afterWrites liveAfterWrites isEmptyRead firstEmptyRead firstAt meetsHere predecessors meets ahead anyFlag isOverwrittenUnread isOverwritten overwrittenAt overwrittenBelow firstUnassignedUse initialOverwritten writesOverwritten usesOf unassignedOf overwrittenOf ofEach findings
+unfolding starred closure argumentFits itemFits isCode literalTruth miscount all badItem outnumbered tooDeep mayStand openAfter pairsUp mayFollow sideBySide badNesting inOrder scopesAfter insideScopes offTheLine nameFits namesFit badName nameCount useFits usesFit badUse firstApplying itemTests pairTests pairVerdict inFront opened read parse tree labelsOf newNode connect setCurrent advanceTo recordCode setStart code closeInto jump declare labelNode simpleStmt newNodes withLabels entered inside inLoop startGraph outside graph buildStmt buildBlock buildArms reachable nodeAmong nodeAt canRun judge localsFrom locals noValue writesJudged tracked isInClosure usesFrom allFound isAliveAt afterWrites liveAfterWrites isEmptyRead firstEmptyRead firstAt meetsHere predecessors meets ahead anyFlag isOverwrittenUnread isOverwritten overwrittenAt overwrittenBelow firstUnassignedUse initialOverwritten writesOverwritten usesOf unassignedOf overwrittenOf ofEach findings
 pieces-judged words spans = refl

@@ -16,7 +16,8 @@ use Rattle.flow.specs.declared.JudgeAnswer.the-variants.{Refused as JudgeRefuse
 use Rattle.flow.specs.Refusals.{pairVerdict}
 use Rattle.flow.specs.Answers.{judgeTold}
 use Rattle.flow.specs.Locals.{Finding}
-use Rattle.flow.specs.Findings.{findings, judge}
+use Rattle.flow.specs.Findings.{findings}
+use Rattle.flow.specs.Judge.{judge}
 use Rattle.flow.specs.Demand.{Demand3}
 use Rattle.flow.specs.Admitted.{AdmittedPair}
 use Rattle.flow.proofs.Admission.{of-pair}

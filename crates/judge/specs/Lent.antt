@@ -13,7 +13,8 @@ use Rattle.flow.specs.Refusals.{pairVerdict}
 use Rattle.flow.specs.Answers.{judgeTold, findingsTold}
 use Rattle.flow.specs.Graph.{nodeCount, graph}
 use Rattle.flow.specs.Locals.{locals}
-use Rattle.flow.specs.Findings.{findings, wordsOf, spansOf, judge}
+use Rattle.flow.specs.Findings.{findings}
+use Rattle.flow.specs.Judge.{wordsOf, spansOf, judge}
 use Rattle.flow.specs.Demand.{Demand3}
 use Rattle.search.specs.Lent.{Column}
 use Rattle.chart.specs.Lent.{overlay, Columns, Lent, chartShort, chartLeaves, Shown}

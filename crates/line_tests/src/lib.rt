@@ -6,7 +6,7 @@ ghost use Prim.Native.Nat.{_+_, _%_, _≤_, _<_};
 ghost use lib.ListN.{length};
 ghost use Rattle.flow.specs.Sheet.{zip, endOf};
 ghost use Rattle.flow.specs.Kinds.{isCode};
-ghost use Rattle.flow.specs.Refusals.{outnumbered, pairsUp, inLine, scopesAfter, held};
+ghost use Rattle.flow.specs.Refusals.{outnumbered, pairsUp, inOrder, scopesAfter, insideScopes};
 ghost use Rattle.nesting_tests.specs.Stack.{stackOf};
 ghost use Rattle.line_tests.specs.Turn.{lineFits, heldHere, Room, Scopes};
 use kinds::is_closer;
@@ -115,7 +115,7 @@ pub fn off_the_line(outer: u64, kinds: &[u64], spans: &[u64]) -> bool
     requires { ⌜ (length (now kinds) ≡ length (now spans)) × (length (now kinds) ≤ 1024) ⌝ }
     requires { ⌜ outnumbered 0 0 (zip (now kinds) (now spans)) ≡ false ⌝ }
     requires { ⌜ pairsUp [] (zip (now kinds) (now spans)) ≡ true ⌝ }
-    ensures { λ r. ⌜ r ≡ not (inLine 0 (zip (now (kinds .entry)) (now (spans .entry))) && held (outer ∷ []) (zip (now (kinds .entry)) (now (spans .entry)))) ⌝ }
+    ensures { λ r. ⌜ r ≡ not (inOrder 0 (zip (now (kinds .entry)) (now (spans .entry))) && insideScopes (outer ∷ []) (zip (now (kinds .entry)) (now (spans .entry)))) ⌝ }
 {
     let mut ends = [outer; 65];
     let mut lows = [outer; 65];

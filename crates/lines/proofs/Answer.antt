@@ -14,7 +14,8 @@ use Rattle.flow.specs.Answers.{Told, tells, countValues, findingsTold}
 use Rattle.flow.specs.Graph.{Graph, graph}
 use Rattle.flow.specs.Reachable.{countsOf, reachable}
 use Rattle.flow.specs.Locals.{Finding}
-use Rattle.flow.specs.Findings.{findings, wordsOf, spansOf, judge}
+use Rattle.flow.specs.Findings.{findings}
+use Rattle.flow.specs.Judge.{wordsOf, spansOf, judge}
 use Rattle.flow.specs.Listing.{report, printedFor}
 use Rattle.flow.proofs.Answers.{refuses}
 use Rattle.flow.proofs.Flags.{node-count, reachable-length}

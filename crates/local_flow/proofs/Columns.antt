@@ -10,7 +10,8 @@ use lib.ListN.{length, getD, drop, replicate, length-append, length-drop, length
 use lib.Seq.{drop-append-seam}
 use Rattle.flow.specs.Sheet.{kindWords}
 use Rattle.flow.specs.Locals.{locals, tracked, localAt}
-use Rattle.flow.specs.Findings.{firstUnassignedUse, initialOverwritten, writesOverwritten, unassignedOf, overwrittenOf, findings, wordsOf}
+use Rattle.flow.specs.Findings.{firstUnassignedUse, initialOverwritten, writesOverwritten, unassignedOf, overwrittenOf, findings}
+use Rattle.flow.specs.Judge.{wordsOf}
 use Rattle.facts.specs.Facts.{localsIn, Known, Stored, None}
 use Rattle.facts.proofs.Facts.{names-counted, names-known}
 use Rattle.locals.specs.Columns.{Tables}

@@ -9,7 +9,8 @@ use Rattle.search.specs.Lent.{Column, held, left}
 use Rattle.flow.specs.Sheet.{kindWords, spanWords, useWords, useSpans}
 use Rattle.flow.specs.Graph.{graph}
 use Rattle.flow.specs.Locals.{locals}
-use Rattle.flow.specs.Findings.{findings, wordsOf}
+use Rattle.flow.specs.Findings.{findings}
+use Rattle.flow.specs.Judge.{wordsOf}
 use Rattle.locals.specs.Columns.{Charted, Named}
 use Rattle.locals.specs.Entries.{Adds}
 use Rattle.tables.specs.Tables.{CodeTable, UseTable, Sources}

@@ -8,7 +8,8 @@ use native.Mathlib.Omega.{arith}
 use lib.ListN.{length, getD, drop, length-take}
 use Rattle.flow.specs.Graph.{Graph, Nodes, graph, nodeCount}
 use Rattle.flow.specs.Locals.{Local, Finding, onlyIf, underscore, noValue, writesJudged, tracked, localAt, Declaration, declaration, findingWord}
-use Rattle.flow.specs.Findings.{Use, Ahead, allFound, usesOf, ahead, isOverwrittenUnread, overwrittenBelow, initialOverwritten, writesOverwritten, ofInitial, ofUse, overwrittenOf, ofEach, wordsOf}
+use Rattle.flow.specs.Findings.{Use, Ahead, allFound, usesOf, ahead, isOverwrittenUnread, overwrittenBelow, initialOverwritten, writesOverwritten, ofInitial, ofUse, overwrittenOf, ofEach}
+use Rattle.flow.specs.Judge.{wordsOf}
 use Rattle.flow.proofs.OwnUses.{renumbered-ahead, nodes-ahead, nodes-unread, nodes-below}
 use Rattle.use_words.specs.Words.{spanless, usesIn}
 use Rattle.live_steps.specs.Walk.{chart}

@@ -7,7 +7,8 @@ use native.Mathlib.Omega.{arith}
 use native.Mathlib.Numerals.{add-one}
 use lib.ListN.{length, getD, replicate, length-replicate}
 use Rattle.flow.specs.Locals.{Finding}
-use Rattle.flow.specs.Findings.{overwrittenOf, ofEach, wordsOf}
+use Rattle.flow.specs.Findings.{overwrittenOf, ofEach}
+use Rattle.flow.specs.Judge.{wordsOf}
 use Rattle.locals.specs.Entries.{Room, Added}
 use Rattle.locals.proofs.Entries.{added-none, added-more}
 use Rattle.next_uses.specs.Backwards.{Unmarked}

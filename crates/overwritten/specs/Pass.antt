@@ -4,7 +4,8 @@ use Prim.Native.Nat.{ℕ}
 use mathlib.Core.List.{List}
 use denote.Ref.{RefT, now}
 use Rattle.search.specs.Lent.{Column, held}
-use Rattle.flow.specs.Findings.{overwrittenOf, ofEach, wordsOf}
+use Rattle.flow.specs.Findings.{overwrittenOf, ofEach}
+use Rattle.flow.specs.Judge.{wordsOf}
 use Rattle.predecessors.specs.Predecessors.{Blank}
 use Rattle.next_uses.specs.Backwards.{Unmarked}
 use Rattle.locals.specs.Columns.{Pass, usesByNode}

@@ -13,7 +13,8 @@ use Rattle.flow.specs.Refusals.{pairVerdict}
 use Rattle.flow.specs.Answers.{judgeTold, findingsTold}
 use Rattle.flow.specs.Graph.{graph}
 use Rattle.flow.specs.Reachable.{reachable}
-use Rattle.flow.specs.Findings.{findings, wordsOf, spansOf, judge}
+use Rattle.flow.specs.Findings.{findings}
+use Rattle.flow.specs.Judge.{wordsOf, spansOf, judge}
 use Rattle.column_lengths.specs.Lengths.{chartTooShort, judgeTooShort}
 use Rattle.chart.specs.Lent.{overlay, Columns, columns, chartOf, chartLeaves}
 use Rattle.findings.specs.Accepted.{FindingColumns}

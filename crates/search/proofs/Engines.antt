@@ -27,6 +27,7 @@ module _ (starts : List ℕ) (next : ℕ → List ℕ) where
   chain-path parent zero v i = begins i
   chain-path parent (suc k) v l = goes (chain-path parent k (getD parent v 0) (l .1)) (l .0)
 
+  -- so that the search finds what a chain leads to; nothing rests on it
   pub path-reach : {vs : List ℕ} {v : ℕ} → Path starts next vs v → Reach starts next v
   path-reach (begins i) = here i
   path-reach (goes p i) = on (path-reach p) i

@@ -5,11 +5,11 @@ use mathlib.Core.Path.{_≡_, refl, sym, ap, ap₂, _∙_}
 use mathlib.Core.Bool.{Bool, true, false, cond}
 use mathlib.Core.List.{List, [], _∷_, map}
 use native.Mathlib.Omega.{arith}
-use lib.ListN.{length, length-map}
 use Rattle.search.specs.Search.{zeros}
 use Rattle.flow.specs.Graph.{Graph, nodeCount, graph}
-use Rattle.flow.specs.Locals.{onlyIf, localAt, Declaration, declaration}
-use Rattle.flow.specs.Findings.{Use, usesOf, allFound, liveAfterWrites, firstEmptyRead, firstUnassignedUse, ofUse, unassignedOf, wordsOf}
+use Rattle.flow.specs.Locals.{localAt, Declaration, declaration}
+use Rattle.flow.specs.Findings.{Use, usesOf, allFound, liveAfterWrites, firstEmptyRead, firstUnassignedUse, unassignedOf}
+use Rattle.flow.specs.Judge.{wordsOf}
 use Rattle.flow.proofs.OwnUses.{Renumbers, nodes-live, renumbered-live, renumbered-first}
 use Rattle.use_words.specs.Words.{usesIn, spanless}
 use Rattle.live_steps.specs.Walk.{chart}
@@ -29,22 +29,6 @@ keeps = record { kinds = λ u. refl; closures = λ u. refl; nodes = λ u. refl }
 code-kept : (us : List Use) → codeOf (map spanless us) ≡ codeOf us
 code-kept [] = refl
 code-kept (u ∷ us) = refl
-
--- ---- how many there are
-
-pub unassigned-few : (S U : List ℕ) (ℓ : ℕ) → length (wordsOf (unassignedOf S U ℓ)) ≤ 1
-unfolding unassignedOf firstUnassignedUse
-unassigned-few S U ℓ = go (isDue (localAt S ℓ) (allFound us)) (firstEmptyRead live [] us) (first-few live [] us)
-  where
-    us : List Use
-    us = usesOf S U ℓ
-
-    live : List ℕ
-    live = liveAfterWrites (graph S) (declaration (graph S) ℓ) us
-
-    go : (b : Bool) (l : List Use) → length l ≤ 1 → length (wordsOf (map (ofUse 0 ℓ) (onlyIf b l))) ≤ 1
-    go true l h = omega (arith, length-map (map (ofUse 0 ℓ) l) (λ f. f .word), length-map l (ofUse 0 ℓ))
-    go false l h = omega arith
 
 -- "at most the node count"
 pub figure-few : (S U : List ℕ) (ℓ : ℕ) → markFigure S U ℓ ≤ nodeCount (graph S)

@@ -1,20 +1,21 @@
 -- The pass, local by local: the findings of the locals below ℓ are listed, and their mark figures written.
 -- Assumes nothing.
-use Prim.Native.Nat.{ℕ, zero, suc, _+_, _<_, _≤_}
+use Prim.Native.Nat.{ℕ, suc, _+_, _<_, _≤_}
 use mathlib.Core.Path.{_≡_, refl, sym, ap, _∙_}
 use mathlib.Core.List.{List, _++_, map-append}
 use native.Mathlib.Omega.{arith}
 use native.Mathlib.Numerals.{add-one}
 use native.Mathlib.Decide.{ℕ-discrete}
-use lib.ListN.{length, set, drop, length-set, length-append}
+use lib.ListN.{length, set, drop, length-set, length-map}
 use lib.Seq.{getD-set-same, getD-set-other, drop-set-lt, drop-drop}
-use Rattle.flow.specs.Findings.{unassignedOf, ofEach, wordsOf}
+use Rattle.flow.specs.Findings.{unassignedOf, ofEach}
+use Rattle.flow.specs.Judge.{wordsOf}
+use Rattle.flow.proofs.Few.{all-unassigned-few}
 use Rattle.live_walk.specs.Walk.{Ready}
 use Rattle.locals.specs.Entries.{Room, Added}
 use Rattle.locals.proofs.Entries.{added-none, added-more, added-long}
 use Rattle.unassigned.specs.Words.{markFigure}
 use Rattle.unassigned.specs.Pass.{Figures}
-use Rattle.unassigned.proofs.Locals.{unassigned-few}
 
 -- marks and stack are ready for the next local, whatever the sheets
 pub record Going (n names : ℕ) (visited₀ stack₀ visited stack : List ℕ) (ℓ : ℕ) : Type 0 where
@@ -57,9 +58,7 @@ module _ (S U : List ℕ) where
   words-next ℓ = map-append (λ f. f .word) (ofEach (unassignedOf S U) ℓ) (unassignedOf S U ℓ)
 
   words-few : (ℓ : ℕ) → length (words ℓ) ≤ ℓ
-  unfolding ofEach
-  words-few zero = omega arith
-  words-few (suc ℓ) = omega (arith, ap length (words-next ℓ), length-append (words ℓ) (wordsOf (unassignedOf S U ℓ)), words-few ℓ, unassigned-few S U ℓ)
+  words-few ℓ = omega (arith, length-map (ofEach (unassignedOf S U) ℓ) (λ f. f .word), all-unassigned-few S U ℓ)
 
   -- the locals below ℓ are listed, with `count` findings
   pub record Listing (ℓ : ℕ) (words₀ mark₀ words mark : List ℕ) (count : ℕ) : Type 0 where

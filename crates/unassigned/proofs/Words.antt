@@ -11,7 +11,8 @@ use Rattle.search.specs.Stamps.{Stamped}
 use Rattle.search.proofs.Stamps.{fresh-stamped, stamped-fresh}
 use Rattle.flow.specs.Graph.{Graph}
 use Rattle.flow.specs.Locals.{Declaration, onlyIf, findingWord}
-use Rattle.flow.specs.Findings.{Use, node, isWrite, liveAfterWrites, isEmptyRead, firstEmptyRead, ofUse, wordsOf}
+use Rattle.flow.specs.Findings.{Use, node, isWrite, liveAfterWrites, isEmptyRead, firstEmptyRead, ofUse}
+use Rattle.flow.specs.Judge.{wordsOf}
 use Rattle.use_words.specs.Words.{useOf, usesIn}
 use Rattle.live_walk.specs.Walk.{Ready}
 use Rattle.empty_read.specs.FirstRead.{codeOf}

@@ -6,7 +6,8 @@ use mathlib.Core.List.{List}
 use denote.Ref.{RefT, now}
 use lib.ListN.{length, getD, drop}
 use Rattle.search.specs.Lent.{Column, held, left}
-use Rattle.flow.specs.Findings.{usesOf, unassignedOf, ofEach, wordsOf}
+use Rattle.flow.specs.Findings.{usesOf, unassignedOf, ofEach}
+use Rattle.flow.specs.Judge.{wordsOf}
 use Rattle.locals.specs.Columns.{Pass}
 use Rattle.locals.specs.Entries.{Adds}
 use Rattle.unassigned.specs.Words.{markFigure}

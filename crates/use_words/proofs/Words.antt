@@ -45,13 +45,13 @@ module _ (number place local kind : ℕ) (closure : Bool) (h : number < 65536) (
   pub local-told : localIn w ≡ local
   local-told = ap (λ (x : ℕ). x % 65536) above-node ∙ low-field local 65536 (kind + 4 * cond closure 1 0) l
 
-  pub use-told : useOf w ≡ record { number = number; span = 0; kind = kind; inClosure = closure; place = At place }
+  pub use-told : useOf w ≡ record { number = number; span = 0; kind = kind; inClosure = closure; found = At place }
   unfolding useOf
   use-told =
       let n : numberIn w ≡ number = omega arith in
       let p : nodeIn w ≡ place = ap (λ (x : ℕ). x % 65536) above-number ∙ low-field place 65536 (local + 65536 * (kind + 4 * cond closure 1 0)) j in
       let t : kindIn w ≡ kind = ap (λ (x : ℕ). x % 4) above-local ∙ low-field kind 4 (cond closure 1 0) k in
-      λ i. record { number = n i; span = 0; kind = t i; inClosure = closure-told i; place = At (p i) }
+      λ i. record { number = n i; span = 0; kind = t i; inClosure = closure-told i; found = At (p i) }
 
 -- ---- what a use tells of its word
 

@@ -25,14 +25,14 @@ closureIn w = eqb (w / 1125899906842624) 1
 
 -- the use that a word stands for. Its span is left out: nothing goes by it.
 unfoldable pub useOf : ℕ → Use
-useOf w = record { number = numberIn w; span = 0; kind = kindIn w; inClosure = closureIn w; place = At (nodeIn w) }
+useOf w = record { number = numberIn w; span = 0; kind = kindIn w; inClosure = closureIn w; found = At (nodeIn w) }
 
 abbrev pub usesIn : List ℕ → List Use
 usesIn ws = map useOf ws
 
 -- a use of 01's without its span, at node 0 where it finds none
 abbrev pub spanless : Use → Use
-spanless u = record { number = u .number; span = 0; kind = u .kind; inClosure = u .inClosure; place = At (node u) }
+spanless u = record { number = u .number; span = 0; kind = u .kind; inClosure = u .inClosure; found = At (node u) }
 
 -- each use's node is below n
 abbrev pub AllPlaced : ℕ → List ℕ → Type 0

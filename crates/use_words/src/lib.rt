@@ -28,7 +28,7 @@ const WRITE: u64 = 1;
 // The use with this number, at this node, whose word in the use sheet is `word`.
 pub fn pack(number: usize, node: usize, word: u64, captured: bool) -> u64
     requires { ⌜ (number < 65536) × (node < 65536) ⌝ }
-    ensures { λ r. ⌜ useOf r ≡ record { number = number; span = 0; kind = useKindOf word; inClosure = captured && eqb (crossingOf word) 1; place = At node } ⌝ }
+    ensures { λ r. ⌜ useOf r ≡ record { number = number; span = 0; kind = useKindOf word; inClosure = captured && eqb (crossingOf word) 1; found = At node } ⌝ }
     ensures { λ r. ⌜ localIn r ≡ localOf word ⌝ }
 {
     let local = word % USE_KIND;

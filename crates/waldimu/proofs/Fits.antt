@@ -15,7 +15,8 @@ use Rattle.flow.specs.Refusals.{one, number, sheetVerdict, pairVerdict}
 use Rattle.flow.specs.Answers.{told, tells, foundValues, countValues}
 use Rattle.flow.specs.Graph.{nodeCount, graph}
 use Rattle.flow.specs.Reachable.{nodeAt, canRun, run, countsOf, chart}
-use Rattle.flow.specs.Findings.{findings, judge}
+use Rattle.flow.specs.Findings.{findings}
+use Rattle.flow.specs.Judge.{judge}
 use Rattle.flow.proofs.NodeCount.{graph-count}
 use Rattle.flow.proofs.CodeNodes.{code-node}
 use Rattle.flow.proofs.Admission.{admitted, of-sheet, of-pair}

@@ -7,7 +7,7 @@ use Rattle.flow.specs.declared.ChartAnswer.{ChartAnswer}
 use Rattle.flow.specs.declared.RunAnswer.{RunAnswer}
 use Rattle.flow.specs.declared.JudgeAnswer.{JudgeAnswer}
 use Rattle.flow.specs.Reachable.{run, chart}
-use Rattle.flow.specs.Findings.{judge}
+use Rattle.flow.specs.Judge.{judge}
 use Rattle.flow.specs.Labels.{labelCheck}
 use Rattle.chart.specs.Lent.{Lent, chartShort}
 use Rattle.calls.specs.Promises.{ChartPromise}

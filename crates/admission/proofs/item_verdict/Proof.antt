@@ -10,7 +10,7 @@ use borrow.Author.Tests.{not-false}
 use denote.Ref.{now}
 use Rattle.search.proofs.Bools.{and-both}
 use Rattle.flow.specs.declared.Refusal.the-variants.{TooDeep, BadNesting, OffTheLine, BadName}
-use Rattle.flow.specs.Refusals.{outnumbered, pairsUp, sideBySide, inLine, held, namesFit, badItem, tooDeep, badNesting, offTheLine, badName, Test, firstApplying, itemTests}
+use Rattle.flow.specs.Refusals.{outnumbered, pairsUp, sideBySide, inOrder, insideScopes, namesFit, badItem, tooDeep, badNesting, offTheLine, badName, Test, firstApplying, itemTests}
 use Rattle.flow.specs.Sheet.{Item, all, zip, items, outerEnd}
 use Rattle.flow.specs.Kinds.{itemFits}
 use Rattle.admission.proofs.Parts.{long-enough, on-items}
@@ -88,7 +88,7 @@ parts-6 c = parts-5 (c .before .before)
 
 line-is : (c : tie.After-off-the-line) → offTheLine (sheet (parts-6 c)) ≡ c .off-the-line .result
 unfolding offTheLine
-line-is c = says (parts-6 c) (λ (is : List Item). not (inLine 0 is && held (outerEnd (sheet (parts-6 c)) ∷ []) is)) (c .off-the-line .ensures)
+line-is c = says (parts-6 c) (λ (is : List Item). not (inOrder 0 is && insideScopes (outerEnd (sheet (parts-6 c)) ∷ []) is)) (c .off-the-line .ensures)
 
 behind-6 : (c : tie.Else4) → firstApplying (itemTests (sheet (parts-6 (c .before)))) ≡ firstApplying (from-7 (sheet (parts-6 (c .before))))
 behind-6 c = behind-5 (c .before .before) ∙ passes-first _ _ (line-is (c .before) ∙ c .if4 .left)

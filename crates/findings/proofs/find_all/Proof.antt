@@ -4,7 +4,8 @@ use native.Mathlib.Omega.{arith}
 use denote.Ref.{now}
 use lib.ListN.{length, length-map}
 use Rattle.flow.specs.Locals.{locals}
-use Rattle.flow.specs.Findings.{findings, wordsOf}
+use Rattle.flow.specs.Findings.{findings}
+use Rattle.flow.specs.Judge.{wordsOf}
 use Rattle.locals.specs.Entries.{Added}
 use Rattle.unassigned.specs.Pass.{Figures}
 use Rattle.local_flow.specs.Sheets.{Sheets}

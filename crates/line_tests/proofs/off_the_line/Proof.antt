@@ -8,7 +8,7 @@ use native.Mathlib.Omega.{arith}
 use lib.ListN.{length, getD}
 use borrow.Author.Tests.{not-true, not-false}
 use denote.Ref.{now}
-use Rattle.flow.specs.Refusals.{inLine, held}
+use Rattle.flow.specs.Refusals.{inOrder, insideScopes}
 use Rattle.flow.specs.Sheet.{Item, endOf}
 use Rattle.nesting_tests.specs.Stack.{stackOf}
 use Rattle.line_tests.specs.Turn.{Scopes, Room}
@@ -119,7 +119,7 @@ loop-again c =
     )
 
 returns-2 : tie.Need-returns-2 Inv-loop μ-loop
-unfolding inLine held
+unfolding inOrder insideScopes
 returns-2 c = ap not (sym (ends (c .before .loop .inv .3) (c .loop-test .left)))
 
 pub off-the-line-spec : {M : Type 1} → statement M

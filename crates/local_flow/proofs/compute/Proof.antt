@@ -7,7 +7,8 @@ use lib.ListN.{length, length-replicate}
 use denote.Ref.{now}
 use borrow.Author.Tests.{not-true}
 use Rattle.flow.specs.Locals.{locals}
-use Rattle.flow.specs.Findings.{findings, wordsOf}
+use Rattle.flow.specs.Findings.{findings}
+use Rattle.flow.specs.Judge.{wordsOf}
 use Rattle.locals.specs.Entries.{Added}
 use Rattle.unassigned.specs.Pass.{Figures}
 use Rattle.local_flow.specs.Sheets.{Sheets, Given}

@@ -11,7 +11,7 @@ at-requires : tie.Need-at-requires
 at-requires c κs = search needs
 
 returns : tie.Need-returns
-returns c = λ spans o l f. ap At (c .at .ensures) ∙ first-at (c .before .before .before .args .codes) spans (c .before .before .before .args .code-node .now) o (c .before .before .before .args .index) l f (c .before .if1 .taken)
+returns c = λ spans o l f. ap At (c .at .ensures) ∙ first-at (c .before .before .before .args .codes) spans (c .before .before .before .args .code-node .now) o (c .before .before .before .args .index) l f (c .before .before .before .pre) (c .before .if1 .taken)
 
 returns-2 : tie.Need-returns-2
 returns-2 c = λ spans o l f. first-none (c .before .before .args .codes) spans (c .before .before .args .code-node .now) o (c .before .before .args .index) l f (c .if1 .left)

@@ -6,7 +6,8 @@ use mathlib.Core.List.{List}
 use native.Mathlib.Omega.{arith}
 use denote.Ref.{now}
 use lib.ListN.{length, getD}
-use Rattle.flow.specs.Findings.{overwrittenOf, ofEach, wordsOf}
+use Rattle.flow.specs.Findings.{overwrittenOf, ofEach}
+use Rattle.flow.specs.Judge.{wordsOf}
 use Rattle.locals.specs.Columns.{Pass, usesByNode}
 use Rattle.locals.specs.Entries.{Added}
 use Rattle.overwritten.proofs.Locals.{Done, done-none, room-here, done-turn}

@@ -40,7 +40,7 @@ abbrev due : tie.Start → ℕ
 due c = let a = c .args in packed (a .number) (a .node) (localOf (a .word)) (useKindOf (a .word)) (a .captured && eqb (crossingOf (a .word)) 1)
 
 abbrev Tells : tie.Start → ℕ → Type 0
-Tells c w = let a = c .args in (useOf w ≡ record { number = a .number; span = 0; kind = useKindOf (a .word); inClosure = a .captured && eqb (crossingOf (a .word)) 1; place = At (a .node) }) × (localIn w ≡ localOf (a .word))
+Tells c w = let a = c .args in (useOf w ≡ record { number = a .number; span = 0; kind = useKindOf (a .word); inClosure = a .captured && eqb (crossingOf (a .word)) 1; found = At (a .node) }) × (localIn w ≡ localOf (a .word))
 
 packs : (c : tie.Start) {w : ℕ} → w ≡ due c → Tells c w
 packs c e =
