@@ -68,14 +68,14 @@ module _ {S U : List ℕ} {n names : ℕ} {first second start nameNode nameEnd f
     -- a walk over the columns marks the nodes of the graph
     walk-live : liveAfterWrites columns d (usesIn (partAt ℓ starts byLocal)) ≡ liveAfterWrites (graph S) d own
     walk-live =
-        ap (liveAfterWrites columns d) (p .parts .holds ℓ h)
+        ap (liveAfterWrites columns d) (p .table .parts .holds ℓ h)
         ∙ renumbered-live keeps columns d own
         ∙ nodes-live columns (graph S) (charted-nodes (p .charted .charts)) d own
 
     -- and finds the same use
     walk-first : codeOf (firstEmpty columns d (usesIn (partAt ℓ starts byLocal))) ≡ codeOf (firstEmpty (graph S) d own)
     walk-first =
-        ap₂ (λ (live : List ℕ) (us : List Use). codeOf (firstEmptyRead live [] us)) walk-live (p .parts .holds ℓ h)
+        ap₂ (λ (live : List ℕ) (us : List Use). codeOf (firstEmptyRead live [] us)) walk-live (p .table .parts .holds ℓ h)
         ∙ ap codeOf (renumbered-first keeps (liveAfterWrites (graph S) d own) [] own)
         ∙ code-kept (firstEmpty (graph S) d own)
 
