@@ -13,8 +13,8 @@ use lib.ListN.{length, getD, set, take, drop, length-map, drop-of-length-le}
 use lib.Seq.{getD-take, drop-cons, drop-drop, take-suc-set, drop-set-lt, length-take-le}
 use Rattle.flow.specs.Sheet.{kindOf, argumentOf, kindWords, spanWords, zip}
 use Rattle.flow.specs.Kinds.{kinds}
-use Rattle.flow.specs.Locals.{Local, noLocal, onlyIf, captured, noValue, writesJudged, tracked, localsFrom, locals}
-use Rattle.facts.specs.Facts.{factsOf, factsWith, valuesAfter, beforeAfter, nameHere, localsIn, Stored, Known, None}
+use Rattle.flow.specs.Locals.{Local, noLocal, onlyIf, captured, noValue, writesJudged, tracked, localsFrom, locals, localAt}
+use Rattle.facts.specs.Facts.{factsOf, factsWith, valuesAfter, beforeAfter, nameHere, localsIn, Stored, FactsOf, None}
 open record kinds using (NAME)
 
 -- ---- the flags, the value and the uses
@@ -216,7 +216,7 @@ module _ (S : List ℕ) (same : length (spanWords S) ≡ length (kindWords S)) {
   pub names-counted : length (locals S) ≡ names
   names-counted = omega (arith, s .count, ap length all-names)
 
-  pub names-known : Known S names facts
+  pub names-known : FactsOf (localAt S) names facts
   names-known ℓ h =
       sym (getD-take names facts ℓ 0 h)
       ∙ ap (λ (l : List ℕ). getD l ℓ 0) (s .cells ∙ ap (map factsOf) (sym all-names))

@@ -8,7 +8,7 @@ use lib.Dec.{eqb}
 use lib.ListN.{length, getD, take, drop}
 use Rattle.flow.specs.Sheet.{kindOf, argumentOf}
 use Rattle.flow.specs.Kinds.{kinds}
-use Rattle.flow.specs.Locals.{Local, onlyIf, noValue, writesJudged, localAt, tracked}
+use Rattle.flow.specs.Locals.{Local, onlyIf, noValue, writesJudged, tracked}
 open record kinds using (LOCAL, NAME)
 
 -- "argument 0 to 7: 1 begins with underscore, 2 modified, 4 captured", and 8 where it has no value
@@ -49,9 +49,9 @@ pub record Stored (ls : List Local) (k : ℕ) (old new : List ℕ) (r : ℕ) : T
   pub cells : take r new ≡ take k old ++ map factsOf ls
   pub rest : drop r new ≡ drop r old
 
--- the first cells are the facts of the names of a sheet
-abbrev pub Known : List ℕ → ℕ → List ℕ → Type 0
-Known S names facts = (ℓ : ℕ) → ℓ < names → getD facts ℓ 0 ≡ factsOf (localAt S ℓ)
+-- the first cells are the facts of the locals that l gives
+abbrev pub FactsOf : (ℕ → Local) → ℕ → List ℕ → Type 0
+FactsOf l names facts = (ℓ : ℕ) → ℓ < names → getD facts ℓ 0 ≡ factsOf (l ℓ)
 
 -- none of the first k locals passes a test
 abbrev pub None : (Local → Bool → Bool) → ℕ → List ℕ → Type 0

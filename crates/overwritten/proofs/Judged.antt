@@ -11,9 +11,10 @@ use Rattle.flow.specs.Locals.{Local, Finding, onlyIf, underscore, noValue, writ
 use Rattle.flow.specs.Findings.{Use, Ahead, allFound, usesOf, ahead, isOverwrittenUnread, overwrittenBelow, initialOverwritten, writesOverwritten, ofInitial, ofUse, overwrittenOf, ofEach, wordsOf}
 use Rattle.flow.proofs.OwnUses.{renumbered-ahead, nodes-ahead, nodes-unread, nodes-below}
 use Rattle.use_words.specs.Words.{spanless, usesIn}
+use Rattle.use_words.proofs.Words.{spanless-renumbers}
 use Rattle.live_steps.specs.Walk.{chart}
 use Rattle.uses_by_node.specs.Uses.{byNode, Rising, overwrittenIn}
-use Rattle.uses_by_node.proofs.ByNode.{words-rise, spanless-renumbers, ahead-by, over-spanless, overwritten-by}
+use Rattle.uses_by_node.proofs.ByNode.{words-rise, ahead-by, over-spanless, overwritten-by}
 use Rattle.facts.specs.Facts.{isJudged, None}
 use Rattle.locals.specs.Columns.{Pass, usesByNode, partAt}
 use Rattle.locals.proofs.Columns.{charted-nodes}

@@ -11,7 +11,8 @@ use lib.ListN.{length, getD, drop, length-drop}
 use lib.Seq.{drop-cons, getD-drop}
 use Rattle.flow.specs.declared.Found.the-variants.{At}
 use Rattle.flow.specs.Findings.{Use, node}
-use Rattle.use_words.specs.Words.{numberIn, nodeIn, localIn, kindIn, closureIn, useOf, usesIn, AllPlaced}
+use Rattle.flow.proofs.OwnUses.{Renumbers}
+use Rattle.use_words.specs.Words.{numberIn, nodeIn, localIn, kindIn, closureIn, useOf, usesIn, spanless, AllPlaced}
 
 -- ---- a word
 
@@ -58,6 +59,10 @@ module _ (number place local kind : ℕ) (closure : Bool) (h : number < 65536) (
 pub node-is : (w : ℕ) → node (useOf w) ≡ nodeIn w
 unfolding useOf
 node-is w = refl
+
+-- spans are of no account
+pub spanless-renumbers : Renumbers spanless
+spanless-renumbers = record { kinds = λ u. refl; closures = λ u. refl; nodes = λ u. refl }
 
 -- ---- a column of words
 

@@ -18,9 +18,10 @@ use Rattle.flow.specs.Locals.{onlyIf, Declaration}
 use Rattle.flow.specs.Findings.{Use, node, isRead, isWrite, isAliveAt, Meeting, noUse, aRead, aPureWrite, meeting, firstAt, isNoUse, isARead, isAPureWrite, range, meetsHere, predecessors, meets, orElse, Ahead, ahead, isOverwritten, isOverwrittenUnread, overwrittenAt, overwrittenBelow}
 use Rattle.flow.proofs.Laws.{mem-append}
 use Rattle.flow.proofs.Members.{in-range}
-use Rattle.flow.proofs.OwnUses.{Renumbers, renumbered-overwritten}
+use Rattle.flow.proofs.OwnUses.{renumbered-overwritten}
 use Rattle.flow.proofs.Order.{Rising as RisingBy, nil, cons, rising-append, rising-at}
 use Rattle.use_words.specs.Words.{nodeIn, useOf, usesIn, spanless}
+use Rattle.use_words.proofs.Words.{spanless-renumbers}
 use Rattle.uses_by_node.specs.Uses.{usesAt, byNode, Rising, overwrittenIn}
 
 -- ---- lists joined
@@ -197,9 +198,6 @@ module _ (g : Graph) (a : Ahead) where
       ∙ ap₂ _++_ (overwritten-by n us) (over-own n us)
 
 -- ---- spans are of no account
-
-pub spanless-renumbers : Renumbers spanless
-spanless-renumbers = record { kinds = λ u. refl; closures = λ u. refl; nodes = λ u. refl }
 
 module _ (g : Graph) (a : Ahead) where
   only-spanless : (b : Bool) (u : Use) → onlyIf b (spanless u ∷ []) ≡ map spanless (onlyIf b (u ∷ []))
