@@ -3,14 +3,14 @@
 use Prim.Native.Nat.{ℕ, _+_, _*_, _/_, _%_, _<_}
 use mathlib.Core.Path.{_≡_, refl, ap, _∙_}
 use mathlib.Core.Bool.{Bool, true, false, cond}
-use mathlib.Core.List.{List, [], _∷_}
+use mathlib.Core.List.{List, _∷_}
 use native.Mathlib.Omega.{arith}
 use native.Mathlib.Nat.{add-mul-mod-self-left, mod-eq-of-lt}
 use native.Mathlib.Numerals.{add-one}
 use lib.ListN.{length, getD, drop, length-drop}
 use lib.Seq.{drop-cons, getD-drop}
 use Rattle.flow.specs.declared.Found.the-variants.{At}
-use Rattle.flow.specs.Findings.{Use, node}
+use Rattle.flow.specs.Findings.{node}
 use Rattle.flow.proofs.OwnUses.{Renumbers}
 use Rattle.use_words.specs.Words.{numberIn, nodeIn, localIn, kindIn, closureIn, useOf, usesIn, spanless, AllPlaced}
 
