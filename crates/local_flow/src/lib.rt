@@ -7,7 +7,7 @@ ghost use Rattle.locals.specs.Entries.{Room};
 ghost use Rattle.local_flow.specs.Sheets.{AnySheets, Finds, AnyGiven, FindsGiven};
 use both_lists::list_findings;
 use facts::any_tracked;
-use facts::find_names;
+use name_facts::find_names;
 use search::clear;
 use tables::make_tables;
 
