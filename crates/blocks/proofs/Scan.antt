@@ -10,6 +10,7 @@ use native.Mathlib.Decide.{ℕ-discrete}
 use lib.ListN.{length, getD, length-append}
 use lib.Dec.{eqb, leb, eqb·suc-zero}
 use borrow.Author.Tests.{ne-eqb, eq-eqb, le-leb, lt-leb, eqb-true, leb-true}
+use Rattle.search.proofs.Bools.{and-both}
 use Rattle.flow.specs.Sheet.{Item, kind, kindOf, argumentOf}
 use Rattle.flow.specs.Kinds.{kinds, closes, opens}
 use Rattle.flow.specs.Tree.{Stmt, Arms, Frame, Open, simple, do-block, while-loop, repeat-loop, for-loop, if-stmt, no-more, elseif, otherwise, nothingRead, outer, inFront, opened, read, labelName, labelsOf}
@@ -132,11 +133,7 @@ scan-on i o d h = scan-by i o (kind i) refl d h
 
 pub ends : (k : ℕ) → endsAt k 0 ≡ true → Ender k
 unfolding endsAt
-ends k e = let p = both (leb 6 k) (leb k 9) e in record { least = leb-true 6 k (p .0); most = leb-true k 9 (p .1) }
-  where
-    both : (a b : Bool) → (a && b) ≡ true → (a ≡ true) × (b ≡ true)
-    both true b q = (refl, q)
-    both false b q = absurd (false≢true q)
+ends k e = let p = and-both (leb 6 k) (leb k 9) e in record { least = leb-true 6 k (p .0); most = leb-true k 9 (p .1) }
 
 pub ends-not : (k : ℕ) → endsAt k 0 ≡ false → Ender k → ⊥
 unfolding endsAt

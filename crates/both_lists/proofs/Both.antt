@@ -5,6 +5,7 @@ use mathlib.Core.Path.{_≡_, sym, ap, _∙_}
 use mathlib.Core.List.{List, _++_, map-append}
 use native.Mathlib.Omega.{arith}
 use lib.ListN.{length}
+use Rattle.search.proofs.Stamps.{unmarked-on}
 use Rattle.flow.specs.Locals.{Finding, locals}
 use Rattle.flow.specs.Findings.{usesOf, unassignedOf, overwrittenOf, ofEach, findings}
 use Rattle.flow.specs.Judge.{wordsOf}
@@ -18,14 +19,14 @@ use Rattle.both_lists.specs.Passes.{Pair}
 pub lent-on : {n : ℕ} {chain used reads writes stack stack′ : List ℕ} → Lent n chain used reads writes stack → length stack′ ≡ length stack → Lent n chain used reads writes stack′
 lent-on l e =
     let u = l .unmarked in
-    record { blank = l .blank; unmarked = record { used-holds = u .used-holds; reads-hold = u .reads-hold; writes-hold = u .writes-hold; stack-holds = omega (arith, u .stack-holds, e); used-new = u .used-new; reads-new = u .reads-new; writes-new = u .writes-new } }
+    record { blank = l .blank; unmarked = record { used-new = unmarked-on (u .used-new) e; reads-new = unmarked-on (u .reads-new) e; writes-new = unmarked-on (u .writes-new) e } }
 
 module _ {S U : List ℕ} {n names : ℕ} {first second start nameNode nameEnd facts starts byLocal byNode : List ℕ} (p : Pair S U n names first second start nameNode nameEnd facts starts byLocal byNode) where
   pub in-use-order : Pass (usesOf S U) S U n names first second start nameNode nameEnd facts starts byLocal
-  in-use-order = record { charted = p .charted; named = p .named; known = p .tables .known; parts = p .tables .in-use-order }
+  in-use-order = record { charted = p .charted; named = p .named; table = p .tables .in-use-order }
 
   pub in-node-order : Pass (usesByNode S U n) S U n names first second start nameNode nameEnd facts starts byNode
-  in-node-order = record { charted = p .charted; named = p .named; known = p .tables .known; parts = p .tables .in-node-order }
+  in-node-order = record { charted = p .charted; named = p .named; table = p .tables .in-node-order }
 
 -- what both list, one after the other
 module _ (S U : List ℕ) {names : ℕ} (e : length (locals S) ≡ names) where

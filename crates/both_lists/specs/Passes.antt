@@ -4,9 +4,9 @@ use Prim.Native.Nat.{ℕ}
 use mathlib.Core.List.{List}
 use denote.Ref.{RefT, now}
 use Rattle.search.specs.Lent.{Column, held, left}
+use Rattle.search.specs.Stamps.{Unmarked}
 use Rattle.flow.specs.Findings.{findings}
 use Rattle.flow.specs.Judge.{wordsOf}
-use Rattle.live_walk.specs.Walk.{Ready}
 use Rattle.locals.specs.Columns.{Charted, Named, Tables}
 use Rattle.locals.specs.Entries.{Adds}
 use Rattle.unassigned.specs.Pass.{Figures}
@@ -31,5 +31,5 @@ Finds n names first second start nameNode nameEnd facts starts byLocal byNode fi
 
 -- memory for the walks in a graph of n nodes: there is room in it, and its marks are 0
 pub record Walks (n : ℕ) (visited stack chain used reads writes : List ℕ) : Type 0 where
-  pub ready : Ready 1 n visited stack
+  pub unmarked : Unmarked 1 n visited stack
   pub lent : Lent n chain used reads writes stack

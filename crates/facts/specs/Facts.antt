@@ -3,13 +3,9 @@
 use Prim.Native.Nat.{ℕ, _+_, _*_, _%_, _<_}
 use mathlib.Core.Path.{_≡_}
 use mathlib.Core.Bool.{Bool, false, cond, _&&_}
-use mathlib.Core.List.{List, [], _∷_, _++_, map}
-use lib.Dec.{eqb}
-use lib.ListN.{length, getD, take, drop}
-use Rattle.flow.specs.Sheet.{kindOf, argumentOf}
-use Rattle.flow.specs.Kinds.{kinds}
-use Rattle.flow.specs.Locals.{Local, onlyIf, noValue, writesJudged, localAt, tracked}
-open record kinds using (LOCAL, NAME)
+use mathlib.Core.List.{List}
+use lib.ListN.{getD}
+use Rattle.flow.specs.Locals.{Local, noValue, writesJudged, tracked}
 
 -- "argument 0 to 7: 1 begins with underscore, 2 modified, 4 captured", and 8 where it has no value
 unfoldable pub factsOf : Local → ℕ
@@ -27,31 +23,9 @@ isDue l found = tracked l && found && noValue l
 abbrev pub isJudged : Local → Bool → Bool
 isJudged l found = tracked l && found && writesJudged l
 
--- the values of the LOCAL that was met last, and the names of it that were met, after an item's word
-abbrev pub valuesAfter : ℕ → ℕ → ℕ
-valuesAfter w v = cond (eqb (kindOf w) LOCAL) (argumentOf w) v
-
-abbrev pub beforeAfter : ℕ → ℕ → ℕ
-beforeAfter w b = cond (eqb (kindOf w) NAME) (b + 1) 0
-
--- the name that an item is, as a list
-abbrev pub nameHere : ℕ → ℕ → ℕ → List Local
-nameHere w v b = onlyIf (eqb (kindOf w) NAME) (record { flags = argumentOf w; values = v; before = b } ∷ [])
-
--- the names of items, which their words tell
-unfoldable pub localsIn : ℕ → ℕ → List ℕ → List Local
-localsIn v b [] = []
-localsIn v b (w ∷ ws) = nameHere w v b ++ localsIn (valuesAfter w v) (beforeAfter w b) ws
-
--- the facts of ls in the cells from place k up to, not including, r, and the cells from r on as they were
-pub record Stored (ls : List Local) (k : ℕ) (old new : List ℕ) (r : ℕ) : Type 0 where
-  pub count : r ≡ k + length ls
-  pub cells : take r new ≡ take k old ++ map factsOf ls
-  pub rest : drop r new ≡ drop r old
-
--- the first cells are the facts of the names of a sheet
-abbrev pub Known : List ℕ → ℕ → List ℕ → Type 0
-Known S names facts = (ℓ : ℕ) → ℓ < names → getD facts ℓ 0 ≡ factsOf (localAt S ℓ)
+-- the first cells are the facts of the locals that l gives
+abbrev pub FactsOf : (ℕ → Local) → ℕ → List ℕ → Type 0
+FactsOf l names facts = (ℓ : ℕ) → ℓ < names → getD facts ℓ 0 ≡ factsOf (l ℓ)
 
 -- none of the first k locals passes a test
 abbrev pub None : (Local → Bool → Bool) → ℕ → List ℕ → Type 0

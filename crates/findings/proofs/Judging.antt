@@ -27,7 +27,7 @@ use Rattle.local_flow.specs.Sheets.{Sheets}
 use Rattle.chart.specs.Lent.{Columns, Lent, Charted}
 use Rattle.chart.proofs.Read.{Begins, nodes-are, names-are, first-read, second-read, start-read, spans-read, code-nodes-read, ends-rise, code-nodes-in, name-spans-read, name-nodes-read, name-ends-read, shown}
 use Rattle.findings.proofs.Spans.{words-known, spans-by-words}
-use Rattle.findings.specs.Accepted.{FindingsLent, Tables, FindingsWritten, Accepted}
+use Rattle.findings.specs.Accepted.{FindingsLent, Searchable, FindingsWritten, Accepted}
 
 module _ {S U : List ℕ} {r : Counts} {l : Lent} (v : sheetVerdict false S ≡ Admitted) (a : AdmittedSheet S) (u : AdmittedUses S U) (h : Charted S r l) where
   abbrev y : Columns
@@ -48,37 +48,36 @@ module _ {S U : List ℕ} {r : Counts} {l : Lent} (v : sheetVerdict false S ≡ 
   name-in : (ℓ : ℕ) → ℓ < length (locals S) → getD (y .names .node) ℓ 0 < r .nodes
   name-in ℓ q = rw (name-nodes .cell ℓ q, nodes-are a h) (name-node S v ℓ (omega (arith, a .nameNodes, a .allNames)))
 
-  pub sheets : Tables S U r (y .nodes .first) (y .nodes .second) (y .nodes .start) (y .codes .span) (y .codes .node) (y .names .span) (y .names .node) (y .names .scopeEnd)
+  pub sheets : Searchable S U r (y .nodes .first) (y .nodes .second) (y .nodes .start) (y .codes .span) (y .codes .node) (y .names .span) (y .names .node) (y .names .scopeEnd)
   sheets = (
     record {
       kinds-are = refl;
       beside = a .spans ∙ sym (a .kinds);
       few = omega (arith, a .kinds, a .few);
-      charted = record {
-        count = sym (nodes-are a h);
-        some = omega (arith, node-count S, nodes-are a h);
-        few = h .few;
-        charts = record { firsts = sym (first-read a h .cells); seconds = sym (second-read a h .cells); starts = sym (start-read a h .cells) };
-        long = record { firsts = first-read a h .long; seconds = second-read a h .long; starts = start-read a h .long };
-      };
-      code-spans = sym (spans-read a h .cells);
-      code-nodes = sym (code-nodes-read a h .cells);
-      code-table = record { spans-long = spans-read a h .long; nodes-long = code-nodes-read a h .long; rising = ends-rise a h; within = code-nodes-in a h };
-      named = record {
-        count = refl;
-        few = omega (arith, a .allNames, a .fewNames);
-        nodes = sym (name-nodes .cells);
-        nodes-long = name-nodes .long;
-        ends = sym (name-ends .cells);
-        ends-long = name-ends .long;
-        within = name-in;
-      };
-      words-are = refl;
-      spans-are = refl;
-      use-table = record {
-        few = omega (arith, u .uses, u .few);
-        same = u .spans ∙ sym (u .uses);
-        named = λ k q. omega (arith, u .known k (omega (arith, u .uses)), u .names);
+      columns = record {
+        charted = record {
+          count = sym (nodes-are a h);
+          some = omega (arith, node-count S, nodes-are a h);
+          few = h .few;
+          charts = record { firsts = sym (first-read a h .cells); seconds = sym (second-read a h .cells); starts = sym (start-read a h .cells) };
+          long = record { firsts = first-read a h .long; seconds = second-read a h .long; starts = start-read a h .long };
+        };
+        code-table = record { spans-long = spans-read a h .long; nodes-long = code-nodes-read a h .long; rising = ends-rise a h; within = code-nodes-in a h };
+        named = record {
+          count = refl;
+          few = omega (arith, a .allNames, a .fewNames);
+          nodes = sym (name-nodes .cells);
+          nodes-long = name-nodes .long;
+          ends = sym (name-ends .cells);
+          ends-long = name-ends .long;
+          within = name-in;
+        };
+        use-table = record {
+          few = omega (arith, u .uses, u .few);
+          same = u .spans ∙ sym (u .uses);
+          named = λ k q. omega (arith, u .known k (omega (arith, u .uses)), u .names);
+        };
+        sources = record { code-spans = sym (spans-read a h .cells); code-nodes = sym (code-nodes-read a h .cells); words-are = refl; spans-are = refl };
       };
     },
     sym (name-spans .cells),
@@ -88,7 +87,7 @@ module _ {S U : List ℕ} {r : Counts} {l : Lent} (v : sheetVerdict false S ≡ 
 -- ---- the parts as the code takes them
 
 pub in-parts : {S U : List ℕ} (c : Counts) (ns : List ℕ) {f s t cs cn nn ne ks ws ps : List ℕ} → ks ≡ kindWords S → ws ≡ useWords U → ps ≡ useSpans U
-    → Tables S U c f s t cs cn ns nn ne → Sheets S U (c .nodes) (c .codes) ks f s t cs cn nn ne ws ps
+    → Searchable S U c f s t cs cn ns nn ne → Sheets S U (c .nodes) (c .codes) ks f s t cs cn nn ne ws ps
 in-parts {S} {U} c ns {f} {s} {t} {cs} {cn} {nn} {ne} a b d q =
     subst₃ (λ (k w p : List ℕ). Sheets S U (c .nodes) (c .codes) k f s t cs cn nn ne w p) (sym a) (sym b) (sym d) (q .0)
 
@@ -101,7 +100,7 @@ all-few {S} {U} a u = findings-few S U (omega (arith, a .allNames, a .fewNames))
 pub from-first : {xs old new : List ℕ} {r : ℕ} → Added xs 0 old r new → new ≡ xs ++ drop r old
 from-first {xs} {old} d = d .entered ∙ ap (λ (k : ℕ). xs ++ drop k old) (sym (d .counted))
 
-module _ {S U : List ℕ} (a : AdmittedSheet S) (u : AdmittedUses S U) (c : Counts) (nameSpan : List ℕ) {first second start codeSpan codeNode nameNode nameEnd : List ℕ} (t : Tables S U c first second start codeSpan codeNode nameSpan nameNode nameEnd)
+module _ {S U : List ℕ} (a : AdmittedSheet S) (u : AdmittedUses S U) (c : Counts) (nameSpan : List ℕ) {first second start codeSpan codeNode nameNode nameEnd : List ℕ} (t : Searchable S U c first second start codeSpan codeNode nameSpan nameNode nameEnd)
     {r : ℕ} {words words′ : List ℕ} (d : Added (wordsOf (findings S U)) 0 words r words′) where
   all : r ≡ length (wordsOf (findings S U))
   all = omega (arith, d .counted)

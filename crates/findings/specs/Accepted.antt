@@ -32,9 +32,9 @@ findingsLent w s m = record { before = record { word = held w; span = held s; ma
 abbrev pub Long : FindingColumns → Type 0
 Long f = (3072 ≤ length (f .word)) × (3072 ≤ length (f .span)) × (1024 ≤ length (f .mark))
 
--- a chart's columns, as the search for findings in two sheets takes them
-abbrev pub Tables : List ℕ → List ℕ → Counts → List ℕ → List ℕ → List ℕ → List ℕ → List ℕ → List ℕ → List ℕ → List ℕ → Type 0
-Tables S U c first second start codeSpan codeNode nameSpan nameNode nameEnd =
+-- a chart's columns, as the search for findings in two sheets takes them, and the spans of names
+abbrev pub Searchable : List ℕ → List ℕ → Counts → List ℕ → List ℕ → List ℕ → List ℕ → List ℕ → List ℕ → List ℕ → List ℕ → Type 0
+Searchable S U c first second start codeSpan codeNode nameSpan nameNode nameEnd =
     Sheets S U (c .nodes) (c .codes) (kindWords S) first second start codeSpan codeNode nameNode nameEnd (useWords U) (useSpans U)
     × (graph S .names .span ≡ take (length (locals S)) nameSpan) × (length (locals S) ≤ length nameSpan)
 

@@ -6,7 +6,7 @@ ghost use Rattle.flow.specs.Refusals.{sheetVerdict};
 ghost use Rattle.flow.specs.Admitted.{AdmittedSheet, AdmittedUses};
 ghost use Rattle.search.specs.Lent.{held};
 ghost use Rattle.chart.specs.Lent.{columns, lent, Wide};
-ghost use Rattle.findings.specs.Accepted.{findingsLent, Long, Tables, FindingsWritten, Accepted};
+ghost use Rattle.findings.specs.Accepted.{findingsLent, Long, Searchable, FindingsWritten, Accepted};
 use flow::Counts;
 use flow::JudgeAnswer;
 
@@ -28,7 +28,7 @@ fn find_all(
     counts: Counts,
 ) -> usize
     requires { ⌜ AdmittedSheet (now sheet) × AdmittedUses (now sheet) (now uses) ⌝ }
-    requires { ⌜ Tables (now sheet) (now uses) counts (now first) (now second) (now start) (now «code_span») (now «code_node») (now «name_span») (now «name_node») (now «name_end») ⌝ }
+    requires { ⌜ Searchable (now sheet) (now uses) counts (now first) (now second) (now start) (now «code_span») (now «code_node») (now «name_span») (now «name_node») (now «name_end») ⌝ }
     requires { ⌜ Long (record { word = now «finding_word»; span = now «finding_span»; mark = now mark }) ⌝ }
     ensures { λ r. ⌜ FindingsWritten (held sheet) (held uses) r (findingsLent «finding_word» «finding_span» mark) ⌝ }
 {

@@ -1,12 +1,11 @@
--- The walk of a local from after its writes: what it asks of its columns, and what it leaves.
+-- The walk of a local from after its writes: where it begins, and what it leaves.
 -- Assumes nothing: these are definitions.
-use Prim.Native.Nat.{ℕ, _+_, _≤_}
+use Prim.Native.Nat.{ℕ, _+_}
 use mathlib.Core.Path.{_≡_}
 use mathlib.Core.List.{List}
-use lib.ListN.{length}
 use Rattle.search.specs.Lent.{Column, left}
 use Rattle.search.specs.Search.{zeros}
-use Rattle.search.specs.Stamps.{flagsOf, Fresh, Stamped}
+use Rattle.search.specs.Stamps.{flagsOf, Stamped}
 use Rattle.flow.specs.Graph.{Graph}
 use Rattle.flow.specs.Locals.{Declaration, onlyIf}
 use Rattle.flow.specs.Findings.{Use, node, isWrite, liveSuccessors, liveAfterWrites}
@@ -14,12 +13,6 @@ use Rattle.flow.specs.Findings.{Use, node, isWrite, liveSuccessors, liveAfterWr
 -- the nodes from after a use, if it is a write
 abbrev pub afterWrite : Graph → Declaration → Use → List ℕ
 afterWrite g d u = onlyIf (isWrite u) (liveSuccessors g d (node u))
-
--- marks and stack are ready for the walk of a stamp over n nodes
-pub record Ready (stamp n : ℕ) (visited stack : List ℕ) : Type 0 where
-  pub fresh : Fresh stamp visited
-  pub marks-hold : n ≤ length visited
-  pub stack-holds : n ≤ length stack
 
 -- a call marks the nodes that live paths from after the writes among us end at, and says how many they are
 pub record Walks (stamp n : ℕ) (g : Graph) (d : Declaration) (us : List Use) (r : ℕ) (visited : Column) : Type 0 where

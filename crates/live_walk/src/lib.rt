@@ -3,11 +3,11 @@ ghost use mathlib.Core.Path.{_≡_};
 ghost use Prim.Native.Nat.{_<_, _≤_};
 ghost use Rattle.search.specs.Lent.{held, left, stAt};
 ghost use Rattle.search.specs.Worklist.{st};
-ghost use Rattle.search.specs.Stamps.{Ready as RoomFor, stampAll};
+ghost use Rattle.search.specs.Stamps.{Ready, Unmarked, stampAll};
 ghost use Rattle.flow.specs.Findings.{afterWrites};
 ghost use Rattle.use_words.specs.Words.{nodeIn, useOf, usesIn, AllPlaced};
 ghost use Rattle.live_steps.specs.Walk.{Long, charted, declared};
-ghost use Rattle.live_walk.specs.Walk.{afterWrite, Ready, Walks};
+ghost use Rattle.live_walk.specs.Walk.{afterWrite, Walks};
 use live_steps::LocalDeclaration;
 use live_steps::expand;
 use search::cell;
@@ -27,7 +27,7 @@ fn expand_write(
     stamp: u16,
     word: u64,
 ) -> usize
-    requires { ⌜ RoomFor stamp n (st (now visited) (now stack) top) × (n ≤ 1600) ⌝ }
+    requires { ⌜ Ready stamp n (st (now visited) (now stack) top) × (n ≤ 1600) ⌝ }
     requires { ⌜ Long n (now first) (now second) (now start) × (nodeIn word < n) ⌝ }
     ensures { λ r. ⌜ stAt left visited stack r ≡ stampAll stamp (afterWrite (charted n first second start) (declared declaration) (useOf word)) (stAt held visited stack top) ⌝ }
 {
@@ -62,7 +62,7 @@ fn seed(
     declaration: LocalDeclaration,
     stamp: u16,
 ) -> usize
-    requires { ⌜ RoomFor stamp n (st (now visited) (now stack) 0) × (n ≤ 1600) ⌝ }
+    requires { ⌜ Ready stamp n (st (now visited) (now stack) 0) × (n ≤ 1600) ⌝ }
     requires { ⌜ Long n (now first) (now second) (now start) × AllPlaced n (now mine) ⌝ }
     ensures { λ r. ⌜ stAt left visited stack r ≡ stampAll stamp (afterWrites (charted n first second start) (declared declaration) (usesIn (held mine))) (stAt held visited stack 0) ⌝ }
 {
@@ -98,7 +98,7 @@ pub fn live_walk(
     declaration: LocalDeclaration,
     stamp: u16,
 ) -> usize
-    requires { ⌜ Ready stamp n (now visited) (now stack) × (n ≤ 1600) ⌝ }
+    requires { ⌜ Unmarked stamp n (now visited) (now stack) × (n ≤ 1600) ⌝ }
     requires { ⌜ Long n (now first) (now second) (now start) × AllPlaced n (now mine) ⌝ }
     ensures { λ r. ⌜ Walks stamp n (charted n first second start) (declared declaration) (usesIn (held mine)) r visited ⌝ }
 {

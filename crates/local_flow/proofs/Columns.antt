@@ -5,15 +5,15 @@ use mathlib.Core.Path.{_≡_, sym, ap, subst, _∙_}
 use mathlib.Core.Bool.{false, true}
 use mathlib.Core.List.{List, [], _++_}
 use native.Mathlib.Omega.{arith}
-use native.Mathlib.Decide.{decLt}
-use lib.ListN.{length, getD, drop, replicate, length-append, length-drop, length-replicate, getD-replicate, List·getD-append, List·getD-eq-default}
+use lib.ListN.{length, getD, drop, replicate, length-append, length-drop, length-replicate, List·getD-append}
 use lib.Seq.{drop-append-seam}
+use Rattle.search.proofs.Count.{zero-at}
+use Rattle.search.proofs.Stamps.{unmarked-zeros}
 use Rattle.flow.specs.Sheet.{kindWords}
 use Rattle.flow.specs.Locals.{locals, tracked, localAt}
 use Rattle.flow.specs.Findings.{firstUnassignedUse, initialOverwritten, writesOverwritten, unassignedOf, overwrittenOf, findings}
 use Rattle.flow.specs.Judge.{wordsOf}
-use Rattle.facts.specs.Facts.{localsIn, Known, Stored, None}
-use Rattle.facts.proofs.Facts.{names-counted, names-known}
+use Rattle.facts.specs.Facts.{localsIn, FactsOf, Stored, None}
 use Rattle.locals.specs.Columns.{Tables}
 use Rattle.locals.specs.Entries.{Added}
 use Rattle.locals.proofs.Entries.{added-none}
@@ -21,6 +21,7 @@ use Rattle.tables.specs.Tables.{Room}
 use Rattle.unassigned.specs.Words.{markFigure}
 use Rattle.unassigned.specs.Pass.{Figures}
 use Rattle.overwritten.proofs.Judged.{each-none}
+use Rattle.overwritten.proofs.Locals.{lent}
 use Rattle.both_lists.specs.Passes.{Pair, Walks}
 use Rattle.local_flow.specs.Sheets.{Sheets, Given}
 
@@ -35,34 +36,24 @@ module _ {S U : List ℕ} {n codes : ℕ} {kinds first second start codeSpan cod
   pub counted : length (locals S) ≡ names
   counted = names-counted S (p .beside) stored
 
-  pub known : Known S names facts
+  pub known : FactsOf (localAt S) names facts
   known = names-known S (p .beside) stored
 
   pub few-names : names ≤ 1024
-  few-names = omega (arith, counted, p .named .few)
+  few-names = omega (arith, counted, p .columns .named .few)
 
   pub given : names ≤ length facts → Given S U n codes names first second start codeSpan codeNode nameNode nameEnd words spans facts
-  given long = record {
-    charted = p .charted;
-    named = rw counted at (p .named);
-    code-table = p .code-table;
-    use-table = rw counted at (p .use-table);
-    facts-long = long;
-    sources = record { code-spans = p .code-spans; code-nodes = p .code-nodes; words-are = p .words-are; spans-are = p .spans-are; facts-are = known };
-  }
+  given long = record { columns = rw counted at (p .columns); facts-long = long; facts-are = known }
 
 -- what both passes ask, once the tables are made
 pub pair : {S U : List ℕ} {n codes names : ℕ} {first second start codeSpan codeNode nameNode nameEnd words spans facts₀ facts starts byLocal byNode : List ℕ}
     → Given S U n codes names first second start codeSpan codeNode nameNode nameEnd words spans facts₀ → Tables S U n names facts starts byLocal byNode → Pair S U n names first second start nameNode nameEnd facts starts byLocal byNode
-pair g t = record { charted = g .charted; named = g .named; tables = t }
+pair g t = record { charted = g .columns .charted; named = g .columns .named; tables = t }
 
 -- ---- the memory
 
 abbrev zeros : ℕ → List ℕ
 zeros k = replicate k 0
-
-zero-at : (k v : ℕ) → getD (zeros k) v 0 ≡ 0
-zero-at k v = elim (decLt v k) [ yes h ↦ getD-replicate {A = ℕ} k v 0 0 h | no q ↦ List·getD-eq-default {A = ℕ} (zeros k) 0 {n = v} (omega (arith, length-replicate {A = ℕ} k 0)) ]
 
 -- columns of zeros are memory for all that has at most k nodes and names, and at most j uses
 pub tables-room : {n names uses : ℕ} {facts : List ℕ} (k j : ℕ) → names ≤ length facts → n ≤ k → names ≤ k → uses ≤ j → Room uses names n facts (zeros j) (zeros (suc k)) (zeros j) (zeros j)
@@ -72,16 +63,7 @@ tables-room k j f h i m =
     record { facts-long = f; uses-long = omega (arith, l); name-starts = omega (arith, s); node-starts = omega (arith, s); by-local-long = omega (arith, l); by-node-long = omega (arith, l) }
 
 pub walking-room : {n : ℕ} (k : ℕ) → n ≤ k → Walks n (zeros k) (zeros k) (zeros k) (zeros k) (zeros k) (zeros k)
-walking-room {n} k h =
-    let long : n ≤ length (zeros k) = omega (arith, length-replicate {A = ℕ} k 0) in
-    let below : (v : ℕ) → getD (zeros k) v 0 < 1 = λ v. omega (arith, zero-at k v) in
-    record {
-      ready = record { fresh = below; marks-hold = long; stack-holds = long };
-      lent = record {
-        blank = record { holds = long; none = λ v l. zero-at k v };
-        unmarked = record { used-holds = long; reads-hold = long; writes-hold = long; stack-holds = long; used-new = below; reads-new = below; writes-new = below };
-      };
-    }
+walking-room {n} k h = record { unmarked = unmarked-zeros n k h; lent = lent n k h }
 
 -- ---- no local tracked
 
@@ -98,7 +80,7 @@ module _ (S U : List ℕ) (ℓ : ℕ) (e : tracked (localAt S ℓ) ≡ false) wh
   unfolding markFigure
   no-figure = rw e
 
-module _ (S U : List ℕ) {names : ℕ} (facts : List ℕ) (e : length (locals S) ≡ names) (k : Known S names facts) (d : None (λ l found. tracked l) names facts) where
+module _ (S U : List ℕ) {names : ℕ} (facts : List ℕ) (e : length (locals S) ≡ names) (k : FactsOf (localAt S) names facts) (d : None (λ l found. tracked l) names facts) where
   untracked : (ℓ : ℕ) → ℓ < names → tracked (localAt S ℓ) ≡ false
   untracked ℓ h = d ℓ h (localAt S ℓ) true (k ℓ h)
 

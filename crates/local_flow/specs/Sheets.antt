@@ -4,26 +4,31 @@ use Prim.Native.Nat.{ℕ, _≤_}
 use mathlib.Core.Path.{_≡_}
 use mathlib.Core.List.{List}
 use denote.Ref.{RefT, now}
-use lib.ListN.{length, take}
+use lib.ListN.{length}
 use Rattle.search.specs.Lent.{Column, held, left}
-use Rattle.flow.specs.Sheet.{kindWords, spanWords, useWords, useSpans}
-use Rattle.flow.specs.Graph.{graph}
-use Rattle.flow.specs.Locals.{locals}
+use Rattle.flow.specs.Sheet.{kindWords, spanWords}
+use Rattle.flow.specs.Locals.{locals, localAt}
 use Rattle.flow.specs.Findings.{findings}
 use Rattle.flow.specs.Judge.{wordsOf}
+use Rattle.facts.specs.Facts.{FactsOf}
 use Rattle.locals.specs.Columns.{Charted, Named}
 use Rattle.locals.specs.Entries.{Adds}
 use Rattle.tables.specs.Tables.{CodeTable, UseTable, Sources}
 use Rattle.unassigned.specs.Pass.{Figures}
 
--- the columns are those of the graph of S and of the uses of U, and the facts are those of the names
-pub record Given (S U : List ℕ) (n codes names : ℕ) (first second start codeSpan codeNode nameNode nameEnd words spans facts : List ℕ) : Type 0 where
+-- the columns are those of the graph of S and of the uses of U
+pub record PairColumns (S U : List ℕ) (n codes names : ℕ) (first second start codeSpan codeNode nameNode nameEnd words spans : List ℕ) : Type 0 where
   pub charted : Charted S n first second start
   pub named : Named S n names nameNode nameEnd
   pub code-table : CodeTable codes n codeSpan codeNode
   pub use-table : UseTable names words spans
+  pub sources : Sources S U codes codeSpan codeNode words spans
+
+-- and the facts are those of the names
+pub record Given (S U : List ℕ) (n codes names : ℕ) (first second start codeSpan codeNode nameNode nameEnd words spans facts : List ℕ) : Type 0 where
+  pub columns : PairColumns S U n codes names first second start codeSpan codeNode nameNode nameEnd words spans
   pub facts-long : names ≤ length facts
-  pub sources : Sources S U codes names codeSpan codeNode words spans facts
+  pub facts-are : FactsOf (localAt S) names facts
 
 -- lent columns are such columns of some pair
 abbrev pub AnyGiven : (n codes names : ℕ) (first second start codeSpan codeNode nameNode nameEnd words spans facts : RefT (List ℕ)) → Type 0
@@ -36,19 +41,12 @@ FindsGiven n codes names first second start codeSpan codeNode nameNode nameEnd w
     (S U : List ℕ) → Given S U n codes names (held first) (held second) (held start) (held codeSpan) (held codeNode) (held nameNode) (held nameEnd) (held words) (held spans) (held facts)
     → Adds (wordsOf (findings S U)) 0 findingWord r × Figures S U names (held mark) (left mark)
 
--- the same of the items' words, which the facts are found in: whatever facts they hold
+-- the same before the facts are known, with the items' words, which they are found in
 pub record Sheets (S U : List ℕ) (n codes : ℕ) (kinds first second start codeSpan codeNode nameNode nameEnd words spans : List ℕ) : Type 0 where
   pub kinds-are : kinds ≡ kindWords S
   pub beside : length (spanWords S) ≡ length (kindWords S)
   pub few : length kinds ≤ 1024
-  pub charted : Charted S n first second start
-  pub named : Named S n (length (locals S)) nameNode nameEnd
-  pub code-table : CodeTable codes n codeSpan codeNode
-  pub use-table : UseTable (length (locals S)) words spans
-  pub code-spans : graph S .codes .span ≡ take codes codeSpan
-  pub code-nodes : graph S .codes .node ≡ take codes codeNode
-  pub words-are : words ≡ useWords U
-  pub spans-are : spans ≡ useSpans U
+  pub columns : PairColumns S U n codes (length (locals S)) first second start codeSpan codeNode nameNode nameEnd words spans
 
 abbrev pub AnySheets : (n codes : ℕ) (kinds first second start codeSpan codeNode nameNode nameEnd words spans : RefT (List ℕ)) → Type 0
 AnySheets n codes kinds first second start codeSpan codeNode nameNode nameEnd words spans =

@@ -7,7 +7,7 @@ ghost use Rattle.locals.specs.Entries.{Room};
 ghost use Rattle.local_flow.specs.Sheets.{AnySheets, Finds, AnyGiven, FindsGiven};
 use both_lists::list_findings;
 use facts::any_tracked;
-use facts::find_names;
+use name_facts::find_names;
 use search::clear;
 use tables::make_tables;
 
@@ -27,6 +27,7 @@ fn is_small(n: usize, names: usize, uses: usize) -> bool
 }
 
 // The findings of a small sheet: most function bodies are small, and to clear what a large one needs would take longer than all else.
+// It and `compute_large` differ in the lengths of their arrays alone, which a function cannot take as a number.
 fn compute_small(
     first: &[u64],
     second: &[u64],
@@ -165,6 +166,7 @@ fn compute_large(
 }
 
 // The words of the findings of a sheet with its uses, in their order, and a mark figure for each local. The result is the number of findings.
+// The facts of the names come before the other tables: by them it is told whether any table is needed, and how much memory they take.
 pub fn compute(
     kinds: &[u64],
     first: &[u64],

@@ -14,7 +14,7 @@ use Rattle.use_words.proofs.Words.{uses-next}
 use Rattle.uses_by_node.specs.Uses.{overwrittenIn}
 use Rattle.locals.specs.Entries.{Room, Added}
 use Rattle.locals.proofs.Entries.{added-none, added-more, added-long}
-use Rattle.local_values.specs.Words.{writeWord}
+use Rattle.local_values.specs.Words.{writeWord, writeWordsAt}
 
 one-at-most : (b : Bool) (u : Use) → length (onlyIf b (u ∷ [])) ≤ 1
 one-at-most true u = omega arith
@@ -45,7 +45,7 @@ module _ (g : Graph) (a : Ahead) (local : ℕ) (ws : List ℕ) (before : ℕ) (w
     pub room-left : i < length ws → Room 1 count w
     room-left h = omega (arith, passed-count, passed-long, room)
 
-    pub passed-turn : i < length ws → {r : ℕ} {w₁ : List ℕ} → Added (map (writeWord local) (onlyIf (isOverwritten g a (useOf (getD ws i 0)) (usesIn (drop (i + 1) ws))) (useOf (getD ws i 0) ∷ []))) count w r w₁ → Passed r (i + 1) w₁
+    pub passed-turn : i < length ws → {r : ℕ} {w₁ : List ℕ} → Added (writeWordsAt local g a ws i) count w r w₁ → Passed r (i + 1) w₁
     passed-turn h {r} {w₁} t =
         let u : Use = useOf (getD ws i 0) in
         let after : List Use = usesIn (drop (i + 1) ws) in

@@ -3,10 +3,11 @@
 use Prim.Native.Nat.{ℕ, _+_, _≤_}
 use mathlib.Core.Bool.{Bool, _&&_}
 use mathlib.Core.List.{List, [], _∷_, _++_, map}
-use lib.ListN.{length}
+use lib.ListN.{length, getD, drop}
 use Rattle.flow.specs.Graph.{Graph}
 use Rattle.flow.specs.Locals.{Declaration, onlyIf, findingWord}
-use Rattle.flow.specs.Findings.{Use, Ahead, ahead, isOverwrittenUnread}
+use Rattle.flow.specs.Findings.{Use, Ahead, ahead, isOverwritten, isOverwrittenUnread}
+use Rattle.use_words.specs.Words.{useOf, usesIn}
 use Rattle.uses_by_node.specs.Uses.{overwrittenIn}
 
 -- the word of an overwritten write
@@ -27,6 +28,12 @@ valueWords ℓ has g a v us = initialWords ℓ has g a v ++ writeWords ℓ g a u
 -- by what is ahead of its uses
 abbrev pub judgedWords : ℕ → Bool → Graph → Declaration → List Use → List ℕ
 judgedWords ℓ has g d us = valueWords ℓ has g (ahead g d us) (d .node) us
+
+-- of the use at place i of a column of uses by node, if it is a write that is overwritten
+abbrev pub writeWordsAt : ℕ → Graph → Ahead → List ℕ → ℕ → List ℕ
+writeWordsAt ℓ g a ws i =
+    let u = useOf (getD ws i 0) in
+    map (writeWord ℓ) (onlyIf (isOverwritten g a u (usesIn (drop (i + 1) ws))) (u ∷ []))
 
 -- columns of edges and of marks hold n nodes
 pub record Hold (n : ℕ) (first second reads writes : List ℕ) : Type 0 where

@@ -1,17 +1,15 @@
 // The overwritten values of one local: the marks of its next uses, its initial value, its writes (local_flow.rs).
-ghost use mathlib.Core.List.{[], _∷_, map};
+ghost use mathlib.Core.List.{[], _∷_};
 ghost use Prim.Native.Nat.{_+_, _<_, _≤_};
-ghost use lib.ListN.{length, getD, drop, take};
+ghost use lib.ListN.{length, take};
 ghost use Rattle.search.specs.Lent.{held, left};
-ghost use Rattle.flow.specs.Locals.{onlyIf};
-ghost use Rattle.flow.specs.Findings.{isOverwritten};
 ghost use Rattle.use_words.specs.Words.{useOf, usesIn, AllPlaced};
 ghost use Rattle.live_steps.specs.Walk.{charted, declared};
 ghost use Rattle.predecessors.specs.Predecessors.{Linked};
 ghost use Rattle.uses_by_node.specs.Uses.{Rising, edges, marked};
-ghost use Rattle.next_uses.specs.Backwards.{Unmarked};
+ghost use Rattle.next_uses.specs.Backwards.{AllUnmarked};
 ghost use Rattle.locals.specs.Entries.{Room, Adds};
-ghost use Rattle.local_values.specs.Words.{writeWord, initialWords, writeWords, valueWords, judgedWords, Hold};
+ghost use Rattle.local_values.specs.Words.{writeWord, initialWords, writeWords, writeWordsAt, valueWords, judgedWords, Hold};
 use live_steps::LocalDeclaration;
 use locals::push_finding;
 use next_uses::mark_next_uses;
@@ -55,7 +53,7 @@ fn push_if_overwritten(
 ) -> usize
     requires { ⌜ Hold n (now first) (now second) (now reads) (now writes) × AllPlaced n (now sorted) × Rising (now sorted) ⌝ }
     requires { ⌜ (i < length (now sorted)) × (local < 1024) × Room 1 count (now «finding_word») ⌝ }
-    ensures { λ r. ⌜ Adds (map (writeWord local) (onlyIf (isOverwritten (edges n first second) (marked stamp n reads writes) (useOf (getD (held sorted) i 0)) (usesIn (drop (i + 1) (held sorted)))) (useOf (getD (held sorted) i 0) ∷ []))) count «finding_word» r ⌝ }
+    ensures { λ r. ⌜ Adds (writeWordsAt local (edges n first second) (marked stamp n reads writes) (held sorted) i) count «finding_word» r ⌝ }
 {
     if is_overwritten(first, second, sorted, reads, writes, n, stamp, i) {
         push_write(finding_word, count, local, sorted[i])
@@ -196,11 +194,11 @@ pub fn judge_local(
 ) -> usize
     requires { ⌜ (n ≤ 1600) × (n ≤ length (now first)) × (n ≤ length (now second)) × (n ≤ length (now start)) ⌝ }
     requires { ⌜ Linked (take n (now first)) (take n (now second)) n n (now chain) × AllPlaced n (now sorted) × Rising (now sorted) ⌝ }
-    requires { ⌜ (declaration .node < n) × (local < 1024) × Unmarked (local + 1) n (now used) (now reads) (now writes) (now stack) ⌝ }
+    requires { ⌜ (declaration .node < n) × (local < 1024) × AllUnmarked (local + 1) n (now used) (now reads) (now writes) (now stack) ⌝ }
     requires { ⌜ Room (1 + length (now sorted)) count (now «finding_word») ⌝ }
     ensures { λ r. ⌜ Adds (judgedWords local «has_value» (charted n first second start) (declared declaration) (usesIn (held sorted))) count «finding_word» r ⌝ }
     ensures { λ r. ⌜ r ≤ count + 1 + length (held sorted) ⌝ }
-    ensures { λ _. ⌜ Unmarked (local + 2) n (left used) (left reads) (left writes) (left stack) ⌝ }
+    ensures { λ _. ⌜ AllUnmarked (local + 2) n (left used) (left reads) (left writes) (left stack) ⌝ }
 {
     mark_next_uses(
         start,

@@ -1,10 +1,9 @@
 // The walk of one local: how many nodes it visits, and the local's first unassigned use (local_flow.rs).
 ghost use Prim.Native.Nat.{_≤_};
 ghost use Rattle.search.specs.Lent.{held, left};
-ghost use Rattle.search.specs.Stamps.{Stamped};
+ghost use Rattle.search.specs.Stamps.{Stamped, Unmarked};
 ghost use Rattle.use_words.specs.Words.{usesIn, AllPlaced};
 ghost use Rattle.live_steps.specs.Walk.{Long, charted, declared};
-ghost use Rattle.live_walk.specs.Walk.{Ready};
 ghost use Rattle.local_walk.specs.Walks.{Tells};
 use empty_read::first_unassigned_use;
 use live_steps::LocalDeclaration;
@@ -28,7 +27,7 @@ pub fn walk_local(
     declaration: LocalDeclaration,
     stamp: u16,
 ) -> Walked
-    requires { ⌜ Ready stamp n (now visited) (now stack) × (n ≤ 1600) ⌝ }
+    requires { ⌜ Unmarked stamp n (now visited) (now stack) × (n ≤ 1600) ⌝ }
     requires { ⌜ Long n (now first) (now second) (now start) × AllPlaced n (now mine) ⌝ }
     ensures { λ r. ⌜ Tells n (charted n first second start) (declared declaration) (usesIn (held mine)) r ⌝ }
     ensures { λ _. ⌜ Stamped stamp (left visited) ⌝ }

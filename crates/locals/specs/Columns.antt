@@ -65,15 +65,18 @@ pub record Parts (list : ℕ → List Use) (m n names : ℕ) (starts column : Li
 abbrev pub usesByNode : List ℕ → List ℕ → ℕ → ℕ → List Use
 usesByNode S U n ℓ = byNode n (usesOf S U ℓ)
 
--- the tables of a pair: facts of names, and the uses by local, in use order and by node
-pub record Tables (S U : List ℕ) (n names : ℕ) (facts starts byLocal byNode : List ℕ) : Type 0 where
+-- a table of a pair: facts of names, and the uses by local, as `list` orders them
+pub record Table (list : ℕ → List Use) (S U : List ℕ) (n names : ℕ) (facts starts column : List ℕ) : Type 0 where
   pub known : Known S U names facts
-  pub in-use-order : Parts (usesOf S U) (length (useWords U)) n names starts byLocal
-  pub in-node-order : Parts (usesByNode S U n) (length (useWords U)) n names starts byNode
+  pub parts : Parts list (length (useWords U)) n names starts column
 
--- what a pass over all locals reads: the graph, the names, and the tables with the uses in one order
+-- the tables of a pair: in use order and by node
+pub record Tables (S U : List ℕ) (n names : ℕ) (facts starts byLocal byNode : List ℕ) : Type 0 where
+  pub in-use-order : Table (usesOf S U) S U n names facts starts byLocal
+  pub in-node-order : Table (usesByNode S U n) S U n names facts starts byNode
+
+-- what a pass over all locals reads: the graph, the names, and one of the tables
 pub record Pass (list : ℕ → List Use) (S U : List ℕ) (n names : ℕ) (first second start nameNode nameEnd facts starts column : List ℕ) : Type 0 where
   pub charted : Charted S n first second start
   pub named : Named S n names nameNode nameEnd
-  pub known : Known S U names facts
-  pub parts : Parts list (length (useWords U)) n names starts column
+  pub table : Table list S U n names facts starts column

@@ -1,13 +1,13 @@
 -- The search backwards from a local's uses, as the code goes: where it starts, and which predecessors it goes through.
 -- Assumes nothing: these are definitions.
-use Prim.Native.Nat.{ℕ, zero, suc, _<_, _≤_}
+use Prim.Native.Nat.{ℕ, zero, suc, _<_}
 use mathlib.Core.Path.{_≡_}
 use mathlib.Core.Bool.{Bool, true, false, _&&_}
 use mathlib.Core.List.{List, [], _++_}
 use lib.ListN.{length, getD}
 use Rattle.search.specs.Search.{cons-if, filter, closure}
 use Rattle.search.specs.Worklist.{State}
-use Rattle.search.specs.Stamps.{flagsOf, Fresh, stampWhen}
+use Rattle.search.specs.Stamps.{flagsOf, Unmarked, stampWhen}
 use Rattle.search.specs.Lent.{Column, held, left}
 use Rattle.flow.specs.Locals.{Declaration}
 use Rattle.flow.specs.Findings.{Meeting, meeting, isARead, isAPureWrite, Ahead, ahead}
@@ -51,15 +51,11 @@ abbrev pub Searched : ℕ → ℕ → Column → Declaration → Column → Bool
 Searched stamp n start d sorted pure chain used marks =
     (first second : List ℕ) → Linked first second n n (held chain) → flagsOf stamp n (left marks) ≡ backFlags (held start) d (held sorted) pure stamp (held used) first second n
 
--- the columns of a search hold n nodes, and the stamp is new in each column of marks
-pub record Unmarked (stamp n : ℕ) (used reads writes stack : List ℕ) : Type 0 where
-  pub used-holds : n ≤ length used
-  pub reads-hold : n ≤ length reads
-  pub writes-hold : n ≤ length writes
-  pub stack-holds : n ≤ length stack
-  pub used-new : Fresh stamp used
-  pub reads-new : Fresh stamp reads
-  pub writes-new : Fresh stamp writes
+-- a search may begin in each of the three columns of marks
+pub record AllUnmarked (stamp n : ℕ) (used reads writes stack : List ℕ) : Type 0 where
+  pub used-new : Unmarked stamp n used stack
+  pub reads-new : Unmarked stamp n reads stack
+  pub writes-new : Unmarked stamp n writes stack
 
 -- the marks hold the flags of what is ahead
 pub record AheadMarked (stamp n : ℕ) (reads writes : List ℕ) (a : Ahead) : Type 0 where

@@ -2,14 +2,14 @@
 ghost use mathlib.Core.Path.{_≡_};
 ghost use Prim.Native.Nat.{_<_, _≤_};
 ghost use lib.ListN.{length, getD};
-ghost use Rattle.search.specs.Stamps.{Fresh, Stamped, stampAll};
+ghost use Rattle.search.specs.Stamps.{Fresh, Stamped, Unmarked, stampAll};
 ghost use Rattle.search.specs.Lent.{held, left, stAt};
 ghost use Rattle.flow.specs.Findings.{meeting};
 ghost use Rattle.use_words.specs.Words.{nodeIn, useOf, AllPlaced};
 ghost use Rattle.live_steps.specs.Walk.{declared};
 ghost use Rattle.predecessors.specs.Predecessors.{Chained};
 ghost use Rattle.uses_by_node.specs.Uses.{Rising};
-ghost use Rattle.next_uses.specs.Backwards.{sortOf, startsHere, startPushed, allStarts, Used, Searched, Unmarked, MarksAhead};
+ghost use Rattle.next_uses.specs.Backwards.{sortOf, startsHere, startPushed, allStarts, Used, Searched, AllUnmarked, MarksAhead};
 use live_steps::LocalDeclaration;
 use live_steps::is_alive_at;
 use predecessors::head_of;
@@ -121,8 +121,8 @@ fn search_back(
     stamp: u16,
     pure: bool,
 )
-    requires { ⌜ (n ≤ 1600) × (n ≤ length (now start)) × (n ≤ length (now used)) × (n ≤ length (now marks)) × (n ≤ length (now stack)) ⌝ }
-    requires { ⌜ AllPlaced n (now sorted) × Chained n (now chain) × Fresh stamp (now marks) ⌝ }
+    requires { ⌜ (n ≤ 1600) × (n ≤ length (now start)) × (n ≤ length (now used)) ⌝ }
+    requires { ⌜ AllPlaced n (now sorted) × Chained n (now chain) × Unmarked stamp n (now marks) (now stack) ⌝ }
     ensures { λ _. ⌜ Searched stamp n start (declared declaration) sorted pure chain used marks ⌝ }
     ensures { λ _. ⌜ Stamped stamp (left marks) ⌝ }
 {
@@ -173,7 +173,7 @@ pub fn mark_next_uses(
 )
     requires { ⌜ (n ≤ 1600) × (n ≤ length (now start)) ⌝ }
     requires { ⌜ AllPlaced n (now sorted) × Rising (now sorted) × Chained n (now chain) ⌝ }
-    requires { ⌜ Unmarked stamp n (now used) (now reads) (now writes) (now stack) ⌝ }
+    requires { ⌜ AllUnmarked stamp n (now used) (now reads) (now writes) (now stack) ⌝ }
     ensures { λ _. ⌜ MarksAhead stamp n (declared declaration) start chain sorted reads writes ⌝ }
     ensures { λ _. ⌜ Stamped stamp (left used) × Stamped stamp (left reads) × Stamped stamp (left writes) ⌝ }
 {

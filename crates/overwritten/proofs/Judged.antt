@@ -12,9 +12,10 @@ use Rattle.flow.specs.Findings.{Use, Ahead, allFound, usesOf, ahead, isOverwrit
 use Rattle.flow.specs.Judge.{wordsOf}
 use Rattle.flow.proofs.OwnUses.{renumbered-ahead, nodes-ahead, nodes-unread, nodes-below}
 use Rattle.use_words.specs.Words.{spanless, usesIn}
+use Rattle.use_words.proofs.Words.{spanless-renumbers}
 use Rattle.live_steps.specs.Walk.{chart}
 use Rattle.uses_by_node.specs.Uses.{byNode, Rising, overwrittenIn}
-use Rattle.uses_by_node.proofs.ByNode.{words-rise, spanless-renumbers, ahead-by, over-spanless, overwritten-by}
+use Rattle.uses_by_node.proofs.ByNode.{words-rise, ahead-by, over-spanless, overwritten-by}
 use Rattle.facts.specs.Facts.{isJudged, None}
 use Rattle.locals.specs.Columns.{Pass, usesByNode, partAt}
 use Rattle.locals.proofs.Columns.{charted-nodes}
@@ -117,7 +118,7 @@ module _ {S U : List ℕ} {n names : ℕ} {first second start nameNode nameEnd f
       let us : List Use = usesOf S U ℓ in
       let has : Bool = not (noValue (localAt S ℓ)) in
       let count : nodeCount g ≡ n = ap (λ (ns : Nodes). length (ns .first)) same ∙ p .charted .count in
-      let by-node : judgedWords ℓ has g d (usesIn (partAt ℓ starts column)) ≡ spelled ℓ has g d n us = ap (judgedWords ℓ has g d) (p .parts .holds ℓ h) ∙ words-by-node g d n us count ℓ has in
+      let by-node : judgedWords ℓ has g d (usesIn (partAt ℓ starts column)) ≡ spelled ℓ has g d n us = ap (judgedWords ℓ has g d) (p .table .parts .holds ℓ h) ∙ words-by-node g d n us count ℓ has in
       rw (p .charted .count) at (words-listed S U ℓ e) ∙ sym (by-node ∙ words-by-nodes g (graph S) same d n us ℓ has)
 
   -- the same of what was read of the local
@@ -126,7 +127,7 @@ module _ {S U : List ℕ} {n names : ℕ} {first second start nameNode nameEnd f
 
   -- the local's uses stand by node
   pub part-rises : Rising (partAt ℓ starts column)
-  part-rises = words-rise n (usesOf S U ℓ) (partAt ℓ starts column) (p .parts .holds ℓ h)
+  part-rises = words-rise n (usesOf S U ℓ) (partAt ℓ starts column) (p .table .parts .holds ℓ h)
 
   -- they are no more than its starts say
   pub part-few : length (partAt ℓ starts column) ≤ getD starts (ℓ + 1) 0 - getD starts ℓ 0
@@ -141,4 +142,4 @@ each-none f (suc k) h = rw (each-none f k (λ ℓ l. h ℓ (omega (arith, l))), 
 
 -- then nothing is listed
 pub nothing-listed : {S U : List ℕ} {n names : ℕ} {first second start nameNode nameEnd facts starts column : List ℕ} → Pass (usesByNode S U n) S U n names first second start nameNode nameEnd facts starts column → None isJudged names facts → ofEach (overwrittenOf S U) names ≡ []
-nothing-listed {S} {U} {names = names} p none = each-none (overwrittenOf S U) names (λ ℓ h. none-listed S U ℓ (none ℓ h (localAt S ℓ) (allFound (usesOf S U ℓ)) (p .known .facts-are ℓ h)))
+nothing-listed {S} {U} {names = names} p none = each-none (overwrittenOf S U) names (λ ℓ h. none-listed S U ℓ (none ℓ h (localAt S ℓ) (allFound (usesOf S U ℓ)) (p .table .known .facts-are ℓ h)))

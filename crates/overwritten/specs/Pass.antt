@@ -7,7 +7,7 @@ use Rattle.search.specs.Lent.{Column, held}
 use Rattle.flow.specs.Findings.{overwrittenOf, ofEach}
 use Rattle.flow.specs.Judge.{wordsOf}
 use Rattle.predecessors.specs.Predecessors.{Blank}
-use Rattle.next_uses.specs.Backwards.{Unmarked}
+use Rattle.next_uses.specs.Backwards.{AllUnmarked}
 use Rattle.locals.specs.Columns.{Pass, usesByNode}
 use Rattle.locals.specs.Entries.{Adds}
 
@@ -33,4 +33,4 @@ module _ (n names : ℕ) (first second start nameNode nameEnd facts starts byNod
 -- the work columns as the pass begins: they hold n nodes, no chain has an edge, and no mark is set
 pub record Lent (n : ℕ) (chain used reads writes stack : List ℕ) : Type 0 where
   pub blank : Blank n chain
-  pub unmarked : Unmarked 1 n used reads writes stack
+  pub unmarked : AllUnmarked 1 n used reads writes stack

@@ -3,7 +3,7 @@ ghost use Prim.Native.Nat.{_+_, _-_, _<_, _≤_};
 ghost use lib.ListN.{getD, take};
 ghost use Rattle.search.specs.Lent.{held, left};
 ghost use Rattle.predecessors.specs.Predecessors.{Linked};
-ghost use Rattle.next_uses.specs.Backwards.{Unmarked};
+ghost use Rattle.next_uses.specs.Backwards.{AllUnmarked};
 ghost use Rattle.locals.specs.Entries.{Room};
 ghost use Rattle.overwritten.specs.Pass.{AnyPass, AddsOne, AddsAll, Lent};
 use facts::any_judged;
@@ -37,11 +37,11 @@ fn add_local(
 ) -> usize
     requires { ⌜ AnyPass n names first second start «name_node» «name_end» facts starts «by_node» × (local < names) ⌝ }
     requires { ⌜ Linked (take n (now first)) (take n (now second)) n n (now chain) ⌝ }
-    requires { ⌜ Unmarked (local + 1) n (now used) (now reads) (now writes) (now stack) ⌝ }
+    requires { ⌜ AllUnmarked (local + 1) n (now used) (now reads) (now writes) (now stack) ⌝ }
     requires { ⌜ Room (1 + (getD (now starts) (local + 1) 0 - getD (now starts) local 0)) count (now «finding_word») ⌝ }
     ensures { λ r. ⌜ r ≤ count + (1 + (getD (held starts) (local + 1) 0 - getD (held starts) local 0)) ⌝ }
     ensures { λ r. ⌜ AddsOne n names first second start «name_node» «name_end» facts starts «by_node» «finding_word» local count r ⌝ }
-    ensures { λ _. ⌜ Unmarked (local + 2) n (left used) (left reads) (left writes) (left stack) ⌝ }
+    ensures { λ _. ⌜ AllUnmarked (local + 2) n (left used) (left reads) (left writes) (left stack) ⌝ }
 {
     let fact = facts[local];
     if is_judged(fact) {
@@ -91,7 +91,7 @@ fn list_locals(
 ) -> usize
     requires { ⌜ AnyPass n names first second start «name_node» «name_end» facts starts «by_node» ⌝ }
     requires { ⌜ Linked (take n (now first)) (take n (now second)) n n (now chain) ⌝ }
-    requires { ⌜ Unmarked 1 n (now used) (now reads) (now writes) (now stack) × Room (names + 1024) before (now «finding_word») ⌝ }
+    requires { ⌜ AllUnmarked 1 n (now used) (now reads) (now writes) (now stack) × Room (names + 1024) before (now «finding_word») ⌝ }
     ensures { λ r. ⌜ AddsAll n names first second start «name_node» «name_end» facts starts «by_node» «finding_word» before r ⌝ }
 {
     let mut count = before;

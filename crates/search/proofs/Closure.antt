@@ -10,7 +10,7 @@ use native.Mathlib.Decide.{ℕ-discrete}
 use lib.ListN.{length, getD, set, replicate, length-set, length-replicate}
 use lib.Seq.{getD-set-same, getD-set-other, set-getD}
 use Rattle.search.specs.Search.{In, Reach, here, on, marked, spread, sweep, rounds, closure, zeros}
-use Rattle.search.proofs.Count.{zeros-set, zeros-le}
+use Rattle.search.proofs.Count.{zeros-set, zeros-le, zero-at}
 
 -- a number of at most 1 is 0 or 1
 bit : (x : ℕ) → x ≤ 1 → (x ≡ 0) ⊎ (x ≡ 1)
@@ -168,11 +168,6 @@ module _ (n : ℕ) where
         let g = grows-sweep n s l in
         sound-rounds r (sweep step n s) (omega (arith, g .len)) (g .bits b) (sound-sweep n s l b q)
 
-    zero-all : (k v : ℕ) → getD {A = ℕ} (replicate k 0) v 0 ≡ 0
-    zero-all zero v = refl
-    zero-all (suc k) zero = refl
-    zero-all (suc k) (suc v) = zero-all k v
-
     s₀ : List ℕ
     s₀ = replicate n 0
 
@@ -185,7 +180,7 @@ module _ (n : ℕ) where
 
     b₀ : Bits s₀
     unfolding s₀
-    b₀ v = omega (arith, zero-all n v)
+    b₀ v = omega (arith, zero-at n v)
 
     l₁ : n ≤ length (marked starts s₀)
     l₁ = omega (arith, g₁ .len, l₀)
@@ -205,7 +200,7 @@ module _ (n : ℕ) where
     unfolding closure s₀
     closure-sound =
         sound-rounds n (marked starts s₀) l₁ (g₁ .bits b₀)
-        (sound-marked starts s₀ hs l₀ (λ v e. absurd (omega (arith, zero-all n v))) (λ v i. here i))
+        (sound-marked starts s₀ hs l₀ (λ v e. absurd (omega (arith, zero-at n v))) (λ v i. here i))
 
     -- a path leads to a node
     pub reach-node : (v : ℕ) → Reach starts step v → v < n

@@ -10,12 +10,12 @@ use native.Mathlib.Nat.{le-of-suc-le-suc, not-suc-le-zero}
 use native.Mathlib.Decide.{ℕ-discrete}
 use borrow.Author.Tests.{eq-eqb, ne-eqb, eqb-true, eqb-false}
 use lib.Dec.{eqb}
-use lib.ListN.{length, getD, set, length-set}
+use lib.ListN.{length, getD, set, replicate, length-set, length-replicate}
 use lib.Seq.{getD-set-same, getD-set-other, ext-getD}
 use Rattle.search.specs.Search.{cons-if, zeros}
 use Rattle.search.specs.Worklist.{State, st, push, pushAll, pop, topmost}
-use Rattle.search.specs.Stamps.{flagOf, flagsOf, Fresh, Stamped, stamped, stampPush, stampAll, stampWhen, flagged, Ready}
-use Rattle.search.proofs.Count.{zeros-all}
+use Rattle.search.specs.Stamps.{flagOf, flagsOf, Fresh, Stamped, Unmarked, stamped, stampPush, stampAll, stampWhen, flagged, Ready}
+use Rattle.search.proofs.Count.{zeros-all, zero-at}
 use Rattle.search.proofs.Closure.{Nodes, closure-length}
 use Rattle.search.proofs.Worklist.{push-fresh, push-known, room-new, room-empty, all-moved, pop-moved, Search, Going, flags, begin, rebase, turn, falls, flag-is, stacked-node, measure, waiting, all-waiting}
 
@@ -67,6 +67,30 @@ fresh-stamped stamp m f v = omega (arith, f v)
 
 pub stamped-fresh : (stamp next : ℕ) (m : List ℕ) → Stamped stamp m → stamp < next → Fresh next m
 stamped-fresh stamp next m f h v = omega (arith, f v)
+
+-- ---- columns that a search may begin in
+
+-- after a search by a stamp: they will do for a greater one
+pub unmarked-after : {stamp next n : ℕ} {marks stack marks′ stack′ : List ℕ} → stamp < next → Unmarked stamp n marks stack → Stamped stamp marks′ → length marks′ ≡ length marks → length stack′ ≡ length stack → Unmarked next n marks′ stack′
+unmarked-after {stamp} {next} {marks′ = marks′} h u t m s = record {
+  fresh = stamped-fresh stamp next marks′ t h;
+  marks-hold = omega (arith, m, u .marks-hold);
+  stack-holds = omega (arith, s, u .stack-holds);
+}
+
+-- where there was none
+pub unmarked-still : {stamp next n : ℕ} {marks stack : List ℕ} → stamp < next → Unmarked stamp n marks stack → Unmarked next n marks stack
+unmarked-still {stamp} {marks = marks} h u = unmarked-after h u (fresh-stamped stamp marks (u .fresh)) refl refl
+
+-- whatever a stack holds, if it stays as long
+pub unmarked-on : {stamp n : ℕ} {marks stack stack′ : List ℕ} → Unmarked stamp n marks stack → length stack′ ≡ length stack → Unmarked stamp n marks stack′
+unmarked-on u s = record { fresh = u .fresh; marks-hold = u .marks-hold; stack-holds = omega (arith, s, u .stack-holds) }
+
+-- zeros are below every stamp
+pub unmarked-zeros : (n k : ℕ) → n ≤ k → Unmarked 1 n (replicate k 0) (replicate k 0)
+unmarked-zeros n k h =
+    let long : n ≤ length (replicate {A = ℕ} k 0) = omega (arith, length-replicate {A = ℕ} k 0) in
+    record { fresh = λ v. omega (arith, zero-at k v); marks-hold = long; stack-holds = long }
 
 -- ---- a push
 
@@ -157,14 +181,14 @@ pub record Underway (stamp : ℕ) (g : Search) (s : State) : Type 0 where
 
 module _ (stamp : ℕ) (g : Search) where
   -- no node is marked, the stack is empty, and the starts are pushed
-  pub stamp-begin : (m k : List ℕ) (s : State) → g .n ≤ length m → g .n ≤ length k → Fresh stamp m → s ≡ stampAll stamp (g .starts) (st m k 0) → Underway stamp g s
-  stamp-begin m k s lm lk f q =
-      let law = all-law stamp (g .n) (g .starts) (st m k 0) (g .starts-in) lm in
+  pub stamp-begin : (m k : List ℕ) (s : State) → Unmarked stamp (g .n) m k → s ≡ stampAll stamp (g .starts) (st m k 0) → Underway stamp g s
+  stamp-begin m k s u q =
+      let law = all-law stamp (g .n) (g .starts) (st m k 0) (g .starts-in) (u .marks-hold) in
       subst (Underway stamp g) (sym q)
       (record {
-        going = rebase g (begin g (ready-empty stamp (g .n) m k lm lk .fits) refl (fresh-flags stamp (g .n) m f) (law .0));
-        long = omega (arith, law .1 .marks-len);
-        bounded = law .1 .bounded (fresh-stamped stamp m f);
+        going = rebase g (begin g (ready-empty stamp (g .n) m k (u .marks-hold) (u .stack-holds) .fits) refl (fresh-flags stamp (g .n) m (u .fresh)) (law .0));
+        long = omega (arith, law .1 .marks-len, u .marks-hold);
+        bounded = law .1 .bounded (fresh-stamped stamp m (u .fresh));
       })
 
   module _ {s : State} (u : Underway stamp g s) where
@@ -210,12 +234,12 @@ module _ (stamp : ℕ) (g : Search) where
       let n = g .n in
       ap (λ (x : State). waiting n (flagged stamp n x)) q ∙ ap (waiting n) (all-law stamp n vs s h (r .long) .0) ∙ all-waiting n vs (flagged stamp n s) h (r .fits)
 
-  pub count-begin : (m k : List ℕ) (s : State) → g .n ≤ length m → g .n ≤ length k → Fresh stamp m → s ≡ stampAll stamp (g .starts) (st m k 0) → Counted stamp g s 0
-  count-begin m k s lm lk f q =
-      let r = ready-empty stamp (g .n) m k lm lk in
+  pub count-begin : (m k : List ℕ) (s : State) → Unmarked stamp (g .n) m k → s ≡ stampAll stamp (g .starts) (st m k 0) → Counted stamp g s 0
+  count-begin m k s u q =
+      let r = ready-empty stamp (g .n) m k (u .marks-hold) (u .stack-holds) in
       record {
-        underway = stamp-begin stamp g m k s lm lk f q;
-        counted = omega (arith, waiting-same (g .starts) {t = s} (g .starts-in) r q, zeros-all (g .n) (flagsOf stamp (g .n) m) (r .fits .marks-long) (fresh-flags stamp (g .n) m f));
+        underway = stamp-begin stamp g m k s u q;
+        counted = omega (arith, waiting-same (g .starts) {t = s} (g .starts-in) r q, zeros-all (g .n) (flagsOf stamp (g .n) m) (r .fits .marks-long) (fresh-flags stamp (g .n) m (u .fresh)));
       }
 
   module _ {s : State} {count : ℕ} (c : Counted stamp g s count) where

@@ -24,6 +24,12 @@ Fresh stamp marks = (v : ℕ) → getD marks v 0 < stamp
 abbrev pub Stamped : ℕ → List ℕ → Type 0
 Stamped stamp marks = (v : ℕ) → getD marks v 0 ≤ stamp
 
+-- a search by the stamp may begin: no node is marked, and marks and stack hold n nodes
+pub record Unmarked (stamp n : ℕ) (marks stack : List ℕ) : Type 0 where
+  pub fresh : Fresh stamp marks
+  pub marks-hold : n ≤ length marks
+  pub stack-holds : n ≤ length stack
+
 -- v marked and pushed, unless it is marked, as b says
 abbrev pub stamped : ℕ → Bool → ℕ → State → State
 stamped stamp true v s = s

@@ -10,8 +10,9 @@ use Rattle.flow.specs.Graph.{Graph, nodeCount, graph}
 use Rattle.flow.specs.Locals.{localAt, Declaration, declaration}
 use Rattle.flow.specs.Findings.{Use, usesOf, allFound, liveAfterWrites, firstEmptyRead, firstUnassignedUse, unassignedOf}
 use Rattle.flow.specs.Judge.{wordsOf}
-use Rattle.flow.proofs.OwnUses.{Renumbers, nodes-live, renumbered-live, renumbered-first}
+use Rattle.flow.proofs.OwnUses.{nodes-live, renumbered-live, renumbered-first}
 use Rattle.use_words.specs.Words.{usesIn, spanless}
+use Rattle.use_words.proofs.Words.{spanless-renumbers}
 use Rattle.live_steps.specs.Walk.{chart}
 use Rattle.empty_read.specs.FirstRead.{codeOf}
 use Rattle.local_walk.specs.Walks.{firstEmpty}
@@ -21,10 +22,6 @@ use Rattle.locals.proofs.Columns.{charted-nodes}
 use Rattle.unassigned.specs.Words.{wordsAt, unassignedWords, visits, markFigure}
 use Rattle.flow.proofs.Few.{first-few}
 use Rattle.unassigned.proofs.Words.{words-are}
-
--- a use without its span is the same to a walk
-keeps : Renumbers spanless
-keeps = record { kinds = λ u. refl; closures = λ u. refl; nodes = λ u. refl }
 
 code-kept : (us : List Use) → codeOf (map spanless us) ≡ codeOf us
 code-kept [] = refl
@@ -52,15 +49,15 @@ module _ {S U : List ℕ} {n names : ℕ} {first second start nameNode nameEnd f
     -- a walk over the columns marks the nodes of the graph
     walk-live : liveAfterWrites columns d (usesIn (partAt ℓ starts byLocal)) ≡ liveAfterWrites (graph S) d own
     walk-live =
-        ap (liveAfterWrites columns d) (p .parts .holds ℓ h)
-        ∙ renumbered-live keeps columns d own
+        ap (liveAfterWrites columns d) (p .table .parts .holds ℓ h)
+        ∙ renumbered-live spanless-renumbers columns d own
         ∙ nodes-live columns (graph S) (charted-nodes (p .charted .charts)) d own
 
     -- and finds the same use
     walk-first : codeOf (firstEmpty columns d (usesIn (partAt ℓ starts byLocal))) ≡ codeOf (firstEmpty (graph S) d own)
     walk-first =
-        ap₂ (λ (live : List ℕ) (us : List Use). codeOf (firstEmptyRead live [] us)) walk-live (p .parts .holds ℓ h)
-        ∙ ap codeOf (renumbered-first keeps (liveAfterWrites (graph S) d own) [] own)
+        ap₂ (λ (live : List ℕ) (us : List Use). codeOf (firstEmptyRead live [] us)) walk-live (p .table .parts .holds ℓ h)
+        ∙ ap codeOf (renumbered-first spanless-renumbers (liveAfterWrites (graph S) d own) [] own)
         ∙ code-kept (firstEmpty (graph S) d own)
 
   -- what the walk with the facts, declaration and uses that were read gives

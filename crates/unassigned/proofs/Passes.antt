@@ -8,26 +8,26 @@ use native.Mathlib.Numerals.{add-one}
 use native.Mathlib.Decide.{ℕ-discrete}
 use lib.ListN.{length, set, drop, length-set, length-map}
 use lib.Seq.{getD-set-same, getD-set-other, drop-set-lt, drop-drop}
+use Rattle.search.specs.Stamps.{Unmarked}
 use Rattle.flow.specs.Findings.{unassignedOf, ofEach}
 use Rattle.flow.specs.Judge.{wordsOf}
 use Rattle.flow.proofs.Few.{all-unassigned-few}
-use Rattle.live_walk.specs.Walk.{Ready}
 use Rattle.locals.specs.Entries.{Room, Added}
 use Rattle.locals.proofs.Entries.{added-none, added-more, added-long}
 use Rattle.unassigned.specs.Words.{markFigure}
 use Rattle.unassigned.specs.Pass.{Figures}
 
--- marks and stack are ready for the next local, whatever the sheets
+-- the walk of the next local may begin, whatever the sheets
 pub record Going (n names : ℕ) (visited₀ stack₀ visited stack : List ℕ) (ℓ : ℕ) : Type 0 where
   pub within : ℓ ≤ names
-  pub ready : Ready (ℓ + 1) n visited stack
+  pub unmarked : Unmarked (ℓ + 1) n visited stack
   pub visited-long : length visited ≡ length visited₀
   pub stack-long : length stack ≡ length stack₀
 
-pub going-more : {n names : ℕ} {visited₀ stack₀ visited stack visited′ stack′ : List ℕ} {ℓ : ℕ} → Going n names visited₀ stack₀ visited stack ℓ → ℓ < names → Ready (ℓ + 2) n visited′ stack′ → length visited′ ≡ length visited → length stack′ ≡ length stack → Going n names visited₀ stack₀ visited′ stack′ (ℓ + 1)
+pub going-more : {n names : ℕ} {visited₀ stack₀ visited stack visited′ stack′ : List ℕ} {ℓ : ℕ} → Going n names visited₀ stack₀ visited stack ℓ → ℓ < names → Unmarked (ℓ + 2) n visited′ stack′ → length visited′ ≡ length visited → length stack′ ≡ length stack → Going n names visited₀ stack₀ visited′ stack′ (ℓ + 1)
 going-more {ℓ = ℓ} g h r v s =
     let e : ℓ + 1 + 1 ≡ ℓ + 2 = omega arith in
-    record { within = omega arith; ready = rw e r; visited-long = v ∙ g .visited-long; stack-long = s ∙ g .stack-long }
+    record { within = omega arith; unmarked = rw e r; visited-long = v ∙ g .visited-long; stack-long = s ∙ g .stack-long }
 
 module _ (S U : List ℕ) where
   -- ---- the mark figures

@@ -1,20 +1,17 @@
 -- The word of a walk's first unassigned use: how many such words there are, and how great they get.
 -- Assumes nothing.
-use Prim.Native.Nat.{ℕ, _+_, _<_, _≤_}
+use Prim.Native.Nat.{ℕ, _+_, _≤_}
 use mathlib.Core.Path.{_≡_, refl, ap}
 use mathlib.Core.Bool.{Bool, true, false, cond}
 use mathlib.Core.List.{List, [], _∷_, _++_, map}
 use native.Mathlib.Omega.{arith}
 use borrow.Author.Tests.{eq-eqb, ne-eqb}
 use lib.ListN.{length}
-use Rattle.search.specs.Stamps.{Stamped}
-use Rattle.search.proofs.Stamps.{fresh-stamped, stamped-fresh}
 use Rattle.flow.specs.Graph.{Graph}
 use Rattle.flow.specs.Locals.{Declaration, onlyIf, findingWord}
 use Rattle.flow.specs.Findings.{Use, node, isWrite, liveAfterWrites, isEmptyRead, firstEmptyRead, ofUse}
 use Rattle.flow.specs.Judge.{wordsOf}
 use Rattle.use_words.specs.Words.{useOf, usesIn}
-use Rattle.live_walk.specs.Walk.{Ready}
 use Rattle.empty_read.specs.FirstRead.{codeOf}
 use Rattle.local_walk.specs.declared.Walked.{Walked}
 use Rattle.local_walk.specs.Walks.{Tells}
@@ -59,16 +56,3 @@ module _ {n : ℕ} {g : Graph} {d : Declaration} {us : List Use} {r : Walked} (t
 
   pub told-visits : r .nodes ≡ visits due n g d us
   told-visits = rw e (omega (arith, t .nodes))
-
--- ---- marks and stack for the next walk
-
-pub ready-after : {stamp next n : ℕ} {visited stack visited′ stack′ : List ℕ} → stamp < next → Ready stamp n visited stack → Stamped stamp visited′ → length visited′ ≡ length visited → length stack′ ≡ length stack → Ready next n visited′ stack′
-ready-after {stamp} {next} {visited′ = visited′} h r t v s = record {
-  fresh = stamped-fresh stamp next visited′ t h;
-  marks-hold = omega (arith, r .marks-hold);
-  stack-holds = omega (arith, r .stack-holds);
-}
-
--- where there was none
-pub ready-still : {stamp next n : ℕ} {visited stack : List ℕ} → stamp < next → Ready stamp n visited stack → Ready next n visited stack
-ready-still {stamp} {visited = visited} h r = ready-after h r (fresh-stamped stamp visited (r .fresh)) refl refl

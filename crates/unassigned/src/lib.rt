@@ -3,9 +3,9 @@ ghost use mathlib.Core.Path.{_≡_};
 ghost use Prim.Native.Nat.{_+_, _<_, _≤_};
 ghost use lib.ListN.{length, set};
 ghost use Rattle.search.specs.Lent.{held, left};
+ghost use Rattle.search.specs.Stamps.{Unmarked};
 ghost use Rattle.use_words.specs.Words.{usesIn, AllPlaced};
 ghost use Rattle.live_steps.specs.Walk.{Long, charted, declared};
-ghost use Rattle.live_walk.specs.Walk.{Ready};
 ghost use Rattle.locals.specs.Entries.{Room, Adds};
 ghost use Rattle.unassigned.specs.Words.{wordsAt, unassignedWords, visits};
 ghost use Rattle.unassigned.specs.Pass.{AnyPass, ListsUnassigned};
@@ -64,12 +64,12 @@ fn list_local(
     count: usize,
     local: usize,
 ) -> usize
-    requires { ⌜ Ready (local + 1) n (now visited) (now stack) × (n ≤ 1600) × (local < 1024) × (local < length (now mark)) ⌝ }
+    requires { ⌜ Unmarked (local + 1) n (now visited) (now stack) × (n ≤ 1600) × (local < 1024) × (local < length (now mark)) ⌝ }
     requires { ⌜ Long n (now first) (now second) (now start) × AllPlaced n (now mine) ⌝ }
     requires { ⌜ Room 1 count (now «finding_word») ⌝ }
     ensures { λ r. ⌜ Adds (unassignedWords due local (charted n first second start) (declared declaration) (usesIn (held mine))) count «finding_word» r ⌝ }
     ensures { λ _. ⌜ left mark ≡ set (held mark) local (visits due n (charted n first second start) (declared declaration) (usesIn (held mine))) ⌝ }
-    ensures { λ _. ⌜ Ready (local + 2) n (left visited) (left stack) ⌝ }
+    ensures { λ _. ⌜ Unmarked (local + 2) n (left visited) (left stack) ⌝ }
 {
     if due {
         let walked = walk_local(
@@ -109,7 +109,7 @@ pub fn list_unassigned(
     names: usize,
 ) -> usize
     requires { ⌜ AnyPass n names first second start «name_node» «name_end» facts starts «by_local» ⌝ }
-    requires { ⌜ Ready 1 n (now visited) (now stack) × (names ≤ length (now mark)) × Room names 0 (now «finding_word») ⌝ }
+    requires { ⌜ Unmarked 1 n (now visited) (now stack) × (names ≤ length (now mark)) × Room names 0 (now «finding_word») ⌝ }
     ensures { λ r. ⌜ ListsUnassigned n names first second start «name_node» «name_end» facts starts «by_local» «finding_word» mark r ⌝ }
     ensures { λ r. ⌜ r ≤ names ⌝ }
 {

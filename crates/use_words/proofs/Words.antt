@@ -1,17 +1,18 @@
 -- A use's word tells what it was packed of, and a column of such words is a list of uses.
 -- Assumes nothing.
-use Prim.Native.Nat.{ℕ, zero, suc, _+_, _*_, _/_, _%_, _<_}
+use Prim.Native.Nat.{ℕ, _+_, _*_, _/_, _%_, _<_}
 use mathlib.Core.Path.{_≡_, refl, ap, _∙_}
 use mathlib.Core.Bool.{Bool, true, false, cond}
-use mathlib.Core.List.{List, [], _∷_}
+use mathlib.Core.List.{List, _∷_}
 use native.Mathlib.Omega.{arith}
 use native.Mathlib.Nat.{add-mul-mod-self-left, mod-eq-of-lt}
 use native.Mathlib.Numerals.{add-one}
-use lib.ListN.{length, getD, take, drop, length-drop}
+use lib.ListN.{length, getD, drop, length-drop}
 use lib.Seq.{drop-cons, getD-drop}
 use Rattle.flow.specs.declared.Found.the-variants.{At}
-use Rattle.flow.specs.Findings.{Use, node}
-use Rattle.use_words.specs.Words.{numberIn, nodeIn, localIn, kindIn, closureIn, useOf, usesIn, AllPlaced}
+use Rattle.flow.specs.Findings.{node}
+use Rattle.flow.proofs.OwnUses.{Renumbers}
+use Rattle.use_words.specs.Words.{numberIn, nodeIn, localIn, kindIn, closureIn, useOf, usesIn, spanless, AllPlaced}
 
 -- ---- a word
 
@@ -59,22 +60,11 @@ pub node-is : (w : ℕ) → node (useOf w) ≡ nodeIn w
 unfolding useOf
 node-is w = refl
 
+-- spans are of no account
+pub spanless-renumbers : Renumbers spanless
+spanless-renumbers = record { kinds = λ u. refl; closures = λ u. refl; nodes = λ u. refl }
+
 -- ---- a column of words
-
-pub uses-take : (k : ℕ) (ws : List ℕ) → usesIn (take k ws) ≡ take k (usesIn ws)
-uses-take zero ws = refl
-uses-take (suc k) [] = refl
-uses-take (suc k) (w ∷ ws) = ap (λ (us : List Use). useOf w ∷ us) (uses-take k ws)
-
-pub uses-drop : (k : ℕ) (ws : List ℕ) → usesIn (drop k ws) ≡ drop k (usesIn ws)
-uses-drop zero ws = refl
-uses-drop (suc k) [] = refl
-uses-drop (suc k) (w ∷ ws) = uses-drop k ws
-
-pub use-at : (ws : List ℕ) (i : ℕ) (u : Use) → i < length ws → getD (usesIn ws) i u ≡ useOf (getD ws i 0)
-use-at [] i u h = absurd (omega arith)
-use-at (w ∷ ws) zero u h = refl
-use-at (w ∷ ws) (suc i) u h = use-at ws i u (omega arith)
 
 -- those from place i on begin with the one at i
 pub uses-next : (ws : List ℕ) (i : ℕ) → i < length ws → usesIn (drop i ws) ≡ useOf (getD ws i 0) ∷ usesIn (drop (i + 1) ws)

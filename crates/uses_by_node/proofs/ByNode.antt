@@ -18,9 +18,12 @@ use Rattle.flow.specs.Locals.{onlyIf, Declaration}
 use Rattle.flow.specs.Findings.{Use, node, isRead, isWrite, isAliveAt, Meeting, noUse, aRead, aPureWrite, meeting, firstAt, isNoUse, isARead, isAPureWrite, range, meetsHere, predecessors, meets, orElse, Ahead, ahead, isOverwritten, isOverwrittenUnread, overwrittenAt, overwrittenBelow}
 use Rattle.flow.proofs.Laws.{mem-append}
 use Rattle.flow.proofs.Members.{in-range}
-use Rattle.flow.proofs.OwnUses.{Renumbers, renumbered-overwritten}
+use Rattle.flow.proofs.OwnUses.{renumbered-overwritten}
 use Rattle.flow.proofs.Order.{Rising as RisingBy, nil, cons, rising-append, rising-at}
 use Rattle.use_words.specs.Words.{nodeIn, useOf, usesIn, spanless}
+use Rattle.use_words.proofs.Words.{spanless-renumbers}
+use Rattle.bucket_sort.specs.Grouped.{ofKey, grouped}
+use Rattle.bucket_sort.proofs.Grouped.{of-here, of-other}
 use Rattle.uses_by_node.specs.Uses.{usesAt, byNode, Rising, overwrittenIn}
 
 -- ---- lists joined
@@ -52,13 +55,13 @@ first-stop v (u ∷ us) ys e = ap (cond (eqb (node u) v) (meeting u)) (first-sto
 -- ---- the uses at one node
 
 uses-here : (v : ℕ) (u : Use) (us : List Use) → node u ≡ v → usesAt v (u ∷ us) ≡ u ∷ usesAt v us
-uses-here v u us e = rw (eq-eqb _ _ e)
+uses-here v u us e = of-here node v u us e
 
 uses-past : (v : ℕ) (u : Use) (us : List Use) → (node u ≡ v → ⊥) → usesAt v (u ∷ us) ≡ usesAt v us
-uses-past v u us q = rw (ne-eqb _ _ q)
+uses-past v u us q = of-other node v u us q
 
 uses-own : (v : ℕ) (us : List Use) → firstAt v (usesAt v us) ≡ firstAt v us
-unfolding firstAt
+unfolding firstAt ofKey
 uses-own v [] = refl
 uses-own v (u ∷ us) = elim (ℕ-discrete (node u) v) [
   | yes e ↦ rw (uses-here v u us e, eq-eqb _ _ e)
@@ -66,7 +69,7 @@ uses-own v (u ∷ us) = elim (ℕ-discrete (node u) v) [
 ]
 
 uses-other : (v w : ℕ) (us : List Use) → (w ≡ v → ⊥) → firstAt v (usesAt w us) ≡ noUse
-unfolding firstAt
+unfolding firstAt ofKey
 uses-other v w [] q = refl
 uses-other v w (u ∷ us) q = elim (ℕ-discrete (node u) w) [
   | yes e ↦ rw (uses-here w u us e, ne-eqb (node u) v (λ p. q (sym e ∙ p))) (uses-other v w us q)
@@ -75,6 +78,7 @@ uses-other v w (u ∷ us) q = elim (ℕ-discrete (node u) w) [
 
 -- who stands in it
 uses-mem : (v : ℕ) (us : List Use) (x : Use) → List·Memᴰ x (usesAt v us) → List·Memᴰ x us × (node x ≡ v)
+unfolding ofKey
 uses-mem v [] x m = absurd (List·Memᴰ·not-nil m)
 uses-mem v (u ∷ us) x m = elim (ℕ-discrete (node u) v) [
   | yes e ↦ ⊎-elim (λ p. (List·Memᴰ·head p, ap node p ∙ e)) (λ k. let r = uses-mem v us x k in (List·Memᴰ·tail (r .0), r .1)) (front (rw (uses-here v u us e) at m))
@@ -88,18 +92,20 @@ uses-mem v (u ∷ us) x m = elim (ℕ-discrete (node u) v) [
 -- ---- the uses by node
 
 pub by-mem : (n : ℕ) (us : List Use) (x : Use) → List·Memᴰ x (byNode n us) → List·Memᴰ x us × (node x < n)
+unfolding grouped
 by-mem zero us x m = absurd (List·Memᴰ·not-nil m)
 by-mem (suc n) us x m =
     ⊎-elim (λ k. let r = by-mem n us x k in (r .0, omega (arith, r .1))) (λ k. let r = uses-mem n us x k in (r .0, omega (arith, r .1)))
     (mem-append (byNode n us) (usesAt n us) .0 m)
 
 by-beyond : (v n : ℕ) (us : List Use) → n ≤ v → firstAt v (byNode n us) ≡ noUse
-unfolding firstAt
+unfolding firstAt grouped
 by-beyond v zero us h = refl
 by-beyond v (suc n) us h = first-skip v (byNode n us) (usesAt n us) (by-beyond v n us (omega arith)) ∙ uses-other v n us (λ e. omega arith)
 
 -- each node's first use is the same
 pub first-by : (v n : ℕ) (us : List Use) → v < n → firstAt v (byNode n us) ≡ firstAt v us
+unfolding grouped
 first-by v zero us h = absurd (omega arith)
 first-by v (suc n) us h = elim (ℕ-discrete n v) [
   | yes e ↦ first-skip v (byNode n us) (usesAt n us) (by-beyond v n us (omega arith)) ∙ ap (λ (k : ℕ). firstAt v (usesAt k us)) e ∙ uses-own v us
@@ -110,6 +116,7 @@ abbrev Earlier : Use → Use → Type 0
 Earlier x y = node x ≤ node y
 
 uses-rising : (v : ℕ) (us : List Use) → RisingBy Earlier (usesAt v us)
+unfolding ofKey
 uses-rising v [] = nil
 uses-rising v (u ∷ us) = elim (ℕ-discrete (node u) v) [
   | yes e ↦ rw (uses-here v u us e) (cons {x = u} {l = usesAt v us} (λ y m. omega (arith, uses-mem v us y m .1)) (uses-rising v us))
@@ -117,6 +124,7 @@ uses-rising v (u ∷ us) = elim (ℕ-discrete (node u) v) [
 ]
 
 by-rising : (n : ℕ) (us : List Use) → RisingBy Earlier (byNode n us)
+unfolding grouped
 by-rising zero us = nil
 by-rising (suc n) us =
     rising-append (byNode n us) (usesAt n us) (by-rising n us) (uses-rising n us) (λ x y m k. omega (arith, by-mem n us x m .1, uses-mem n us y k .1))
@@ -181,7 +189,7 @@ module _ (g : Graph) (a : Ahead) where
       ∙ sym (append-assoc (onlyIf (isOverwritten g a x xs) (x ∷ [])) (overwrittenIn g a xs) (overwrittenIn g a ys))
 
   over-own : (v : ℕ) (us : List Use) → overwrittenIn g a (usesAt v us) ≡ overwrittenAt g a v us
-  unfolding overwrittenAt
+  unfolding overwrittenAt ofKey
   over-own v [] = refl
   over-own v (u ∷ us) = elim (ℕ-discrete (node u) v) [
     | yes e ↦ rw (uses-here v u us e, eq-eqb _ _ e) (ap₂ (λ (b : Bool) (l : List Use). onlyIf b (u ∷ []) ++ l) (over-same u (usesAt v us) us (rw e (uses-own v us))) (over-own v us))
@@ -190,16 +198,13 @@ module _ (g : Graph) (a : Ahead) where
 
   -- the writes that are overwritten, from left to right by node, are those of the specification
   pub overwritten-by : (n : ℕ) (us : List Use) → overwrittenIn g a (byNode n us) ≡ overwrittenBelow g a n us
-  unfolding overwrittenBelow
+  unfolding overwrittenBelow grouped
   overwritten-by zero us = refl
   overwritten-by (suc n) us =
       over-append (byNode n us) (usesAt n us) (λ x m. uses-other (node x) n us (λ e. omega (arith, by-mem n us x m .1)))
       ∙ ap₂ _++_ (overwritten-by n us) (over-own n us)
 
 -- ---- spans are of no account
-
-pub spanless-renumbers : Renumbers spanless
-spanless-renumbers = record { kinds = λ u. refl; closures = λ u. refl; nodes = λ u. refl }
 
 module _ (g : Graph) (a : Ahead) where
   only-spanless : (b : Bool) (u : Use) → onlyIf b (spanless u ∷ []) ≡ map spanless (onlyIf b (u ∷ []))

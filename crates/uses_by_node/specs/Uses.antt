@@ -11,17 +11,16 @@ use Rattle.flow.specs.Graph.{Graph}
 use Rattle.flow.specs.Locals.{onlyIf}
 use Rattle.flow.specs.Findings.{Use, node, Ahead, isOverwritten}
 use Rattle.use_words.specs.Words.{nodeIn}
+use Rattle.bucket_sort.specs.Grouped.{ofKey, grouped}
 use Rattle.live_steps.specs.Walk.{chart}
 
 -- the uses at the node v, in order
 abbrev pub usesAt : ℕ → List Use → List Use
-usesAt v [] = []
-usesAt v (u ∷ us) = onlyIf (eqb (node u) v) (u ∷ []) ++ usesAt v us
+usesAt v us = ofKey node v us
 
 -- "by node, use order within a node": those at the nodes below n
 abbrev pub byNode : ℕ → List Use → List Use
-byNode zero us = []
-byNode (suc n) us = byNode n us ++ usesAt n us
+byNode n us = grouped node n us
 
 -- words of uses whose nodes rise
 abbrev pub Rising : List ℕ → Type 0

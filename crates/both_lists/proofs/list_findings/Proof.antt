@@ -20,7 +20,7 @@ entered c = begun (listed c .before)
 list-unassigned-requires : tie.Need-list-unassigned-requires
 list-unassigned-requires c κs =
     let p = begun c .pre in
-    ((p .0 .0, p .0 .1, in-use-order (p .0 .2)), (p .1 .0 .ready, p .1 .1 .1, omega (arith, p .1 .1 .0)))
+    ((p .0 .0, p .0 .1, in-use-order (p .0 .2)), (p .1 .0 .unmarked, p .1 .1 .1, omega (arith, p .1 .1 .0)))
 
 list-overwritten-requires : tie.Need-list-overwritten-requires
 list-overwritten-requires c κs =

@@ -65,7 +65,7 @@ loop-holds c =
     let a = e .args in
     let r = e .pre .0 .0 in
     let l = m .seed .last .1 .1 .1 .1 in
-    (refl, refl, count-begin (a .stamp) (walk e) (now (a .visited)) (now (a .stack)) (st (l .0) (l .1 .0) (m .seed .result)) (r .marks-hold) (r .stack-holds) (r .fresh) (m .seed .ensures))
+    (refl, refl, count-begin (a .stamp) (walk e) (now (a .visited)) (now (a .stack)) (st (l .0) (l .1 .0) (m .seed .result)) r (m .seed .ensures))
 
 -- ---- a turn
 

@@ -30,7 +30,7 @@ make-tables-requires : tie.Need-make-tables-requires
 make-tables-requires c κs =
     let g = begun c .pre .0 .2 in
     let r = begun c .pre .1 in
-    ((g .code-table, g .use-table), ((omega (arith, g .charted .some), g .charted .few, g .named .few), tables-room 128 128 (g .facts-long) (r .2) (r .3) (r .4)))
+    ((g .columns .code-table, g .columns .use-table), ((omega (arith, g .columns .charted .some), g .columns .charted .few, g .columns .named .few), tables-room 128 128 (g .facts-long) (r .2) (r .3) (r .4)))
 
 slice-aggregate-list-findings : tie.Need-slice-aggregate-list-findings
 slice-aggregate-list-findings c = search needs
@@ -64,7 +64,7 @@ list-findings-requires c κs =
     let s = begun (made c .before) .pre in
     let g = s .0 .2 in
     let r = s .1 in
-    ((s .0 .0, s .0 .1, pair g (made c .make-tables .ensures (s .0 .0) (s .0 .1) (g .sources))), (walking-room 128 (r .2), (omega (arith, r .0, g .named .few), omega (arith, r .1, g .named .few))))
+    ((s .0 .0, s .0 .1, pair g (made c .make-tables .ensures (s .0 .0) (s .0 .1) (g .columns .sources) (g .facts-are))), (walking-room 128 (r .2), (omega (arith, r .0, g .columns .named .few), omega (arith, r .1, g .columns .named .few))))
 
 same-length : tie.Need-same-length
 same-length c = search needs
@@ -78,7 +78,7 @@ same-length-3 c = search needs
 returns : tie.Need-returns
 returns c =
     let l : tie.After-list-findings = c .before .before .before .before .before .before .before .before .before .before in
-    λ S U q. l .list-findings .ensures S U (pair q (made (l .before) .make-tables .ensures S U (q .sources)))
+    λ S U q. l .list-findings .ensures S U (pair q (made (l .before) .make-tables .ensures S U (q .columns .sources) (q .facts-are)))
 
 pub compute-small-spec : {M : Type 1} → statement M
 compute-small-spec =

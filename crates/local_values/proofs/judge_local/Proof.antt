@@ -7,9 +7,10 @@ use Prim.Native.Nat.{ℕ, _+_}
 use denote.Ref.{now}
 use lib.ListN.{take}
 use lib.Seq.{length-take-le}
+use Rattle.search.proofs.Stamps.{unmarked-after}
 use Rattle.use_words.specs.Words.{usesIn}
 use Rattle.live_steps.specs.Walk.{declared}
-use Rattle.next_uses.specs.Backwards.{Unmarked}
+use Rattle.next_uses.specs.Backwards.{AllUnmarked}
 use Rattle.locals.specs.Entries.{Added}
 use Rattle.local_values.proofs.Judged.{judged-by-marks}
 use borrow.Author.Needs.{needs}
@@ -32,18 +33,15 @@ listed c = c .before .before .before .before
 
 -- the lent columns are as long as they were
 
-unmarked-left : (c : tie.After-slice-known9) → Unmarked (begun (stamped c) .args .local + 2) (begun (stamped c) .args .n) (stamped c .mark-next-uses .last .1 .1 .1 .0) (stamped c .mark-next-uses .last .1 .1 .1 .1 .0) (stamped c .mark-next-uses .last .1 .1 .1 .1 .1 .0) (stamped c .mark-next-uses .last .1 .1 .1 .1 .1 .1 .0)
+unmarked-left : (c : tie.After-slice-known9) → AllUnmarked (begun (stamped c) .args .local + 2) (begun (stamped c) .args .n) (stamped c .mark-next-uses .last .1 .1 .1 .0) (stamped c .mark-next-uses .last .1 .1 .1 .1 .0) (stamped c .mark-next-uses .last .1 .1 .1 .1 .1 .0) (stamped c .mark-next-uses .last .1 .1 .1 .1 .1 .1 .0)
 unmarked-left c =
     let u = begun (stamped c) .pre .1 .1 .0 .2 in
     let m = stamped c .mark-next-uses .ensures .1 in
+    let s = c .before .stack .given in
     record {
-      used-holds = omega (arith, c .before .before .before .before .before .before .before .used .given, u .used-holds);
-      reads-hold = omega (arith, c .before .before .before .before .before .reads .given, u .reads-hold);
-      writes-hold = omega (arith, c .before .before .before .writes .given, u .writes-hold);
-      stack-holds = omega (arith, c .before .stack .given, u .stack-holds);
-      used-new = λ v. omega (arith, m .0 v);
-      reads-new = λ v. omega (arith, m .1 v);
-      writes-new = λ v. omega (arith, m .2 v);
+      used-new = unmarked-after (omega arith) (u .used-new) (m .0) (c .before .before .before .before .before .before .before .used .given) s;
+      reads-new = unmarked-after (omega arith) (u .reads-new) (m .1) (c .before .before .before .before .before .reads .given) s;
+      writes-new = unmarked-after (omega arith) (u .writes-new) (m .2) (c .before .before .before .writes .given) s;
     }
 
 cast-mark-next-uses : tie.Need-cast-mark-next-uses
@@ -62,7 +60,7 @@ list-values-requires : tie.Need-list-values-requires
 list-values-requires c κs =
     let p = begun (stamped (c .before .before .before)) .pre in
     let u = unmarked-left (c .before .before .before) in
-    ((record { firsts = p .0 .1; seconds = p .0 .2; reads-hold = u .reads-hold; writes-hold = u .writes-hold }, p .1 .0 .1, p .1 .0 .2), (p .1 .1 .0 .0, p .1 .1 .0 .1, p .1 .1 .1))
+    ((record { firsts = p .0 .1; seconds = p .0 .2; reads-hold = u .reads-new .marks-hold; writes-hold = u .writes-new .marks-hold }, p .1 .0 .1, p .1 .0 .2), (p .1 .1 .0 .0, p .1 .1 .0 .1, p .1 .1 .1))
 
 same-length : tie.Need-same-length
 same-length c = search needs

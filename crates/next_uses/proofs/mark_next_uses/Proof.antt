@@ -7,6 +7,7 @@ use mathlib.Core.List.{List}
 use native.Mathlib.Omega.{arith}
 use denote.Ref.{now}
 use lib.ListN.{length}
+use Rattle.search.proofs.Stamps.{unmarked-on}
 use Rattle.flow.specs.Findings.{meets, ahead}
 use Rattle.use_words.specs.Words.{usesIn}
 use Rattle.live_steps.specs.Walk.{chart, declared}
@@ -37,20 +38,20 @@ found c pure f s e j =
 mark-used-requires : tie.Need-mark-used-requires
 mark-used-requires c κs =
     let p = c .before .before .before .before .before .before .before .before .pre .1 in
-    (λ i l. omega (arith, p .0 .0 i l, p .1 .used-holds), p .1 .used-new)
+    (λ i l. omega (arith, p .0 .0 i l, p .1 .used-new .marks-hold), p .1 .used-new .fresh)
 
 search-back-requires : tie.Need-search-back-requires
 search-back-requires c κs =
     let p = begun (c .before .before .before .before .before) .pre in
     let u = p .1 .1 in
-    ((p .0 .0, p .0 .1, omega (arith, c .before .before .before .before .used .given, u .used-holds), u .reads-hold, u .stack-holds), (p .1 .0 .0, p .1 .0 .2, u .reads-new))
+    ((p .0 .0, p .0 .1, omega (arith, c .before .before .before .before .used .given, u .used-new .marks-hold)), (p .1 .0 .0, p .1 .0 .2, u .reads-new))
 
 search-back-requires-2 : tie.Need-search-back-requires-2
 search-back-requires-2 c κs =
     let b = c .before .before .before .before .before .before .before in
     let p = begun (marked b) .pre in
     let u = p .1 .1 in
-    ((p .0 .0, p .0 .1, omega (arith, b .before .before .before .before .before .used .given, u .used-holds), u .writes-hold, omega (arith, c .before .before .before .before .stack .given, u .stack-holds)), (p .1 .0 .0, p .1 .0 .2, u .writes-new))
+    ((p .0 .0, p .0 .1, omega (arith, b .before .before .before .before .before .used .given, u .used-new .marks-hold)), (p .1 .0 .0, p .1 .0 .2, unmarked-on (u .writes-new) (c .before .before .before .before .stack .given)))
 
 same-length : tie.Need-same-length
 same-length c = search needs

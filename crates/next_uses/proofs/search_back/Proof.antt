@@ -55,7 +55,7 @@ underway c =
 push-starts-requires : tie.Need-push-starts-requires Inv-loop μ-loop
 push-starts-requires c κs =
     let p = c .before .before .before .before .before .before .before .before .pre in
-    ((p .0 .0, p .0 .1, p .0 .3, p .0 .4), p .1 .0)
+    ((p .0 .0, p .0 .1, p .1 .2 .marks-hold, p .1 .2 .stack-holds), p .1 .0)
 
 loop-holds : tie.Need-loop-holds Inv-loop μ-loop
 loop-holds c =
@@ -63,7 +63,7 @@ loop-holds c =
     let b = begun q in
     let a = b .args in
     let pushed = st (q .push-starts .last .1 .1 .0) (q .push-starts .last .1 .1 .1 .0) (q .push-starts .result) in
-    (refl, refl, λ f s l p. stamp-begin (a .stamp) (sought b f s p) (now (a .marks)) (now (a .stack)) pushed (b .pre .0 .3) (b .pre .0 .4) (b .pre .1 .2) (q .push-starts .ensures))
+    (refl, refl, λ f s l p. stamp-begin (a .stamp) (sought b f s p) (now (a .marks)) (now (a .stack)) pushed (b .pre .1 .2) (q .push-starts .ensures))
 
 -- ---- in the loop
 

@@ -48,7 +48,7 @@ declaration-at-requires c κs = search needs
 part-of-requires : tie.Need-part-of-requires
 part-of-requires c κs =
     let b = begun (c .before .before) in
-    part-cut (b .pre .0 .0 .2 .parts) (b .args .local) (b .pre .0 .1)
+    part-cut (b .pre .0 .0 .2 .table .parts) (b .args .local) (b .pre .0 .1)
 
 has-value-requires : tie.Need-has-value-requires
 has-value-requires c κs = search needs
@@ -64,7 +64,7 @@ judge-local-requires c κs =
     let long = p .charted .long in (
       (p .charted .few, long .firsts, long .seconds, long .starts),
       (
-        (b .pre .1 .0, rw s (p .parts .placed ℓ h), rw s (part-rises p h)),
+        (b .pre .1 .0, rw s (p .table .parts .placed ℓ h), rw s (part-rises p h)),
         ((omega (arith, q .before .declaration-at .ensures .0, p .named .within ℓ h), omega (arith, h, p .named .few), b .pre .1 .1 .0), omega (arith, ap length s, part-few p h, b .pre .1 .1 .1)),
       ),
     )
@@ -97,7 +97,7 @@ returns c =
       omega (arith, j .1 .0, ap length s, part-few (b .pre .0 .0 .2) h),
       (
         λ S U p.
-            let known = p .known .facts-are (a .local) h in
+            let known = p .table .known .facts-are (a .local) h in
             let found : Bool = allFound (usesOf S U (a .local)) in
             let e = sym (decided q .is-judged .ensures (localAt S (a .local)) found known) ∙ q .before .before .if1 .taken in
             let has = v .before .has-value .ensures (localAt S (a .local)) found known in
@@ -113,7 +113,7 @@ returns-2 c =
     let ℓ = b .args .local in (
       omega arith,
       (
-        λ S U p. rw (none-listed S U ℓ (sym (c .before .is-judged .ensures (localAt S ℓ) (allFound (usesOf S U ℓ)) (p .known .facts-are ℓ (b .pre .0 .1))) ∙ c .if1 .left)) (added-none _ _),
+        λ S U p. rw (none-listed S U ℓ (sym (c .before .is-judged .ensures (localAt S ℓ) (allFound (usesOf S U ℓ)) (p .table .known .facts-are ℓ (b .pre .0 .1))) ∙ c .if1 .left)) (added-none _ _),
         later ℓ (b .pre .1 .1 .0),
       ),
     )

@@ -41,7 +41,7 @@ abbrev stood : tie.Start Inv-loop μ-loop → List ℕ → List ℕ → Type 0
 stood c S U = Pass (usesByNode S U (c .args .n)) S U (c .args .n) (c .args .names) (now (c .args .first)) (now (c .args .second)) (now (c .args .start)) (now (c .args .name-node)) (now (c .args .name-end)) (now (c .args .facts)) (now (c .args .starts)) (now (c .args .by-node))
 
 within : (c : tie.Start Inv-loop μ-loop) (ℓ : ℕ) → ℓ ≤ c .args .names → getD (now (c .args .starts)) ℓ 0 ≤ 1024
-within c ℓ h = let p = c .pre .0 .2 .parts in omega (arith, p .within ℓ h, p .few)
+within c ℓ h = let p = c .pre .0 .2 .table .parts in omega (arith, p .within ℓ h, p .few)
 
 loop-holds : tie.Need-loop-holds Inv-loop μ-loop
 loop-holds c =
@@ -56,7 +56,7 @@ add-local-requires c κs =
     let a = b .args in
     let d = l .loop .inv .0 in
     let h = c .before .before .before .before .before .loop-test .taken in
-    ((b .pre .0, h), (b .pre .1 .0, (d .unmarked, room-here (stood b) (now (a .starts)) (a .n) (a .names) (a .before) (now (a .finding-word)) 1024 (b .pre .1 .1 .1) (b .pre .0 .2 .parts .rising) (within b) d h)))
+    ((b .pre .0, h), (b .pre .1 .0, (d .unmarked, room-here (stood b) (now (a .starts)) (a .n) (a .names) (a .before) (now (a .finding-word)) 1024 (b .pre .1 .1 .1) (b .pre .0 .2 .table .parts .rising) (within b) d h)))
 
 add-local : tie.Need-add-local Inv-loop μ-loop
 add-local c = omega (arith, entered (called c) .loop-test .taken, begun (entered (called c) .before) .pre .0 .2 .named .few)
@@ -73,7 +73,7 @@ loop-again c =
     let i = l .loop .inv in
     let h = entered m .loop-test .taken in
     let e = m .add-local .ensures in (
-      done-turn (stood b) (now (a .starts)) (a .n) (a .names) (a .before) (now (a .finding-word)) 1024 (b .pre .1 .1 .1) (b .pre .0 .2 .parts .rising) (within b) (i .0) h (e .0) (e .1 .1) (c .before .finding-word .given) (e .1 .0),
+      done-turn (stood b) (now (a .starts)) (a .n) (a .names) (a .before) (now (a .finding-word)) 1024 (b .pre .1 .1 .1) (b .pre .0 .2 .table .parts .rising) (within b) (i .0) h (e .0) (e .1 .1) (c .before .finding-word .given) (e .1 .0),
       c .before .before .before .before .before .before .before .before .before .used .given ∙ i .1,
       c .before .before .before .before .before .before .before .reads .given ∙ i .2,
       c .before .before .before .before .before .writes .given ∙ i .3,

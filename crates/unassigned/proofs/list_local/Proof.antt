@@ -3,8 +3,9 @@
 use mathlib.Core.Path.{refl, ap, _∙_}
 use native.Mathlib.Omega.{arith}
 use lib.ListN.{set}
+use Rattle.search.proofs.Stamps.{unmarked-after, unmarked-still}
 use Rattle.locals.proofs.Entries.{added-none}
-use Rattle.unassigned.proofs.Words.{words-none, told-words, told-visits, told-small, ready-after, ready-still}
+use Rattle.unassigned.proofs.Words.{words-none, told-words, told-visits, told-small}
 use borrow.Author.Needs.{needs}
 use Rattle.unassigned.proofs.list_local.Statement.{statement}
 use Rattle.unassigned.proofs.list_local.Tie as tie
@@ -69,7 +70,7 @@ returns c =
       rw (← told-words (t .0) due (s .args .local)) (q .ensures .0),
       (
         q .ensures .1 ∙ ap (set (s .args .mark .now) (s .args .local)) (told-visits (t .0) due),
-        ready-after (omega arith) (s .pre .0 .0) (t .1) (k .0) (k .1 .0),
+        unmarked-after (omega arith) (s .pre .0 .0) (t .1) (k .0) (k .1 .0),
       ),
     )
 
@@ -79,7 +80,7 @@ same-length-5 c = search needs
 returns-2 : tie.Need-returns-2
 returns-2 c =
     let s = c .before .before .before .before .before .before .before .before .before in
-    (rw (c .if1 .left, words-none (s .args .local) 0 refl) (added-none _ _), (rw (c .if1 .left) refl, ready-still (omega arith) (s .pre .0 .0)))
+    (rw (c .if1 .left, words-none (s .args .local) 0 refl) (added-none _ _), (rw (c .if1 .left) refl, unmarked-still (omega arith) (s .pre .0 .0)))
 
 pub list-local-spec : {M : Type 1} → statement M
 list-local-spec =

@@ -44,7 +44,7 @@ listed c = c .before .before .before .before .before .before .before .before
 loop-holds : tie.Need-loop-holds Inv-loop μ-loop
 loop-holds c =
     let s = begun c in
-    (record { within = omega arith; ready = s .pre .1 .0; visited-long = refl; stack-long = refl }, λ S U p. listing-none S U _ _)
+    (record { within = omega arith; unmarked = s .pre .1 .0; visited-long = refl; stack-long = refl }, λ S U p. listing-none S U _ _)
 
 declaration-at-requires : tie.Need-declaration-at-requires Inv-loop μ-loop
 declaration-at-requires c κs =
@@ -54,7 +54,7 @@ declaration-at-requires c κs =
 part-of-requires : tie.Need-part-of-requires Inv-loop μ-loop
 part-of-requires c κs =
     let t = c .before in
-    part-cut (started (t .before) .pre .0 .2 .parts) _ (omega (arith, t .loop-test .taken))
+    part-cut (started (t .before) .pre .0 .2 .table .parts) _ (omega (arith, t .loop-test .taken))
 
 mul-is-due : tie.Need-mul-is-due Inv-loop μ-loop
 mul-is-due c =
@@ -64,7 +64,7 @@ mul-is-due c =
 shared-slice-read-is-due : tie.Need-shared-slice-read-is-due Inv-loop μ-loop
 shared-slice-read-is-due c =
     let t = c .before .before .before in
-    lt-of-lt-of-le (t .loop-test .taken) (started (t .before) .pre .0 .2 .known .long)
+    lt-of-lt-of-le (t .loop-test .taken) (started (t .before) .pre .0 .2 .table .known .long)
 
 is-due-requires : tie.Need-is-due-requires Inv-loop μ-loop
 is-due-requires c κs = tt
@@ -78,9 +78,9 @@ list-local-requires c κs =
     let s = started (t .before) in
     let p = s .pre .0 .2 in
     let l = v .1 (s .pre .0 .0) (s .pre .0 .1) p in (
-      (v .0 .ready, p .charted .few, lt-of-lt-of-le h (p .named .few), omega (arith, h, l .figures .long, s .pre .1 .1)),
+      (v .0 .unmarked, p .charted .few, lt-of-lt-of-le h (p .named .few), omega (arith, h, l .figures .long, s .pre .1 .1)),
       (
-        (p .charted .long, rw (e .before .before .part-of .ensures) (p .parts .placed (t .before .loop .local) h)),
+        (p .charted .long, rw (e .before .before .part-of .ensures) (p .table .parts .placed (t .before .loop .local) h)),
         omega (arith, h, listing-few _ _ l, listing-long _ _ l (omega (arith, h, s .pre .1 .2)), s .pre .1 .2),
       ),
     )
@@ -107,7 +107,7 @@ loop-again c =
     let s = started (t .before) in (
       going-more (v .0) h (q .ensures .1 .1) (k .0) (k .1 .0),
       λ S U p.
-          let due = e .is-due .ensures (localAt S ℓ) (allFound (usesOf S U ℓ)) (p .known .facts-are ℓ h) in
+          let due = e .is-due .ensures (localAt S ℓ) (allFound (usesOf S U ℓ)) (p .table .known .facts-are ℓ h) in
           let there = declared-at (p .named) ℓ h (d .result) (d .ensures .0) (d .ensures .1) in
           listing-more S U (v .1 S U p) (omega (arith, h, s .pre .1 .2)) (omega (arith, h, s .pre .1 .1)) (rw (local-words p ℓ h _ due _ there _ (m .ensures)) at (q .ensures .0)) (q .ensures .1 .0 ∙ ap (set (t .before .loop .mark) ℓ) (local-figure p ℓ h _ due _ there _ (m .ensures))),
     )

@@ -1,10 +1,10 @@
--- `facts::store_name` meets its contract, by whether the item is a NAME.
+-- `name_facts::store_name` meets its contract, by whether the item is a NAME.
 -- Assumes nothing.
 use native.Mathlib.Omega.{arith}
 use borrow.Author.Needs.{needs}
-use Rattle.facts.proofs.Facts.{stored-one, stored-none}
-use Rattle.facts.proofs.store_name.Statement.{statement}
-use Rattle.facts.proofs.store_name.Tie as tie
+use Rattle.name_facts.proofs.Names.{stored-one, stored-none}
+use Rattle.name_facts.proofs.store_name.Statement.{statement}
+use Rattle.name_facts.proofs.store_name.Tie as tie
 
 facts-of-requires : tie.Need-facts-of-requires
 facts-of-requires c κs = search needs

@@ -1,8 +1,8 @@
--- `facts::values_after` meets its contract, by whether the item is a LOCAL.
+-- `name_facts::values_after` meets its contract, by whether the item is a LOCAL.
 -- Assumes nothing.
 use borrow.Author.Tests.{eq-eqb, ne-eqb}
-use Rattle.facts.proofs.values_after.Statement.{statement}
-use Rattle.facts.proofs.values_after.Tie as tie
+use Rattle.name_facts.proofs.values_after.Statement.{statement}
+use Rattle.name_facts.proofs.values_after.Tie as tie
 
 returns : tie.Need-returns
 returns c = rw (eq-eqb _ 10 (c .if1 .taken))

@@ -1,13 +1,13 @@
--- `facts::find_names` meets its contract: at the loop's head the names of the first i words are stored.
+-- `name_facts::find_names` meets its contract: at the loop's head the names of the first i words are stored.
 -- Assumes nothing.
 use Prim.Native.Nat.{_-_}
 use mathlib.Core.Path.{refl}
 use native.Mathlib.Omega.{arith}
 use borrow.Author.Needs.{needs}
 use lib.ListN.{length}
-use Rattle.facts.proofs.Facts.{Reading, reading-begins, reading-turn, reading-ends}
-use Rattle.facts.proofs.find_names.Statement.{statement}
-use Rattle.facts.proofs.find_names.Tie as tie
+use Rattle.name_facts.proofs.Names.{Reading, reading-begins, reading-turn, reading-ends}
+use Rattle.name_facts.proofs.find_names.Statement.{statement}
+use Rattle.name_facts.proofs.find_names.Tie as tie
 
 abbrev Inv-loop : tie.InvT-loop
 Inv-loop kinds facts₀ names₀ values₀ before₀ i₀ facts names values before i = Reading kinds facts₀ facts names values before i

@@ -1,9 +1,9 @@
--- `facts::before_after` meets its contract, by whether the item is a NAME.
+-- `name_facts::before_after` meets its contract, by whether the item is a NAME.
 -- Assumes nothing.
 use borrow.Author.Needs.{needs}
 use borrow.Author.Tests.{eq-eqb, ne-eqb}
-use Rattle.facts.proofs.before_after.Statement.{statement}
-use Rattle.facts.proofs.before_after.Tie as tie
+use Rattle.name_facts.proofs.before_after.Statement.{statement}
+use Rattle.name_facts.proofs.before_after.Tie as tie
 
 add-result : tie.Need-add-result
 add-result c = search needs

@@ -1,10 +1,10 @@
--- `facts::facts_of` meets its contract, by the LOCAL's values.
+-- `name_facts::facts_of` meets its contract, by the LOCAL's values.
 -- Assumes nothing.
 use native.Mathlib.Omega.{arith}
 use borrow.Author.Needs.{needs}
-use Rattle.facts.proofs.Facts.{facts-open, facts-valued, facts-lacking}
-use Rattle.facts.proofs.facts_of.Statement.{statement}
-use Rattle.facts.proofs.facts_of.Tie as tie
+use Rattle.name_facts.proofs.Names.{facts-open, facts-valued, facts-lacking}
+use Rattle.name_facts.proofs.facts_of.Statement.{statement}
+use Rattle.name_facts.proofs.facts_of.Tie as tie
 
 cast-result : tie.Need-cast-result
 cast-result c = search needs
