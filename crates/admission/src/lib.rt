@@ -3,15 +3,15 @@ ghost use mathlib.Core.Path.{_≡_};
 ghost use mathlib.Core.Bool.{false};
 ghost use Rattle.flow.specs.Refusals.{leadingTests, firstApplying, itemTests, sheetVerdict, pairVerdict, badUse};
 ghost use Rattle.sheet_parts.specs.Parts.{Counted};
+use depth_tests::too_deep;
 use flow::Refusal;
 use flow::Verdict;
+use item_tests::bad_item;
 use line_tests::off_the_line;
+use name_tests::bad_name;
 use nesting_tests::bad_nesting;
-use sheet_tests::depth::too_deep;
-use sheet_tests::item::bad_item;
-use sheet_tests::name::bad_name;
-use sheet_tests::use_words::bad_use;
-use sheet_tests::use_words::name_count;
+use use_tests::bad_use;
+use use_tests::name_count;
 
 mod counts;
 

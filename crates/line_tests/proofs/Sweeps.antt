@@ -6,8 +6,8 @@ use mathlib.Core.Path.{_≡_}
 use Rattle.flow.specs.Kinds.{isCode}
 use Rattle.flow.specs.Refusals.{inLine, scopesAfter, held}
 use Rattle.flow.specs.Sheet.{Item, kind, endOf, scopeEndOf}
-use Rattle.sheet_tests.proofs.Bools.{and-pairs}
-use Rattle.sheet_tests.proofs.Sweep.{Sweep}
+use Rattle.sweeps.proofs.Bools.{and-pairs}
+use Rattle.sweeps.proofs.Sweep.{Sweep}
 use Rattle.line_tests.specs.Turn.{lineFits, heldHere}
 
 -- 6, with where the last code ends and the scope ends around

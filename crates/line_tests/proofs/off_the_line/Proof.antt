@@ -13,7 +13,7 @@ use Rattle.flow.specs.Sheet.{Item, endOf}
 use Rattle.nesting_tests.specs.Stack.{stackOf}
 use Rattle.line_tests.specs.Turn.{Scopes, Room}
 use Rattle.line_tests.proofs.Nested.{Nested, nested-room, scopes-next}
-use Rattle.sheet_tests.proofs.Sweep.{Swept, begin, onward, fails, ends, rest, rest-next, item}
+use Rattle.sweeps.proofs.Sweep.{Swept, begin, onward, fails, ends, rest, rest-next, item}
 use Rattle.line_tests.proofs.Sweeps.{lining}
 use Rattle.line_tests.proofs.off_the_line.Statement.{statement}
 use Rattle.line_tests.proofs.off_the_line.Tie as tie
