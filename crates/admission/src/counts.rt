@@ -3,6 +3,10 @@ ghost use mathlib.Core.Path.{_≡_};
 ghost use mathlib.Core.Bool.{_||_};
 ghost use Prim.Native.Nat.{_≤_};
 ghost use Rattle.flow.specs.Refusals.{miscount};
+use words::limit;
+
+// The most items or uses.
+const ITEMS: u64 = limit::ITEMS as u64;
 
 // A sheet with `head` words before its two arrays. The limit on n comes first, so that the product cannot wrap.
 pub fn miscounted(words: &[u64], head: usize) -> bool
@@ -13,7 +17,7 @@ pub fn miscounted(words: &[u64], head: usize) -> bool
         return true;
     }
     let n = words[0];
-    if n > 1024 {
+    if n > ITEMS {
         return true;
     }
     words.len() != 2 * n as usize + head

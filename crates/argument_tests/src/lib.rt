@@ -26,6 +26,12 @@ const CONDITIONS: u64 = 19;
 // The last number that a LOCAL or a label can have.
 const LAST_NUMBER: u64 = 65535;
 
+// All bits of a NAME, which has three,
+const NAME_BITS: u64 = 7;
+
+// and of a CALL, which has seven.
+const CALL_BITS: u64 = 127;
+
 // An argument that is a condition, one of `conditions`, and a scope end.
 fn scoped(argument: u64, conditions: u64) -> bool
     ensures { λ r. ⌜ r ≡ (ltb (argument % 32) conditions && ltb (argument / 32) (2 ^ 32)) ⌝ }
@@ -49,11 +55,11 @@ pub fn argument_fits(kind: u64, argument: u64) -> bool
         ELSEIF => scoped(argument, 1),
         ELSE => scoped(argument, 1),
         LOCAL => argument <= LAST_NUMBER,
-        NAME => argument <= 7,
+        NAME => argument <= NAME_BITS,
         LABEL => argument <= LAST_NUMBER,
         GOTO => argument <= LAST_NUMBER,
         RETURN => argument <= 1,
-        CALL => argument <= 127,
+        CALL => argument <= CALL_BITS,
         _ => argument == 0,
     }
 }

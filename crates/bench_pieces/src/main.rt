@@ -10,22 +10,26 @@ use libc::STDOUT_FILENO;
 use numbers::chart_number;
 use numbers::judge_number;
 use numbers::run_number;
+use words::ARGUMENT;
+use words::HALF;
+use words::SCOPE_END;
+use words::kind;
+use words::kind::END;
+use words::kind::PLAIN;
+use words::limit::DEPTH;
+use words::limit::ITEMS;
 
-// Items' words: kind + 256 × argument. The scope end of each DO is 1.
-const DO: u64 = 8193;
+// A DO whose scope ends at 1.
+const DO: u64 = kind::DO + ARGUMENT * SCOPE_END;
 
-const END: u64 = 8;
-
-const PLAIN: u64 = 18;
+// The words of a sheet with one item too many.
+const WORDS: usize = 2 * (ITEMS + 1) + 2;
 
 // What is printed for a no.
 const NO: u64 = 99;
 
-// A span's word is start + 2^32 × end.
-const HALF: u64 = 4294967296;
-
 // n PLAIN items, one after the other.
-fn plain_items(sheet: &mut [u64; 2052], n: usize)
+fn plain_items(sheet: &mut [u64; WORDS], n: usize)
     requires { ⌜ n ≤ 1025 ⌝ }
 {
     sheet[0] = n as u64;
@@ -40,7 +44,7 @@ fn plain_items(sheet: &mut [u64; 2052], n: usize)
 }
 
 // A PLAIN item in as many DO as `depth` says.
-fn nested_do(sheet: &mut [u64; 2052], depth: usize)
+fn nested_do(sheet: &mut [u64; WORDS], depth: usize)
     requires { ⌜ depth ≤ 65 ⌝ }
 {
     let n = 2 * depth + 1;
@@ -135,7 +139,7 @@ fn tell(what: &[u8], sheet: &[u64]) {
     io::write_all(STDOUT_FILENO, b"\n");
 }
 
-fn tell_first(what: &[u8], sheet: &[u64; 2052], words: usize)
+fn tell_first(what: &[u8], sheet: &[u64; WORDS], words: usize)
     requires { ⌜ words ≤ 2052 ⌝ }
 {
     let whole = &sheet[..];
@@ -145,7 +149,7 @@ fn tell_first(what: &[u8], sheet: &[u64; 2052], words: usize)
 fn items(what: &[u8], n: usize)
     requires { ⌜ n ≤ 1025 ⌝ }
 {
-    let mut sheet = [0u64; 2052];
+    let mut sheet = [0u64; WORDS];
     plain_items(&mut sheet, n);
     tell_first(what, &sheet, 2 * n + 2);
 }
@@ -153,14 +157,14 @@ fn items(what: &[u8], n: usize)
 fn nested(what: &[u8], depth: usize)
     requires { ⌜ depth ≤ 65 ⌝ }
 {
-    let mut sheet = [0u64; 2052];
+    let mut sheet = [0u64; WORDS];
     nested_do(&mut sheet, depth);
     tell_first(what, &sheet, 4 * depth + 4);
 }
 
 fn main() {
-    items(b"1024 items", 1024);
-    items(b"1025 items", 1025);
-    nested(b"64 nested DO", 64);
-    nested(b"65 nested DO", 65);
+    items(b"1024 items", ITEMS);
+    items(b"1025 items", ITEMS + 1);
+    nested(b"64 nested DO", DEPTH);
+    nested(b"65 nested DO", DEPTH + 1);
 }

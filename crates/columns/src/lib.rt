@@ -10,14 +10,11 @@ use search::clear;
 use words::ABSENT;
 use words::ARGUMENT;
 use words::HALF;
+use words::NAME_ITEM;
+use words::NAME_WITHOUT_NODE;
 use words::kind::END;
 use words::kind::LABEL;
 use words::kind::UNTIL;
-
-// A name's word is its node + 65,536 × its item + 2^32 × its scope end, and holds no node by the last number that fits.
-const ITEM: u64 = 65536;
-
-const NO_NODE: u64 = 65535;
 
 // The word of node i: its first successor stays in the column, and its second goes to the other.
 fn split_edge(first: &mut [u64], second: &mut [u64], i: usize)
@@ -43,12 +40,12 @@ pub fn split_edges(first: &mut [u64], second: &mut [u64], n: usize)
     }
 }
 
-// A name's node by its word, where 65,535 stands for no node.
+// A name's node by its word.
 fn node_of_name(w: u64) -> u64
     ensures { λ r. ⌜ r ≡ nameNode w ⌝ }
 {
-    let node = w % ITEM;
-    if node == NO_NODE { ABSENT } else { node }
+    let node = w % NAME_ITEM;
+    if node == NAME_WITHOUT_NODE { ABSENT } else { node }
 }
 
 // The word of name k: its node stays in the column, its item gives the span, and the upper half is its scope end.
@@ -66,7 +63,7 @@ fn split_name(
     ensures { λ _. ⌜ now («name_end» .exit) ≡ set (now («name_end» .entry)) k (hi (getD (now («name_node» .entry)) k 0)) ⌝ }
 {
     let w = name_node[k];
-    let item = (w / ITEM % ITEM) as usize;
+    let item = (w / NAME_ITEM % NAME_ITEM) as usize;
     name_node[k] = node_of_name(w);
     name_span[k] = spans[item];
     name_end[k] = w / HALF;

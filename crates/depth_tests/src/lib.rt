@@ -8,6 +8,10 @@ use kinds::is_closer;
 use kinds::is_opener;
 use sweeps::one;
 use words::ARGUMENT;
+use words::limit;
+
+// So many more openers than closers may have come.
+const DEPTH: u64 = limit::DEPTH as u64;
 
 pub fn too_deep(kinds: &[u64], spans: &[u64]) -> bool
     requires { ⌜ (length (now kinds) ≡ length (now spans)) × (length (now kinds) ≤ 1024) ⌝ }
@@ -17,7 +21,7 @@ pub fn too_deep(kinds: &[u64], spans: &[u64]) -> bool
     let mut closers: u64 = 0;
     let mut i = 0;
     while i < kinds.len() {
-        if closers + 64 < openers {
+        if closers + DEPTH < openers {
             return true;
         }
         let kind = kinds[i] % ARGUMENT;
@@ -25,5 +29,5 @@ pub fn too_deep(kinds: &[u64], spans: &[u64]) -> bool
         closers += one(is_closer(kind));
         i += 1;
     }
-    closers + 64 < openers
+    closers + DEPTH < openers
 }

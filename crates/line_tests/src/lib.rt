@@ -18,6 +18,10 @@ use words::SCOPE_END;
 use words::kind::ELSE;
 use words::kind::ELSEIF;
 use words::kind::UNTIL;
+use words::limit::DEPTH;
+
+// The most scopes around an item: those of the blocks, and the outermost.
+const SCOPES: usize = DEPTH + 1;
 
 fn line_after(code: bool, span: u64, line: u64) -> u64
     ensures { λ r. ⌜ r ≡ cond code (endOf span) line ⌝ }
@@ -31,8 +35,8 @@ fn line_after(code: bool, span: u64, line: u64) -> u64
 // A header is held by the blocks around its statement, an ELSEIF by those around its IF. Code that ends within the least scope
 // end around ends within all, so `lows` has that for each place of `ends`, and no item looks at the whole stack.
 fn item_held(
-    ends: &[u64; 65],
-    lows: &[u64; 65],
+    ends: &[u64; SCOPES],
+    lows: &[u64; SCOPES],
     count: usize,
     code: bool,
     line: u64,
@@ -65,7 +69,7 @@ fn item_held(
 }
 
 // A scope end on the stack at a place, and the least of it and those below.
-fn put_scope(ends: &mut [u64; 65], lows: &mut [u64; 65], at: usize, end: u64)
+fn put_scope(ends: &mut [u64; SCOPES], lows: &mut [u64; SCOPES], at: usize, end: u64)
     requires { ⌜ (0 < at) × (at < 65) ⌝ }
     requires { ⌜ Scopes at (now ends) (now lows) ⌝ }
     ensures { λ _. ⌜ stackOf (at + 1) (now (ends .exit)) ≡ end ∷ stackOf at (now (ends .entry)) ⌝ }
@@ -82,8 +86,8 @@ fn put_scope(ends: &mut [u64; 65], lows: &mut [u64; 65], at: usize, end: u64)
 
 // How many scopes are around past an item of this kind.
 fn scopes_after(
-    ends: &mut [u64; 65],
-    lows: &mut [u64; 65],
+    ends: &mut [u64; SCOPES],
+    lows: &mut [u64; SCOPES],
     count: usize,
     kind: u64,
     end: u64,
@@ -117,8 +121,8 @@ pub fn off_the_line(outer: u64, kinds: &[u64], spans: &[u64]) -> bool
     requires { ⌜ pairsUp [] (zip (now kinds) (now spans)) ≡ true ⌝ }
     ensures { λ r. ⌜ r ≡ not (inLine 0 (zip (now (kinds .entry)) (now (spans .entry))) && held (outer ∷ []) (zip (now (kinds .entry)) (now (spans .entry)))) ⌝ }
 {
-    let mut ends = [outer; 65];
-    let mut lows = [outer; 65];
+    let mut ends = [outer; SCOPES];
+    let mut lows = [outer; SCOPES];
     let mut count: usize = 1;
     let mut line = 0;
     let mut i = 0;

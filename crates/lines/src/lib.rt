@@ -14,12 +14,13 @@ use flow::Refusal;
 use line_writer::line;
 use numbers::number;
 use words::HALF;
+use words::finding::LOCAL;
 
 // Bytes that hold every output, as the specs' `roomForAll` has it.
 pub const ROOM: usize = 169140;
 
-// A finding's lower half is its list + 2 × its local.
-const LOCALS: u64 = 2147483648;
+// So many locals a finding's lower half has room for.
+const LOCALS: u64 = HALF / LOCAL;
 
 // `refused K` alone.
 pub fn refused(output: &mut [u8], refusal: Refusal) -> usize
@@ -42,8 +43,8 @@ fn finding_line(output: &mut [u8], at: usize, word: u64, span: u64) -> usize
     requires { ⌜ Room (Listing.findingLine (record { word = word; span = span })) at (now output) ⌝ }
     ensures { λ r. ⌜ Appended (Listing.findingLine (record { word = word; span = span })) at (now (output .entry)) (now (output .exit)) r ⌝ }
 {
-    let local = word / 2 % LOCALS;
-    if word % 2 == 0 {
+    let local = word / LOCAL % LOCALS;
+    if word % LOCAL == 0 {
         let values = [local, use_number(word / HALF), span % HALF, span / HALF];
         line(output, at, b"unassigned", &values)
     } else {

@@ -21,9 +21,10 @@ use words::kind::NAME;
 use words::kind::REPEAT;
 use words::kind::RETURN;
 use words::kind::UNTIL;
+use words::limit::DEPTH;
 
 // The kind of the innermost open item, 0 where nothing is open.
-fn innermost_of(opened: &[u64; 64], depth: usize) -> u64
+fn innermost_of(opened: &[u64; DEPTH], depth: usize) -> u64
     requires { ⌜ depth ≤ 64 ⌝ }
     ensures { λ r. ⌜ r ≡ innermost (stackOf depth (now (opened .entry))) ⌝ }
 {
@@ -33,7 +34,7 @@ fn innermost_of(opened: &[u64; 64], depth: usize) -> u64
     opened[depth - 1]
 }
 
-fn may_stand(opened: &[u64; 64], depth: usize, kind: u64) -> bool
+fn may_stand(opened: &[u64; DEPTH], depth: usize, kind: u64) -> bool
     requires { ⌜ depth ≤ 64 ⌝ }
     ensures { λ r. ⌜ r ≡ mayStand kind (stackOf depth (now (opened .entry))) ⌝ }
 {
@@ -57,7 +58,7 @@ fn may_stand(opened: &[u64; 64], depth: usize, kind: u64) -> bool
 }
 
 // How many items are open past one of this kind. An IF becomes an ELSE once its ELSE has come.
-fn open_after(opened: &mut [u64; 64], depth: usize, kind: u64) -> usize
+fn open_after(opened: &mut [u64; DEPTH], depth: usize, kind: u64) -> usize
     requires { ⌜ (length (now opened) ≡ 64) × (depth ≤ 64) × (depth + one (opens kind) ≤ 64) ⌝ }
     requires { ⌜ mayStand kind (stackOf depth (now opened)) ≡ true ⌝ }
     ensures { λ r. ⌜ length (now (opened .exit)) ≡ 64 ⌝ }
@@ -108,7 +109,7 @@ pub fn bad_nesting(kinds: &[u64], spans: &[u64]) -> bool
     requires { ⌜ outnumbered 0 0 (zip (now kinds) (now spans)) ≡ false ⌝ }
     ensures { λ r. ⌜ r ≡ not (pairsUp [] (zip (now (kinds .entry)) (now (spans .entry))) && sideBySide 0 (zip (now (kinds .entry)) (now (spans .entry)))) ⌝ }
 {
-    let mut opened = [0u64; 64];
+    let mut opened = [0u64; DEPTH];
     let mut depth: usize = 0;
     let mut last = 0;
     let mut i = 0;

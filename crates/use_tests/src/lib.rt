@@ -8,9 +8,20 @@ ghost use Rattle.flow.specs.Sheet.{member, zip};
 ghost use Rattle.flow.specs.Refusals.{nameCount, useFits, usesFit};
 use sweeps::one;
 use words::ARGUMENT;
+use words::CROSSING;
 use words::HALF;
 use words::USE_KIND;
 use words::kind::NAME;
+use words::use_kind::READ;
+use words::use_kind::READ_WRITE;
+use words::use_kind::WRITE;
+
+// The kinds of a use that crosses into a closure.
+const CROSSING_READ: u64 = CROSSING + READ;
+
+const CROSSING_WRITE: u64 = CROSSING + WRITE;
+
+const CROSSING_READ_WRITE: u64 = CROSSING + READ_WRITE;
 
 pub fn name_count(kinds: &[u64], spans: &[u64]) -> u64
     requires { ⌜ (length (now kinds) ≡ length (now spans)) × (length (now kinds) ≤ 1024) ⌝ }
@@ -25,17 +36,17 @@ pub fn name_count(kinds: &[u64], spans: &[u64]) -> u64
     names
 }
 
-// Kind 0 to 2, and the same in a closure.
+// A kind of use, and the same in a closure.
 fn high_fits(high: u64) -> bool
     ensures { λ r. ⌜ r ≡ member high (0 ∷ 1 ∷ 2 ∷ 4 ∷ 5 ∷ 6 ∷ []) ⌝ }
 {
     match high {
-        0 => true,
-        1 => true,
-        2 => true,
-        4 => true,
-        5 => true,
-        6 => true,
+        READ => true,
+        WRITE => true,
+        READ_WRITE => true,
+        CROSSING_READ => true,
+        CROSSING_WRITE => true,
+        CROSSING_READ_WRITE => true,
         _ => false,
     }
 }
