@@ -6,15 +6,14 @@ ghost use lib.ListN.{length, getD, set, take, drop, replicate};
 ghost use Rattle.cfg_edges.specs.Halves.{lo, hi};
 ghost use Rattle.cfg_steps.specs.Columns.{nameNode, nameItem, hasStart, painted};
 ghost use Rattle.columns.specs.Words.{CodeWithin};
+use kinds::is_closer;
 use search::clear;
 use words::ABSENT;
 use words::ARGUMENT;
 use words::HALF;
 use words::NAME_ITEM;
 use words::NAME_WITHOUT_NODE;
-use words::kind::END;
 use words::kind::LABEL;
-use words::kind::UNTIL;
 
 // The word of node i: its first successor stays in the column, and its second goes to the other.
 fn split_edge(first: &mut [u64], second: &mut [u64], i: usize)
@@ -90,14 +89,15 @@ pub fn split_names(
     }
 }
 
-// Whether a code gives its node a start, by its item's word: not where the item ends a block or is a label.
+// Whether a code gives its node a start, by its item's word: not where the item closes a block or is a label.
 fn has_start(word: u64) -> bool
     ensures { λ r. ⌜ r ≡ hasStart word ⌝ }
 {
-    match word % ARGUMENT {
-        END | UNTIL | LABEL => false,
-        _ => true,
+    let kind = word % ARGUMENT;
+    if is_closer(kind) {
+        return false;
     }
+    kind != LABEL
 }
 
 // The word of code k: its node stays in the column, its item gives the span, and the node may start there.

@@ -8,6 +8,7 @@ ghost use Rattle.flow.specs.Sheet.{member, zip};
 ghost use Rattle.flow.specs.Kinds.{kinds, opens};
 ghost use Rattle.flow.specs.Refusals.{one, innermost, mayStand, openAfter, mayFollow, outnumbered, pairsUp, sideBySide};
 ghost use Rattle.nesting_tests.specs.Stack.{stackOf};
+use kinds::ends_block;
 use kinds::is_closer;
 use kinds::is_opener;
 use words::ARGUMENT;
@@ -77,18 +78,14 @@ fn open_after(opened: &mut [u64; DEPTH], depth: usize, kind: u64) -> usize
     depth
 }
 
-// What may follow RETURN and CONTINUE: what ends their block.
-fn ends_block(kind: u64) -> bool
+// What may follow RETURN and CONTINUE: what ends their block, or 0 at the sheet's end.
+fn ends_block_or_sheet(kind: u64) -> bool
     ensures { λ r. ⌜ r ≡ member kind (0 ∷ kinds .END ∷ kinds .UNTIL ∷ kinds .ELSEIF ∷ kinds .ELSE ∷ []) ⌝ }
 {
-    match kind {
-        0 => true,
-        END => true,
-        UNTIL => true,
-        ELSEIF => true,
-        ELSE => true,
-        _ => false,
+    if kind == 0 {
+        return true;
     }
+    ends_block(kind)
 }
 
 // Whether two kinds may stand side by side, 0 at the sheet's ends.
@@ -98,8 +95,8 @@ fn may_follow(last: u64, kind: u64) -> bool
     match last {
         LOCAL => kind == NAME,
         NAME => true,
-        RETURN => ends_block(kind),
-        CONTINUE => ends_block(kind),
+        RETURN => ends_block_or_sheet(kind),
+        CONTINUE => ends_block_or_sheet(kind),
         _ => kind != NAME,
     }
 }
