@@ -10,18 +10,13 @@ ghost use Rattle.blocks.specs.Open.{labelsAt, labelsHere};
 ghost use Rattle.label_check.specs.Walk.{openedSight, nextArm, closedSight, jumped, wholeFine, Checkable, Unlabelled, Entered, Walking, After};
 use blocks::depth_after;
 use blocks::ends_at;
+use kinds::is_closer;
 use kinds::is_label;
+use kinds::is_opener;
 use words::ARGUMENT;
-use words::kind::DO;
 use words::kind::ELSE;
 use words::kind::ELSEIF;
-use words::kind::END;
-use words::kind::FOR;
 use words::kind::GOTO;
-use words::kind::IF;
-use words::kind::REPEAT;
-use words::kind::UNTIL;
-use words::kind::WHILE;
 use words::limit::ITEMS;
 
 // Where no label with a name follows any more, so that no scan need go on.
@@ -178,10 +173,15 @@ impl Sight {
         ensures { λ r. ⌜ ((ss : List ℕ) → length ss ≡ length (now (kinds .entry)) → After (now (kinds .entry)) ss (j + 1) r (now (labels .exit)) (now (marks .exit))) ⌝ }
     {
         let w = kinds[j];
-        match w % ARGUMENT {
-            DO | WHILE | REPEAT | FOR | IF => self.open(marks).enter(kinds, labels, end, j + 1),
+        let kind = w % ARGUMENT;
+        if is_opener(kind) {
+            return self.open(marks).enter(kinds, labels, end, j + 1);
+        }
+        if is_closer(kind) {
+            return self.close(marks);
+        }
+        match kind {
             ELSEIF | ELSE => self.next_arm().enter(kinds, labels, end, j + 1),
-            END | UNTIL => self.close(marks),
             GOTO => self.jump(labels, w / ARGUMENT),
             _ => self,
         }
