@@ -44,7 +44,11 @@ fn node_of_name(w: u64) -> u64
     ensures { λ r. ⌜ r ≡ nameNode w ⌝ }
 {
     let node = w % NAME_ITEM;
-    if node == NAME_WITHOUT_NODE { ABSENT } else { node }
+    if node == NAME_WITHOUT_NODE {
+        ABSENT
+    } else {
+        node
+    }
 }
 
 // The word of name k: its node stays in the column, its item gives the span, and the upper half is its scope end.

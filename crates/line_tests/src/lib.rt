@@ -8,7 +8,7 @@ ghost use Rattle.flow.specs.Sheet.{zip, endOf};
 ghost use Rattle.flow.specs.Kinds.{isCode};
 ghost use Rattle.flow.specs.Refusals.{outnumbered, pairsUp, inLine, scopesAfter, held};
 ghost use Rattle.nesting_tests.specs.Stack.{stackOf};
-ghost use Rattle.line_tests.specs.Turn.{lineFits, heldHere, Room, Scopes};
+ghost use Rattle.line_tests.specs.Turn.{inOrder, heldHere, Room, Scopes};
 use kinds::is_closer;
 use kinds::is_code;
 use kinds::is_opener;
@@ -23,13 +23,14 @@ use words::limit::DEPTH;
 // The most scopes around an item: those of the blocks, and the outermost.
 const SCOPES: usize = DEPTH + 1;
 
-fn line_after(code: bool, span: u64, line: u64) -> u64
-    ensures { λ r. ⌜ r ≡ cond code (endOf span) line ⌝ }
+// Where the last code ends, past an item.
+fn reached_after(code: bool, span: u64, reached: u64) -> u64
+    ensures { λ r. ⌜ r ≡ cond code (endOf span) reached ⌝ }
 {
     if code {
         return span / HALF;
     }
-    line
+    reached
 }
 
 // A header is held by the blocks around its statement, an ELSEIF by those around its IF. Code that ends within the least scope
@@ -39,19 +40,19 @@ fn item_held(
     lows: &[u64; SCOPES],
     count: usize,
     code: bool,
-    line: u64,
+    reached: u64,
     word: u64,
     span: u64,
 ) -> bool
     requires { ⌜ Room count (word % 256) ⌝ }
     requires { ⌜ Scopes count (now ends) (now lows) ⌝ }
     requires { ⌜ code ≡ isCode (record { word = word; span = span }) ⌝ }
-    ensures { λ r. ⌜ r ≡ (lineFits line (record { word = word; span = span }) && heldHere (stackOf count (now (ends .entry))) (record { word = word; span = span })) ⌝ }
+    ensures { λ r. ⌜ r ≡ (inOrder reached (record { word = word; span = span }) && heldHere (stackOf count (now (ends .entry))) (record { word = word; span = span })) ⌝ }
 {
     if !code {
         return true;
     }
-    if span % HALF < line {
+    if span % HALF < reached {
         return false;
     }
     let kind = word % ARGUMENT;
@@ -124,16 +125,16 @@ pub fn off_the_line(outer: u64, kinds: &[u64], spans: &[u64]) -> bool
     let mut ends = [outer; SCOPES];
     let mut lows = [outer; SCOPES];
     let mut count: usize = 1;
-    let mut line = 0;
+    let mut reached = 0;
     let mut i = 0;
     while i < kinds.len() {
         let word = kinds[i];
         let span = spans[i];
         let code = is_code(word);
-        if !item_held(&ends, &lows, count, code, line, word, span) {
+        if !item_held(&ends, &lows, count, code, reached, word, span) {
             return true;
         }
-        line = line_after(code, span, line);
+        reached = reached_after(code, span, reached);
         count = scopes_after(
             &mut ends,
             &mut lows,

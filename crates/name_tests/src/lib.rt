@@ -10,8 +10,8 @@ use words::HALF;
 use words::kind::LOCAL;
 use words::kind::NAME;
 
-fn name_fits(local: u64, line: u64, span: u64) -> bool
-    ensures { λ r. ⌜ r ≡ nameFits local line span ⌝ }
+fn name_fits(local: u64, reached: u64, span: u64) -> bool
+    ensures { λ r. ⌜ r ≡ nameFits local reached span ⌝ }
 {
     let start = span % HALF;
     let end = span / HALF;
@@ -24,7 +24,7 @@ fn name_fits(local: u64, line: u64, span: u64) -> bool
     if end > local / HALF {
         return false;
     }
-    line <= start
+    reached <= start
 }
 
 pub fn bad_name(kinds: &[u64], spans: &[u64]) -> bool
@@ -32,19 +32,19 @@ pub fn bad_name(kinds: &[u64], spans: &[u64]) -> bool
     ensures { λ r. ⌜ r ≡ not (namesFit 0 0 (zip (now (kinds .entry)) (now (spans .entry)))) ⌝ }
 {
     let mut local = 0;
-    let mut line = 0;
+    let mut reached = 0;
     let mut i = 0;
     while i < kinds.len() {
         let kind = kinds[i] % ARGUMENT;
         let span = spans[i];
         if kind == LOCAL {
             local = span;
-            line = 0;
+            reached = 0;
         } else if kind == NAME {
-            if !name_fits(local, line, span) {
+            if !name_fits(local, reached, span) {
                 return true;
             }
-            line = span / HALF;
+            reached = span / HALF;
         }
         i += 1;
     }

@@ -50,7 +50,12 @@ fn marks_hold(mark: [u64; LOCALS], stored: Stored) -> bool {
 }
 
 // The findings' cells are a case's last words.
-fn findings_hold(word: [u64; FINDINGS], span: [u64; FINDINGS], words: &[u64], stored: Stored) -> bool {
+fn findings_hold(
+    word: [u64; FINDINGS],
+    span: [u64; FINDINGS],
+    words: &[u64],
+    stored: Stored,
+) -> bool {
     let n = stored.findings as usize;
     let span_from = finding_end(word, words, stored.findings_from, n);
     finding_end(span, words, span_from, n) == words.len()

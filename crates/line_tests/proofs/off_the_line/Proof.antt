@@ -19,14 +19,14 @@ use Rattle.line_tests.proofs.off_the_line.Statement.{statement}
 use Rattle.line_tests.proofs.off_the_line.Tie as tie
 
 abbrev Inv-loop : tie.InvT-loop
-Inv-loop outer kinds spans ends₀ lows₀ count₀ line₀ i₀ ends lows count line i =
+Inv-loop outer kinds spans ends₀ lows₀ count₀ reached₀ i₀ ends lows count reached i =
     Scopes count ends lows
     × (0 < count)
     × Nested (count - 1) (rest kinds spans i)
-    × Swept lining kinds spans (0, outer ∷ []) i (line, stackOf count ends)
+    × Swept lining kinds spans (0, outer ∷ []) i (reached, stackOf count ends)
 
 abbrev μ-loop : tie.MeasureT-loop
-μ-loop outer kinds spans ends₀ lows₀ count₀ line₀ i₀ ends lows count line i = length kinds - i
+μ-loop outer kinds spans ends₀ lows₀ count₀ reached₀ i₀ ends lows count reached i = length kinds - i
 
 nested-here : (c : tie.In-loop Inv-loop μ-loop) → Nested (c .before .loop .count - 1) (item (now (c .before .before .before .before .args .kinds)) (now (c .before .before .before .before .args .spans)) (c .before .loop .i) ∷ rest (now (c .before .before .before .before .args .kinds)) (now (c .before .before .before .before .args .spans)) (c .before .loop .i + 1))
 nested-here c =
@@ -66,8 +66,8 @@ item-held-requires c κs = (room-here (c .before .before .before .before .before
 returns : tie.Need-returns Inv-loop μ-loop
 returns c = rw (fails (c .before .before .before .before .before .before .before .before .loop .inv .3) (c .before .before .before .before .before .before .before .before .before .before .before .pre .0 .0) (c .before .before .before .before .before .before .before .loop-test .taken) (sym (c .before .item-held .ensures) ∙ not-true _ (c .if1 .taken)))
 
-line-after-requires : tie.Need-line-after-requires Inv-loop μ-loop
-line-after-requires c κs = tt
+reached-after-requires : tie.Need-reached-after-requires Inv-loop μ-loop
+reached-after-requires c κs = tt
 
 scopes-after-requires : tie.Need-scopes-after-requires Inv-loop μ-loop
 scopes-after-requires c κs = (room-here (c .before .before .before .before .before .before .before .before .before .before), c .before .before .before .before .before .before .before .before .before .before .before .loop .inv .0)
@@ -87,7 +87,7 @@ loop-again c =
       c .scopes-after .ensures .1,
       next .0,
       next .1,
-      rw (c .before .before .before .line-after .ensures ∙ ap (λ (b : Bool). cond b (endOf (it .span)) (l .line)) (c .before .before .before .before .before .before .before .before .is-code .ensures (it .span)), c .scopes-after .ensures .0)
+      rw (c .before .before .before .reached-after .ensures ∙ ap (λ (b : Bool). cond b (endOf (it .span)) (l .reached)) (c .before .before .before .before .before .before .before .before .is-code .ensures (it .span)), c .scopes-after .ensures .0)
           (onward (l .inv .3) (c .before .before .before .before .before .before .before .before .before .before .before .before .before .before .before .pre .0 .0) (c .before .before .before .before .before .before .before .before .before .before .before .loop-test .taken) (sym (c .before .before .before .before .before .item-held .ensures) ∙ not-false _ (c .before .before .before .before .if1 .left))),
     )
 
@@ -109,7 +109,7 @@ off-the-line-spec =
     is-code-requires
     item-held-requires
     returns
-    line-after-requires
+    reached-after-requires
     scopes-after-requires
     add-i
     loop-less

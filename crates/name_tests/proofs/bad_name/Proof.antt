@@ -12,10 +12,10 @@ use Rattle.name_tests.proofs.bad_name.Statement.{statement}
 use Rattle.name_tests.proofs.bad_name.Tie as tie
 
 abbrev Inv-loop : tie.InvT-loop
-Inv-loop kinds spans local₀ line₀ i₀ local line i = Swept naming kinds spans (0, 0) i (local, line)
+Inv-loop kinds spans local₀ reached₀ i₀ local reached i = Swept naming kinds spans (0, 0) i (local, reached)
 
 abbrev μ-loop : tie.MeasureT-loop
-μ-loop kinds spans local₀ line₀ i₀ local line i = length kinds - i
+μ-loop kinds spans local₀ reached₀ i₀ local reached i = length kinds - i
 
 loop-holds : tie.Need-loop-holds Inv-loop μ-loop
 loop-holds c = begin naming _ _ (0, 0)

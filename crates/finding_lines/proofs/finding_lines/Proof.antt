@@ -1,4 +1,4 @@
--- `lines::finding_lines` meets its contract: at the loop's head the lines of the first i findings stand.
+-- `finding_lines::finding_lines` meets its contract: at the loop's head the lines of the first i findings stand.
 -- Assumes nothing.
 use Prim.Native.Nat.{_<_, _-_}
 use mathlib.Core.Path.{_≡_}
@@ -8,11 +8,11 @@ use lib.ListN.{length, getD}
 use Rattle.flow.specs.Locals.{Finding}
 use Rattle.flow.specs.Listing.{findingLine}
 use Rattle.line_writer.proofs.Pieces.{Passed, none, long, room, turn, all}
-use Rattle.lines.specs.Report.{firstFindings}
-use Rattle.lines.proofs.Rows.{rows, row}
-use Rattle.lines.proofs.Texts.{findings-pieces}
-use Rattle.lines.proofs.finding_lines.Statement.{statement}
-use Rattle.lines.proofs.finding_lines.Tie as tie
+use Rattle.finding_lines.specs.Findings.{firstFindings}
+use Rattle.finding_lines.proofs.Rows.{rows, row}
+use Rattle.finding_lines.proofs.Texts.{findings-pieces}
+use Rattle.finding_lines.proofs.finding_lines.Statement.{statement}
+use Rattle.finding_lines.proofs.finding_lines.Tie as tie
 
 abbrev noFinding : Finding
 noFinding = record { word = 0; span = 0 }

@@ -1,8 +1,8 @@
--- `bench_pieces::nested_do` is safe and ends. Assumes nothing.
+-- `limit_cases::nested_do` is safe and ends. Assumes nothing.
 use Prim.Native.Nat.{_≤_, _-_}
 use borrow.Author.Needs.{needs}
-use Rattle.bench_pieces.proofs.nested_do.Statement.{statement}
-use Rattle.bench_pieces.proofs.nested_do.Tie as tie
+use Rattle.limit_cases.proofs.nested_do.Statement.{statement}
+use Rattle.limit_cases.proofs.nested_do.Tie as tie
 
 abbrev Inv-loop : tie.InvT-loop
 Inv-loop sheet₀ depth n i₀ sheet i = i ≤ depth

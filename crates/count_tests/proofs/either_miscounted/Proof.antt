@@ -1,8 +1,8 @@
--- `admission::counts::either_miscounted` meets its contract. Assumes nothing.
+-- `count_tests::either_miscounted` meets its contract. Assumes nothing.
 use borrow.Author.Needs.{needs}
 use mathlib.Core.Path.{_∙_, sym}
-use Rattle.admission.proofs.counts.either_miscounted.Statement.{statement}
-use Rattle.admission.proofs.counts.either_miscounted.Tie as tie
+use Rattle.count_tests.proofs.either_miscounted.Statement.{statement}
+use Rattle.count_tests.proofs.either_miscounted.Tie as tie
 
 miscounted-requires : tie.Need-miscounted-requires
 miscounted-requires c κs = search needs

@@ -1,9 +1,9 @@
--- `lines::finding_line` meets its contract, by the finding's list.
+-- `finding_lines::finding_line` meets its contract, by the finding's list.
 -- Assumes nothing.
 use borrow.Author.Needs.{needs}
-use Rattle.lines.proofs.Texts.{unassigned, overwritten}
-use Rattle.lines.proofs.finding_line.Statement.{statement}
-use Rattle.lines.proofs.finding_line.Tie as tie
+use Rattle.finding_lines.proofs.Texts.{unassigned, overwritten}
+use Rattle.finding_lines.proofs.finding_line.Statement.{statement}
+use Rattle.finding_lines.proofs.finding_line.Tie as tie
 
 use-number-requires : tie.Need-use-number-requires
 use-number-requires c κs = search needs

@@ -1,9 +1,9 @@
--- `admission::counts::miscounted` meets its contract. Assumes nothing.
+-- `count_tests::miscounted` meets its contract. Assumes nothing.
 use native.Mathlib.Omega.{arith}
 use borrow.Author.Tests.{lt-ltb, le-ltb}
 use Rattle.flow.specs.Refusals.{miscount}
-use Rattle.admission.proofs.counts.miscounted.Statement.{statement}
-use Rattle.admission.proofs.counts.miscounted.Tie as tie
+use Rattle.count_tests.proofs.miscounted.Statement.{statement}
+use Rattle.count_tests.proofs.miscounted.Tie as tie
 
 returns : tie.Need-returns
 unfolding miscount

@@ -1,8 +1,8 @@
--- `bench_pieces::plain_items` is safe and ends. Assumes nothing.
+-- `limit_cases::plain_items` is safe and ends. Assumes nothing.
 use Prim.Native.Nat.{_≤_, _-_}
 use borrow.Author.Needs.{needs}
-use Rattle.bench_pieces.proofs.plain_items.Statement.{statement}
-use Rattle.bench_pieces.proofs.plain_items.Tie as tie
+use Rattle.limit_cases.proofs.plain_items.Statement.{statement}
+use Rattle.limit_cases.proofs.plain_items.Tie as tie
 
 abbrev Inv-loop : tie.InvT-loop
 Inv-loop sheet₀ n i₀ sheet i = i ≤ n
