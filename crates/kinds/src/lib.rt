@@ -1,4 +1,4 @@
-// What a kind word says, asked here and nowhere else: whether an item is code or a label, whether its kind opens, closes or ends a block, what a condition is known to be and may turn out to be, and whether a call raises.
+// What a kind word says, asked here and nowhere else: whether an item is code or a label that has a name, whether its kind opens, closes or ends a block, what a condition is known to be and may turn out to be, and whether a call raises.
 ghost use mathlib.Core.Path.{_≡_};
 ghost use Prim.Native.Nat.{ℕ};
 ghost use Rattle.flow.specs.Kinds.{isCode, opens, closes, literalTruth, raises};

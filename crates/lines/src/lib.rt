@@ -1,5 +1,4 @@
 // The lines that flowlist prints, written into a lent output.
-ghost use mathlib.Core.Path.{_≡_};
 ghost use mathlib.Core.List.{[]};
 ghost use Prim.Native.Nat.{_≤_};
 ghost use lib.ListN.{length};
