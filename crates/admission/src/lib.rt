@@ -3,17 +3,17 @@ ghost use mathlib.Core.Path.{_≡_};
 ghost use mathlib.Core.Bool.{false};
 ghost use Rattle.flow.specs.Refusals.{leadingTests, firstApplying, itemTests, sheetVerdict, pairVerdict, badUse};
 ghost use Rattle.sheet_parts.specs.Parts.{Counted};
+use count_tests::either_miscounted;
+use count_tests::miscounted;
+use depth_tests::too_deep;
 use flow::Refusal;
 use flow::Verdict;
+use item_tests::bad_item;
 use line_tests::off_the_line;
+use name_tests::bad_name;
 use nesting_tests::bad_nesting;
-use sheet_tests::depth::too_deep;
-use sheet_tests::item::bad_item;
-use sheet_tests::name::bad_name;
-use sheet_tests::use_words::bad_use;
-use sheet_tests::use_words::name_count;
-
-mod counts;
+use use_tests::bad_use;
+use use_tests::name_count;
 
 // 3 to 7, which ask of the sheet alone.
 fn item_verdict(sheet: &[u64]) -> Verdict
@@ -70,14 +70,14 @@ fn leading_verdict(short: bool, miscounted: bool, sheet: &[u64]) -> Verdict
 pub fn sheet_verdict(short: bool, sheet: &[u64]) -> Verdict
     ensures { λ r. ⌜ r ≡ sheetVerdict short (now (sheet .entry)) ⌝ }
 {
-    leading_verdict(short, counts::miscounted(sheet, 2), sheet)
+    leading_verdict(short, miscounted(sheet, 2), sheet)
 }
 
 // Of every call that takes a pair. A further test of the pair comes behind 8.
 pub fn pair_verdict(short: bool, sheet: &[u64], uses: &[u64]) -> Verdict
     ensures { λ r. ⌜ r ≡ pairVerdict short (now (sheet .entry)) (now (uses .entry)) ⌝ }
 {
-    let leading = leading_verdict(short, counts::either_miscounted(sheet, uses), sheet);
+    let leading = leading_verdict(short, either_miscounted(sheet, uses), sheet);
     if let Verdict::Refused(refusal) = leading {
         return Verdict::Refused(refusal);
     }

@@ -11,6 +11,7 @@ use flow::JudgeAnswer;
 use flow::LabelAnswer;
 use flow::RunAnswer;
 use numbers::number;
+use words::HALF;
 
 // What the lowest bit of a field counts: of the nodes, bit 4,
 const NODES: u64 = 0x10;
@@ -19,7 +20,7 @@ const NODES: u64 = 0x10;
 const CODES: u64 = 0x1_0000;
 
 // of the names, bit 32,
-const NAMES: u64 = 0x1_0000_0000;
+const NAMES: u64 = HALF;
 
 // of the findings, bit 48,
 const FINDINGS: u64 = 0x1_0000_0000_0000;
@@ -28,7 +29,7 @@ const FINDINGS: u64 = 0x1_0000_0000_0000;
 const YES: u64 = 0x10;
 
 // and of run's node, bit 32.
-const NODE: u64 = 0x1_0000_0000;
+const NODE: u64 = HALF;
 
 fn counts_word(counts: Counts, findings: usize) -> u64
     requires { ⌜ CountsFit (judgeTold (JudgeAnswer.Judged counts findings)) ⌝ }

@@ -15,6 +15,7 @@ use Rattle.flow.specs.Sheet.{Item, kind, kindOf, argumentOf}
 use Rattle.flow.specs.Kinds.{kinds, closes, opens}
 use Rattle.flow.specs.Tree.{Stmt, Arms, Frame, Open, simple, do-block, while-loop, repeat-loop, for-loop, if-stmt, no-more, elseif, otherwise, nothingRead, outer, inFront, opened, read, labelName, labelsOf}
 use Rattle.flow.specs.Locals.{onlyIf}
+use Rattle.kinds.specs.Ends.{endsBlock}
 use Rattle.kinds.specs.Label.{isLabel}
 use Rattle.blocks.specs.Open.{itemAt, openAt, labelsAt, frameAt, toCome, labelsHere, Ender, endsAt, depthAfter}
 use Rattle.blocks.proofs.Parse.{read-at, read-end, read-close, read-do, read-while, read-repeat, read-for, read-if, read-elseif, read-else, read-simple}
@@ -182,37 +183,21 @@ here-named w d z e = rw (eq-eqb d 0 z, e)
 
 -- ---- the tests of the scan
 
-pub ends-low : (k d : ℕ) → k < 6 → endsAt k d ≡ false
+pub ends-here : (k d : ℕ) → d ≡ 0 → endsBlock k ≡ endsAt k d
 unfolding endsAt
-ends-low k d h = rw (lt-leb 6 k h) (go (eqb d 0))
-  where
-    go : (t : Bool) → (t && false) ≡ false
-    go true = refl
-    go false = refl
+ends-here k d z = rw (eq-eqb d 0 z)
 
-pub ends-most : (k d : ℕ) → d ≡ 0 → 6 ≤ k → leb k 9 ≡ endsAt k d
-unfolding endsAt
-ends-most k d z h = rw (eq-eqb d 0 z, le-leb 6 k h)
-
-pub depth-zero : (k d : ℕ) → k ≡ 0 → d ≡ depthAfter k d
+pub depth-open : (k d : ℕ) → opens k ≡ true → d + 1 ≡ depthAfter k d
 unfolding depthAfter
-depth-zero k d e = rw e
+depth-open k d e = rw e
 
-pub depth-open : (k d : ℕ) → (k ≡ 0 → ⊥) → k ≤ 5 → d + 1 ≡ depthAfter k d
+pub depth-close : (k d : ℕ) → opens k ≡ false → closes k ≡ true → d - 1 ≡ depthAfter k d
 unfolding depthAfter
-depth-open k d q h = rw (le-leb 1 k (omega arith), le-leb k 5 h)
+depth-close k d e f = rw (e, f)
 
-pub depth-end : (k d : ℕ) → k ≡ 8 → d - 1 ≡ depthAfter k d
+pub depth-same : (k d : ℕ) → opens k ≡ false → closes k ≡ false → d ≡ depthAfter k d
 unfolding depthAfter
-depth-end k d e = rw e
-
-pub depth-until : (k d : ℕ) → k ≡ 9 → d - 1 ≡ depthAfter k d
-unfolding depthAfter
-depth-until k d e = rw e
-
-pub depth-else : (k d : ℕ) → 5 < k → (k ≡ 8 → ⊥) → (k ≡ 9 → ⊥) → d ≡ depthAfter k d
-unfolding depthAfter
-depth-else k d h p q = rw (le-leb 1 k (omega arith), lt-leb k 5 h, ne-eqb k 8 p, ne-eqb k 9 q)
+depth-same k d e f = rw (e, f)
 
 -- a turn goes one deeper at most
 pub depth-step : (k d j : ℕ) {n : ℕ} → n ≡ depthAfter k d → d ≤ j → n ≤ j + 1

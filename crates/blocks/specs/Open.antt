@@ -4,11 +4,12 @@ use mathlib.Core.Bool.{Bool, cond, _&&_}
 use mathlib.Core.List.{List, [], _∷_}
 use Prim.Native.Nat.{ℕ, zero, suc, _+_, _-_, _≤_}
 use lib.ListN.{drop, getD}
-use lib.Dec.{eqb, leb}
+use lib.Dec.{eqb}
 use Rattle.flow.specs.Sheet.{Item, zip, argumentOf}
 use Rattle.flow.specs.Kinds.{opens, closes}
 use Rattle.flow.specs.Tree.{Frame, Open, nothingRead, parse, labelsOf}
 use Rattle.flow.specs.Locals.{onlyIf}
+use Rattle.kinds.specs.Ends.{endsBlock}
 use Rattle.kinds.specs.Label.{isLabel}
 
 -- ---- the open blocks
@@ -45,7 +46,7 @@ pub record Ender (k : ℕ) : Type 0 where
 
 -- a kind that ends the block
 unfoldable pub endsAt : ℕ → ℕ → Bool
-endsAt k d = eqb d 0 && (leb 6 k && leb k 9)
+endsAt k d = eqb d 0 && endsBlock k
 
 unfoldable pub depthAfter : ℕ → ℕ → ℕ
 depthAfter k d = cond (opens k) (d + 1) (cond (closes k) (d - 1) d)

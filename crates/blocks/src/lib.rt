@@ -2,10 +2,9 @@
 ghost use mathlib.Core.Path.{_≡_};
 ghost use Prim.Native.Nat.{_-_, _<_};
 ghost use Rattle.blocks.specs.Open.{endsAt, depthAfter};
-use words::kind::ELSEIF;
-use words::kind::END;
-use words::kind::IF;
-use words::kind::UNTIL;
+use kinds::ends_block;
+use kinds::is_closer;
+use kinds::is_opener;
 
 // Whether an item of a kind ends the block that a scan started in.
 pub fn ends_at(kind: u64, depth: usize) -> bool
@@ -14,10 +13,7 @@ pub fn ends_at(kind: u64, depth: usize) -> bool
     if depth != 0 {
         return false;
     }
-    if kind < ELSEIF {
-        return false;
-    }
-    kind <= UNTIL
+    ends_block(kind)
 }
 
 // How deep a scan is past an item of a kind.
@@ -25,16 +21,10 @@ pub fn depth_after(kind: u64, depth: usize) -> usize
     requires { ⌜ depth < 1024 ⌝ }
     ensures { λ r. ⌜ r ≡ depthAfter kind depth ⌝ }
 {
-    if kind == 0 {
-        return depth;
-    }
-    if kind <= IF {
+    if is_opener(kind) {
         return depth + 1;
     }
-    if kind == END {
-        return less(depth);
-    }
-    if kind == UNTIL {
+    if is_closer(kind) {
         return less(depth);
     }
     depth

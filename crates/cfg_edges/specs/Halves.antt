@@ -1,12 +1,10 @@
--- The words of edges and labels while a graph is built, each of two halves, and the edges that a condition has. A word holds both successors of a node; a label's word its name and node.
+-- The words of edges and labels while a graph is built, each of two halves. A word holds both successors of a node; a label's word its name and node.
 -- Assumes nothing: these are definitions.
-use mathlib.Core.Bool.{Bool, true, false, cond}
+use mathlib.Core.Bool.{cond}
 use mathlib.Core.List.{List, [], _∷_}
 use Prim.Native.Nat.{ℕ, zero, suc, _+_, _*_, _/_, _%_, _^_}
 use lib.ListN.{getD, set}
 use lib.Dec.{eqb}
-use Rattle.flow.specs.declared.Truth.{Truth}
-use Rattle.flow.specs.declared.Truth.the-variants.{False, True, Unknown}
 use Rattle.flow.specs.Graph.{Label, absent}
 
 -- the halves of a word
@@ -27,14 +25,3 @@ joined a b es =
 unfoldable pub labelList : ℕ → List ℕ → List Label
 labelList zero ls = []
 labelList (suc k) ls = record { name = lo (getD ls k 0); node = hi (getD ls k 0) } ∷ labelList k ls
-
--- whether a condition may fail, and whether it may hold
-abbrev pub mayFail : Truth → Bool
-mayFail False = true
-mayFail True = false
-mayFail Unknown = true
-
-abbrev pub mayHold : Truth → Bool
-mayHold False = false
-mayHold True = true
-mayHold Unknown = true

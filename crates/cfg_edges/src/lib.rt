@@ -1,13 +1,12 @@
-// The edges of a graph that is being built: an edge in its word, the node that a label's name stands for, and which edges a condition has.
+// The edges of a graph that is being built: an edge in its word, and the node that a label's name stands for.
 ghost use mathlib.Core.Path.{_≡_};
 ghost use mathlib.Core.Bool.{cond};
 ghost use mathlib.Core.Logic.{_⊎_};
 ghost use Prim.Native.Nat.{_≤_, _<_, _^_};
 ghost use lib.ListN.{length};
 ghost use Rattle.flow.specs.Graph.{labelNode};
-ghost use Rattle.cfg_edges.specs.Halves.{joined, labelList, mayFail, mayHold};
+ghost use Rattle.cfg_edges.specs.Halves.{joined, labelList};
 use flow::Found;
-use flow::Truth;
 use words::ABSENT;
 use words::HALF;
 use words::NO_NODE;
@@ -55,25 +54,4 @@ pub fn label_node(labels: &[u64], count: usize, name: u64) -> Found
         }
     }
     Found::Nothing
-}
-
-// Whether a condition may fail, and whether it may hold.
-pub fn may_fail(truth: Truth) -> bool
-    ensures { λ r. ⌜ r ≡ mayFail truth ⌝ }
-{
-    match truth {
-        Truth::False => true,
-        Truth::True => false,
-        Truth::Unknown => true,
-    }
-}
-
-pub fn may_hold(truth: Truth) -> bool
-    ensures { λ r. ⌜ r ≡ mayHold truth ⌝ }
-{
-    match truth {
-        Truth::False => false,
-        Truth::True => true,
-        Truth::Unknown => true,
-    }
 }

@@ -11,7 +11,8 @@ use Rattle.flow.specs.declared.Truth.{Truth}
 use Rattle.flow.specs.declared.Truth.the-variants.{False, True, Unknown}
 use Rattle.flow.specs.Graph.{Graph, absent, connect, setCurrent, recordCode, enterWhen, unlessTrue, unlessFalse}
 use Rattle.cfg_steps.specs.declared.GraphBuilder.{GraphBuilder}
-use Rattle.cfg_edges.specs.Halves.{joined, mayFail, mayHold}
+use Rattle.cfg_edges.specs.Halves.{joined}
+use Rattle.kinds.specs.Truths.{mayFail, mayHold}
 use Rattle.cfg_steps.specs.Columns.{Cols, cols, graphOf, settingsOf, Good, Did, repeatEnd}
 use Rattle.cfg_steps.proofs.Fits.{good-as}
 use Rattle.cfg_steps.proofs.Ops.{edge-did, withCursor, did-trans, current-of}

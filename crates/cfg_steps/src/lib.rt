@@ -17,14 +17,15 @@ use blocks::ends_at;
 use cfg_edges::connect;
 use cfg_edges::connect_if;
 use cfg_edges::label_node;
-use cfg_edges::may_fail;
-use cfg_edges::may_hold;
 use flow::Found;
 use flow::Truth;
 use kinds::call_raises;
 use kinds::is_label;
+use kinds::may_fail;
+use kinds::may_hold;
 use words::ARGUMENT;
 use words::HALF;
+use words::NAME_ITEM;
 use words::NO_NODE;
 use words::NO_SUCCESSORS;
 use words::exit;
@@ -37,10 +38,8 @@ use words::kind::LABEL;
 use words::kind::NAME;
 use words::kind::RETURN;
 
-// A name's word has its node in 16 bits and its item in the next.
-const NAME_NODES: usize = 65536;
-
-const NAME_ITEM: u64 = 65536;
+// The numbers that a name's word has for a node.
+const NAME_NODES: usize = NAME_ITEM as usize;
 
 // What holds inside a block and returns to what it was outside as the block closes.
 pub struct BlockSettings {

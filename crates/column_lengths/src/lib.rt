@@ -4,15 +4,17 @@ ghost use mathlib.Core.Bool.{_||_};
 ghost use mathlib.Core.List.{[], _∷_};
 ghost use lib.Dec.{ltb};
 ghost use Rattle.column_lengths.specs.Lengths.{chartTooShort, judgeTooShort};
+use words::limit;
+use words::limit::ITEMS;
 
-// The cells that a column has at least.
-pub const NODES: usize = 1600;
+// The cells that a column has at least: what its longest list takes. Findings are two a local and one a use at most.
+pub const NODES: usize = limit::NODES;
 
-pub const CODES: usize = 1024;
+pub const CODES: usize = ITEMS;
 
-pub const LOCALS: usize = 1024;
+pub const LOCALS: usize = ITEMS;
 
-pub const FINDINGS: usize = 3072;
+pub const FINDINGS: usize = 2 * LOCALS + ITEMS;
 
 // Whether a column of so many cells is too short, or others are.
 fn below(cells: usize, least: usize, others: bool) -> bool

@@ -6,18 +6,14 @@ ghost use lib.ListN.{length, getD, set, take, drop, replicate};
 ghost use Rattle.cfg_edges.specs.Halves.{lo, hi};
 ghost use Rattle.cfg_steps.specs.Columns.{nameNode, nameItem, hasStart, painted};
 ghost use Rattle.columns.specs.Words.{CodeWithin};
+use kinds::is_closer;
 use search::clear;
 use words::ABSENT;
 use words::ARGUMENT;
 use words::HALF;
-use words::kind::END;
+use words::NAME_ITEM;
+use words::NAME_WITHOUT_NODE;
 use words::kind::LABEL;
-use words::kind::UNTIL;
-
-// A name's word is its node + 65,536 × its item + 2^32 × its scope end, and holds no node by the last number that fits.
-const ITEM: u64 = 65536;
-
-const NO_NODE: u64 = 65535;
 
 // The word of node i: its first successor stays in the column, and its second goes to the other.
 fn split_edge(first: &mut [u64], second: &mut [u64], i: usize)
@@ -43,12 +39,16 @@ pub fn split_edges(first: &mut [u64], second: &mut [u64], n: usize)
     }
 }
 
-// A name's node by its word, where 65,535 stands for no node.
+// A name's node by its word.
 fn node_of_name(w: u64) -> u64
     ensures { λ r. ⌜ r ≡ nameNode w ⌝ }
 {
-    let node = w % ITEM;
-    if node == NO_NODE { ABSENT } else { node }
+    let node = w % NAME_ITEM;
+    if node == NAME_WITHOUT_NODE {
+        ABSENT
+    } else {
+        node
+    }
 }
 
 // The word of name k: its node stays in the column, its item gives the span, and the upper half is its scope end.
@@ -66,7 +66,7 @@ fn split_name(
     ensures { λ _. ⌜ now («name_end» .exit) ≡ set (now («name_end» .entry)) k (hi (getD (now («name_node» .entry)) k 0)) ⌝ }
 {
     let w = name_node[k];
-    let item = (w / ITEM % ITEM) as usize;
+    let item = (w / NAME_ITEM % NAME_ITEM) as usize;
     name_node[k] = node_of_name(w);
     name_span[k] = spans[item];
     name_end[k] = w / HALF;
@@ -93,14 +93,15 @@ pub fn split_names(
     }
 }
 
-// Whether a code gives its node a start, by its item's word: not where the item ends a block or is a label.
+// Whether a code gives its node a start, by its item's word: not where the item closes a block or is a label.
 fn has_start(word: u64) -> bool
     ensures { λ r. ⌜ r ≡ hasStart word ⌝ }
 {
-    match word % ARGUMENT {
-        END | UNTIL | LABEL => false,
-        _ => true,
+    let kind = word % ARGUMENT;
+    if is_closer(kind) {
+        return false;
     }
+    kind != LABEL
 }
 
 // The word of code k: its node stays in the column, its item gives the span, and the node may start there.

@@ -5,20 +5,17 @@ ghost use Prim.Native.Nat.{_≤_};
 ghost use lib.ListN.{length, take, drop};
 ghost use Rattle.search.specs.Lent.{held, left};
 ghost use Rattle.finding_spans.specs.Spans.{spanOf, Names, Known};
-
-// A finding's word is list + LOCALS × local + USES × (use number + 1, or 0 for an initial value).
-const LOCALS: u64 = 2;
-
-const USES: u64 = 4294967296;
+use words::finding::LOCAL;
+use words::finding::USE;
 
 // The span of the finding with this word.
 fn span_of(use_span: &[u64], name_span: &[u64], word: u64) -> u64
     requires { ⌜ Names (length (now «use_span»)) (length (now «name_span»)) word ⌝ }
     ensures { λ r. ⌜ r ≡ spanOf (held «use_span») (held «name_span») word ⌝ }
 {
-    let use_code = (word / USES) as usize;
+    let use_code = (word / USE) as usize;
     if use_code == 0 {
-        name_span[(word % USES / LOCALS) as usize]
+        name_span[(word % USE / LOCAL) as usize]
     } else {
         use_span[use_code - 1]
     }

@@ -1,1 +1,3 @@
+pub mod Ends
 pub mod Label
+pub mod Truths

@@ -1,8 +1,10 @@
-// What a kind word says, asked here and nowhere else: whether an item is code or a label, whether its kind opens or closes, what a condition is known to be, and whether a call raises.
+// What a kind word says, asked here and nowhere else: whether an item is code or a label that has a name, whether its kind opens, closes or ends a block, what a condition is known to be and may turn out to be, and whether a call raises.
 ghost use mathlib.Core.Path.{_≡_};
 ghost use Prim.Native.Nat.{ℕ};
 ghost use Rattle.flow.specs.Kinds.{isCode, opens, closes, literalTruth, raises};
+ghost use Rattle.kinds.specs.Ends.{endsBlock};
 ghost use Rattle.kinds.specs.Label.{isLabel};
+ghost use Rattle.kinds.specs.Truths.{mayFail, mayHold};
 use flow::Truth;
 use words::ARGUMENT;
 use words::kind::DO;
@@ -75,6 +77,16 @@ pub fn is_closer(kind: u64) -> bool
     kind == UNTIL
 }
 
+// Whether the block that an item of this kind stands behind ends there: ELSEIF, ELSE, END, UNTIL.
+pub fn ends_block(kind: u64) -> bool
+    ensures { λ r. ⌜ r ≡ endsBlock kind ⌝ }
+{
+    if kind < ELSEIF {
+        return false;
+    }
+    kind <= UNTIL
+}
+
 // What a condition code is known to be.
 pub fn literal_truth(condition: u64) -> Truth
     ensures { λ r. ⌜ r ≡ literalTruth condition ⌝ }
@@ -86,6 +98,27 @@ pub fn literal_truth(condition: u64) -> Truth
         return Truth::True;
     }
     Truth::Unknown
+}
+
+// Whether a condition may fail, and whether it may hold.
+pub fn may_fail(truth: Truth) -> bool
+    ensures { λ r. ⌜ r ≡ mayFail truth ⌝ }
+{
+    match truth {
+        Truth::False => true,
+        Truth::True => false,
+        Truth::Unknown => true,
+    }
+}
+
+pub fn may_hold(truth: Truth) -> bool
+    ensures { λ r. ⌜ r ≡ mayHold truth ⌝ }
+{
+    match truth {
+        Truth::False => false,
+        Truth::True => true,
+        Truth::Unknown => true,
+    }
 }
 
 // Whether a call with this argument raises.

@@ -1,6 +1,7 @@
-pub mod Names
-pub mod Named
-pub mod Scan
-pub mod Fine
-pub mod Walks
 pub mod Admission
+pub mod Fine
+pub mod Named
+pub mod Names
+pub mod Numbers
+pub mod Scan
+pub mod Walks

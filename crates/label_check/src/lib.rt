@@ -10,18 +10,14 @@ ghost use Rattle.blocks.specs.Open.{labelsAt, labelsHere};
 ghost use Rattle.label_check.specs.Walk.{openedSight, nextArm, closedSight, jumped, wholeFine, Checkable, Unlabelled, Entered, Walking, After};
 use blocks::depth_after;
 use blocks::ends_at;
+use kinds::is_closer;
 use kinds::is_label;
+use kinds::is_opener;
 use words::ARGUMENT;
-use words::kind::DO;
 use words::kind::ELSE;
 use words::kind::ELSEIF;
-use words::kind::END;
-use words::kind::FOR;
 use words::kind::GOTO;
-use words::kind::IF;
-use words::kind::REPEAT;
-use words::kind::UNTIL;
-use words::kind::WHILE;
+use words::limit::ITEMS;
 
 // Where no label with a name follows any more, so that no scan need go on.
 fn labels_end(kinds: &[u64]) -> usize
@@ -40,7 +36,7 @@ fn labels_end(kinds: &[u64]) -> usize
 }
 
 // Whether a name is among the labels from one place up to another, the latest first.
-fn among(labels: &[u64; 1024], from: usize, to: usize, name: u64) -> bool
+fn among(labels: &[u64; ITEMS], from: usize, to: usize, name: u64) -> bool
     requires { ⌜ (from ≤ to) × (to ≤ 1024) × (length (now labels) ≡ 1024) ⌝ }
     ensures { λ r. ⌜ r ≡ member name (drop from (take to (now (labels .entry)))) ⌝ }
 {
@@ -67,7 +63,7 @@ struct Sight {
 
 impl Sight {
     // A label more in its block, where it may be a repeat.
-    fn add(mut self, labels: &mut [u64; 1024], name: u64) -> Sight
+    fn add(mut self, labels: &mut [u64; ITEMS], name: u64) -> Sight
         requires { ⌜ (self .base ≤ self .count) × (self .count < 1024) × (length (now labels) ≡ 1024) ⌝ }
         ensures { λ r. ⌜ Entered (name ∷ []) self (now (labels .entry)) r (now (labels .exit)) ⌝ }
     {
@@ -84,7 +80,7 @@ impl Sight {
     }
 
     // The same, where an item is a named label that stands directly in the block.
-    fn label_here(self, labels: &mut [u64; 1024], w: u64, depth: usize) -> Sight
+    fn label_here(self, labels: &mut [u64; ITEMS], w: u64, depth: usize) -> Sight
         requires { ⌜ (self .base ≤ self .count) × (self .count + length (labelsHere w depth) ≤ 1024) × (length (now labels) ≡ 1024) ⌝ }
         ensures { λ r. ⌜ Entered (labelsHere w depth) self (now (labels .entry)) r (now (labels .exit)) ⌝ }
     {
@@ -98,7 +94,7 @@ impl Sight {
     }
 
     // The labels standing directly in the block that starts at an item come in sight.
-    fn enter(self, kinds: &[u64], labels: &mut [u64; 1024], end: usize, from: usize) -> Sight
+    fn enter(self, kinds: &[u64], labels: &mut [u64; ITEMS], end: usize, from: usize) -> Sight
         requires { ⌜ Unlabelled (now kinds) end × (length (now kinds) ≤ 1024) ⌝ }
         requires { ⌜ (self .base ≤ self .count) × (length (now labels) ≡ 1024) ⌝ }
         requires { ⌜ ((ss : List ℕ) → length ss ≡ length (now kinds) → self .count + length (labelsAt (now kinds) ss from) ≤ 1024) ⌝ }
@@ -121,7 +117,7 @@ impl Sight {
     }
 
     // A block opens, with no label in sight yet.
-    fn open(mut self, marks: &mut [usize; 1024]) -> Sight
+    fn open(mut self, marks: &mut [usize; ITEMS]) -> Sight
         requires { ⌜ self .depth < 1024 ⌝ }
         ensures { λ r. ⌜ (r ≡ openedSight self) × (now (marks .exit) ≡ set (now (marks .entry)) (self .depth) (self .base)) ⌝ }
     {
@@ -141,7 +137,7 @@ impl Sight {
     }
 
     // The innermost block is left, and its labels go out of sight.
-    fn close(mut self, marks: &[usize; 1024]) -> Sight
+    fn close(mut self, marks: &[usize; ITEMS]) -> Sight
         requires { ⌜ (1 ≤ self .depth) × (self .depth ≤ 1024) ⌝ }
         ensures { λ r. ⌜ r ≡ closedSight self (now (marks .entry)) ⌝ }
     {
@@ -154,7 +150,7 @@ impl Sight {
     }
 
     // A GOTO of a name, which has to be in sight.
-    fn jump(mut self, labels: &[u64; 1024], name: u64) -> Sight
+    fn jump(mut self, labels: &[u64; ITEMS], name: u64) -> Sight
         requires { ⌜ (self .count ≤ 1024) × (length (now labels) ≡ 1024) ⌝ }
         ensures { λ r. ⌜ r ≡ jumped self (now (labels .entry)) name ⌝ }
     {
@@ -167,8 +163,8 @@ impl Sight {
     fn step(
         self,
         kinds: &[u64],
-        labels: &mut [u64; 1024],
-        marks: &mut [usize; 1024],
+        labels: &mut [u64; ITEMS],
+        marks: &mut [usize; ITEMS],
         end: usize,
         j: usize,
     ) -> Sight
@@ -177,10 +173,15 @@ impl Sight {
         ensures { λ r. ⌜ ((ss : List ℕ) → length ss ≡ length (now (kinds .entry)) → After (now (kinds .entry)) ss (j + 1) r (now (labels .exit)) (now (marks .exit))) ⌝ }
     {
         let w = kinds[j];
-        match w % ARGUMENT {
-            DO | WHILE | REPEAT | FOR | IF => self.open(marks).enter(kinds, labels, end, j + 1),
+        let kind = w % ARGUMENT;
+        if is_opener(kind) {
+            return self.open(marks).enter(kinds, labels, end, j + 1);
+        }
+        if is_closer(kind) {
+            return self.close(marks);
+        }
+        match kind {
             ELSEIF | ELSE => self.next_arm().enter(kinds, labels, end, j + 1),
-            END | UNTIL => self.close(marks),
             GOTO => self.jump(labels, w / ARGUMENT),
             _ => self,
         }
@@ -192,8 +193,8 @@ pub fn labels_fine(kinds: &[u64]) -> bool
     requires { ⌜ Checkable (now kinds) ⌝ }
     ensures { λ r. ⌜ ((ss : List ℕ) → length ss ≡ length (now (kinds .entry)) → r ≡ wholeFine (tree (zip (now (kinds .entry)) ss))) ⌝ }
 {
-    let mut labels = [0u64; 1024];
-    let mut marks = [0usize; 1024];
+    let mut labels = [0u64; ITEMS];
+    let mut marks = [0usize; ITEMS];
     let end = labels_end(kinds);
     let outermost = Sight {
         fine: true,

@@ -11,7 +11,7 @@ use Rattle.flow.specs.Kinds.{isCode}
 use Rattle.flow.specs.Sheet.{Item, all, kind}
 use Rattle.nesting_tests.specs.Stack.{stackOf}
 use Rattle.line_tests.specs.Turn.{least, lowsOf, Scopes}
-use Rattle.sheet_tests.proofs.Bools.{and-true}
+use Rattle.sweeps.proofs.Bools.{and-true}
 use Rattle.nesting_tests.proofs.Stacks.{push, pop, stack-cons, top}
 
 leb-min : (e s m : ℕ) → (leb e s && leb e m) ≡ leb e (min s m)

@@ -12,9 +12,9 @@ use Rattle.flow.specs.Refusals.{one}
 use Rattle.nesting_tests.specs.Stack.{stackOf}
 open record kinds using (ELSEIF, ELSE, UNTIL)
 
--- its code starts at or past the line
-abbrev pub lineFits : ℕ → Item → Bool
-lineFits p i = not (isCode i) || leb p (startOf (i .span))
+-- its code starts at or past what the code before it reached
+abbrev pub startsInOrder : ℕ → Item → Bool
+startsInOrder p i = not (isCode i) || leb p (startOf (i .span))
 
 -- its code ends within the scopes around, and a REPEAT's scope end is its UNTIL's end
 abbrev pub heldHere : List ℕ → Item → Bool

@@ -8,7 +8,7 @@ ghost use Rattle.flow.specs.Sheet.{zip, endOf};
 ghost use Rattle.flow.specs.Kinds.{isCode};
 ghost use Rattle.flow.specs.Refusals.{outnumbered, pairsUp, inOrder, scopesAfter, insideScopes};
 ghost use Rattle.nesting_tests.specs.Stack.{stackOf};
-ghost use Rattle.line_tests.specs.Turn.{lineFits, heldHere, Room, Scopes};
+ghost use Rattle.line_tests.specs.Turn.{startsInOrder, heldHere, Room, Scopes};
 use kinds::is_closer;
 use kinds::is_code;
 use kinds::is_opener;
@@ -18,36 +18,41 @@ use words::SCOPE_END;
 use words::kind::ELSE;
 use words::kind::ELSEIF;
 use words::kind::UNTIL;
+use words::limit::DEPTH;
 
-fn line_after(code: bool, span: u64, line: u64) -> u64
-    ensures { λ r. ⌜ r ≡ cond code (endOf span) line ⌝ }
+// The most scopes around an item: those of the blocks, and the outermost.
+const SCOPES: usize = DEPTH + 1;
+
+// Where the last code ends, past an item.
+fn reached_after(code: bool, span: u64, reached: u64) -> u64
+    ensures { λ r. ⌜ r ≡ cond code (endOf span) reached ⌝ }
 {
     if code {
         return span / HALF;
     }
-    line
+    reached
 }
 
 // A header is held by the blocks around its statement, an ELSEIF by those around its IF. Code that ends within the least scope
 // end around ends within all, so `lows` has that for each place of `ends`, and no item looks at the whole stack.
 fn item_held(
-    ends: &[u64; 65],
-    lows: &[u64; 65],
+    ends: &[u64; SCOPES],
+    lows: &[u64; SCOPES],
     count: usize,
     code: bool,
-    line: u64,
+    reached: u64,
     word: u64,
     span: u64,
 ) -> bool
     requires { ⌜ Room count (word % 256) ⌝ }
     requires { ⌜ Scopes count (now ends) (now lows) ⌝ }
     requires { ⌜ code ≡ isCode (record { word = word; span = span }) ⌝ }
-    ensures { λ r. ⌜ r ≡ (lineFits line (record { word = word; span = span }) && heldHere (stackOf count (now (ends .entry))) (record { word = word; span = span })) ⌝ }
+    ensures { λ r. ⌜ r ≡ (startsInOrder reached (record { word = word; span = span }) && heldHere (stackOf count (now (ends .entry))) (record { word = word; span = span })) ⌝ }
 {
     if !code {
         return true;
     }
-    if span % HALF < line {
+    if span % HALF < reached {
         return false;
     }
     let kind = word % ARGUMENT;
@@ -65,7 +70,7 @@ fn item_held(
 }
 
 // A scope end on the stack at a place, and the least of it and those below.
-fn put_scope(ends: &mut [u64; 65], lows: &mut [u64; 65], at: usize, end: u64)
+fn put_scope(ends: &mut [u64; SCOPES], lows: &mut [u64; SCOPES], at: usize, end: u64)
     requires { ⌜ (0 < at) × (at < 65) ⌝ }
     requires { ⌜ Scopes at (now ends) (now lows) ⌝ }
     ensures { λ _. ⌜ stackOf (at + 1) (now (ends .exit)) ≡ end ∷ stackOf at (now (ends .entry)) ⌝ }
@@ -82,8 +87,8 @@ fn put_scope(ends: &mut [u64; 65], lows: &mut [u64; 65], at: usize, end: u64)
 
 // How many scopes are around past an item of this kind.
 fn scopes_after(
-    ends: &mut [u64; 65],
-    lows: &mut [u64; 65],
+    ends: &mut [u64; SCOPES],
+    lows: &mut [u64; SCOPES],
     count: usize,
     kind: u64,
     end: u64,
@@ -117,19 +122,19 @@ pub fn off_the_line(outer: u64, kinds: &[u64], spans: &[u64]) -> bool
     requires { ⌜ pairsUp [] (zip (now kinds) (now spans)) ≡ true ⌝ }
     ensures { λ r. ⌜ r ≡ not (inOrder 0 (zip (now (kinds .entry)) (now (spans .entry))) && insideScopes (outer ∷ []) (zip (now (kinds .entry)) (now (spans .entry)))) ⌝ }
 {
-    let mut ends = [outer; 65];
-    let mut lows = [outer; 65];
+    let mut ends = [outer; SCOPES];
+    let mut lows = [outer; SCOPES];
     let mut count: usize = 1;
-    let mut line = 0;
+    let mut reached = 0;
     let mut i = 0;
     while i < kinds.len() {
         let word = kinds[i];
         let span = spans[i];
         let code = is_code(word);
-        if !item_held(&ends, &lows, count, code, line, word, span) {
+        if !item_held(&ends, &lows, count, code, reached, word, span) {
             return true;
         }
-        line = line_after(code, span, line);
+        reached = reached_after(code, span, reached);
         count = scopes_after(
             &mut ends,
             &mut lows,

@@ -20,7 +20,7 @@ use Rattle.flow.specs.Listing.{report, printedFor}
 use Rattle.flow.proofs.Answers.{refuses}
 use Rattle.flow.proofs.Flags.{node-count, reachable-length}
 use Rattle.lines.specs.Report.{answerLines}
-use Rattle.lines.proofs.Rows.{same-findings}
+use Rattle.finding_lines.proofs.Rows.{same-findings}
 
 -- the columns hold a graph's flags and the findings
 pub record Shown (g : Graph) (fs : List Finding) (flags ws ss : List ℕ) : Type 0 where

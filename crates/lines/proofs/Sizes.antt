@@ -10,7 +10,8 @@ use Rattle.flow.specs.Listing.{numbers, findingLine, findingLines, report}
 use Rattle.flow.proofs.Laws.{either}
 use Rattle.line_writer.specs.Output.{Room}
 use Rattle.line_writer.proofs.Digits.{at-most, below-power}
-use Rattle.lines.specs.Report.{firstFindings, roomForAll}
+use Rattle.finding_lines.specs.Findings.{firstFindings}
+use Rattle.lines.specs.Report.{roomForAll}
 use Rattle.lines.proofs.Texts.{head-report}
 
 -- numbers of 20 digits

@@ -1,20 +1,10 @@
 -- What judge's answer prints by the columns that it writes, and the room that holds every output.
 -- Assumes nothing: these are definitions.
-use mathlib.Core.List.{List, [], _∷_}
+use mathlib.Core.List.{List}
 use Prim.Native.Nat.{ℕ, _+_, _*_}
-use lib.ListN.{take}
 use Rattle.flow.specs.Answers.{Told, findingsTold}
-use Rattle.flow.specs.Locals.{Finding}
 use Rattle.flow.specs.Listing.{printedFor}
-
--- the findings whose words and spans stand in two columns, and the first n of them
-abbrev pub findingsOf : List ℕ → List ℕ → List Finding
-findingsOf [] ss = []
-findingsOf (w ∷ ws) [] = []
-findingsOf (w ∷ ws) (s ∷ ss) = record { word = w; span = s } ∷ findingsOf ws ss
-
-abbrev pub firstFindings : ℕ → List ℕ → List ℕ → List Finding
-firstFindings n ws ss = findingsOf (take n ws) (take n ss)
+use Rattle.finding_lines.specs.Findings.{firstFindings}
 
 -- what judge tells, printed by the columns that it wrote: flags, and the findings' words and spans
 abbrev pub answerLines : Told → List ℕ → List ℕ → List ℕ → List ℕ

@@ -10,6 +10,8 @@ use facts::any_tracked;
 use name_facts::find_names;
 use search::clear;
 use tables::make_tables;
+use words::limit::ITEMS;
+use words::limit::NODES;
 
 // So many nodes, names and uses a small sheet has at most.
 const SMALL: usize = 128;
@@ -49,16 +51,16 @@ fn compute_small(
     requires { ⌜ Room 3072 0 (now «finding_word») × (1024 ≤ length (now mark)) × (n ≤ 128) × (names ≤ 128) × (length (now «use_word») ≤ 128) ⌝ }
     ensures { λ r. ⌜ FindsGiven n codes names first second start «code_span» «code_node» «name_node» «name_end» «use_word» «use_span» facts «finding_word» mark r ⌝ }
 {
-    let mut uses = [0u64; 128];
-    let mut starts = [0u16; 129];
-    let mut by_local = [0u64; 128];
-    let mut by_node = [0u64; 128];
-    let mut visited = [0u16; 128];
-    let mut stack = [0u16; 128];
-    let mut chain = [0u64; 128];
-    let mut used = [0u16; 128];
-    let mut reads = [0u16; 128];
-    let mut writes = [0u16; 128];
+    let mut uses = [0u64; SMALL];
+    let mut starts = [0u16; SMALL + 1];
+    let mut by_local = [0u64; SMALL];
+    let mut by_node = [0u64; SMALL];
+    let mut visited = [0u16; SMALL];
+    let mut stack = [0u16; SMALL];
+    let mut chain = [0u64; SMALL];
+    let mut used = [0u16; SMALL];
+    let mut reads = [0u16; SMALL];
+    let mut writes = [0u16; SMALL];
     make_tables(
         code_span,
         code_node,
@@ -118,16 +120,16 @@ fn compute_large(
     requires { ⌜ Room 3072 0 (now «finding_word») × (1024 ≤ length (now mark)) ⌝ }
     ensures { λ r. ⌜ FindsGiven n codes names first second start «code_span» «code_node» «name_node» «name_end» «use_word» «use_span» facts «finding_word» mark r ⌝ }
 {
-    let mut uses = [0u64; 1024];
-    let mut starts = [0u16; 1601];
-    let mut by_local = [0u64; 1024];
-    let mut by_node = [0u64; 1024];
-    let mut visited = [0u16; 1600];
-    let mut stack = [0u16; 1600];
-    let mut chain = [0u64; 1600];
-    let mut used = [0u16; 1600];
-    let mut reads = [0u16; 1600];
-    let mut writes = [0u16; 1600];
+    let mut uses = [0u64; ITEMS];
+    let mut starts = [0u16; NODES + 1];
+    let mut by_local = [0u64; ITEMS];
+    let mut by_node = [0u64; ITEMS];
+    let mut visited = [0u16; NODES];
+    let mut stack = [0u16; NODES];
+    let mut chain = [0u64; NODES];
+    let mut used = [0u16; NODES];
+    let mut reads = [0u16; NODES];
+    let mut writes = [0u16; NODES];
     make_tables(
         code_span,
         code_node,
@@ -187,7 +189,7 @@ pub fn compute(
     requires { ⌜ Room 3072 0 (now «finding_word») × (1024 ≤ length (now mark)) ⌝ }
     ensures { λ r. ⌜ Finds n codes kinds first second start «code_span» «code_node» «name_node» «name_end» «use_word» «use_span» «finding_word» mark r ⌝ }
 {
-    let mut facts = [0u16; 1024];
+    let mut facts = [0u16; ITEMS];
     let names = find_names(kinds, &mut facts);
     if !any_tracked(&facts, names) {
         clear(mark, names);

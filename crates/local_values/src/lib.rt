@@ -16,13 +16,9 @@ use next_uses::mark_next_uses;
 use use_words::number_of;
 use uses_by_node::is_overwritten;
 use uses_by_node::is_overwritten_unread;
-
-// A finding's word is list + LOCALS × local + USES × (use number + 1, or 0 for an initial value).
-const OVERWRITTEN: u64 = 1;
-
-const LOCALS: u64 = 2;
-
-const USES: u64 = 4294967296;
+use words::finding::LOCAL;
+use words::finding::OVERWRITTEN;
+use words::finding::USE;
 
 // A use listed as an overwritten write. The result is the number of findings.
 fn push_write(finding_word: &mut [u64], count: usize, local: usize, word: u64) -> usize
@@ -33,7 +29,7 @@ fn push_write(finding_word: &mut [u64], count: usize, local: usize, word: u64) -
     push_finding(
         finding_word,
         count,
-        OVERWRITTEN + LOCALS * local as u64 + USES * (number + 1),
+        OVERWRITTEN + LOCAL * local as u64 + USE * (number + 1),
     )
 }
 
@@ -121,7 +117,7 @@ fn push_initial(
 {
     if has_value {
         if is_overwritten_unread(first, second, reads, writes, n, stamp, node) {
-            return push_finding(finding_word, count, OVERWRITTEN + LOCALS * local as u64);
+            return push_finding(finding_word, count, OVERWRITTEN + LOCAL * local as u64);
         }
     }
     count

@@ -5,8 +5,8 @@ use mathlib.Core.List.{List, _∷_}
 use mathlib.Core.Path.{_≡_}
 use Rattle.flow.specs.Refusals.{mayStand, openAfter, pairsUp, mayFollow, sideBySide}
 use Rattle.flow.specs.Sheet.{Item, kind}
-use Rattle.sheet_tests.proofs.Bools.{and-pairs}
-use Rattle.sheet_tests.proofs.Sweep.{Sweep}
+use Rattle.sweeps.proofs.Bools.{and-pairs}
+use Rattle.sweeps.proofs.Sweep.{Sweep}
 
 -- 5, with what is open and the kind before
 pub nesting-law : (os : List ℕ) (k : ℕ) (i : Item) (is : List Item) → (pairsUp os (i ∷ is) && sideBySide k (i ∷ is)) ≡ (mayStand (kind i) os && mayFollow k (kind i) && (pairsUp (openAfter (kind i) os) is && sideBySide (kind i) is))

@@ -8,6 +8,7 @@ ghost use Rattle.flow.specs.Sheet.{member, zip};
 ghost use Rattle.flow.specs.Kinds.{kinds, opens};
 ghost use Rattle.flow.specs.Refusals.{one, innermost, mayStand, openAfter, mayFollow, outnumbered, pairsUp, sideBySide};
 ghost use Rattle.nesting_tests.specs.Stack.{stackOf};
+use kinds::ends_block;
 use kinds::is_closer;
 use kinds::is_opener;
 use words::ARGUMENT;
@@ -21,9 +22,10 @@ use words::kind::NAME;
 use words::kind::REPEAT;
 use words::kind::RETURN;
 use words::kind::UNTIL;
+use words::limit::DEPTH;
 
 // The kind of the innermost open item, 0 where nothing is open.
-fn innermost_of(opened: &[u64; 64], depth: usize) -> u64
+fn innermost_of(opened: &[u64; DEPTH], depth: usize) -> u64
     requires { ⌜ depth ≤ 64 ⌝ }
     ensures { λ r. ⌜ r ≡ innermost (stackOf depth (now (opened .entry))) ⌝ }
 {
@@ -33,7 +35,7 @@ fn innermost_of(opened: &[u64; 64], depth: usize) -> u64
     opened[depth - 1]
 }
 
-fn may_stand(opened: &[u64; 64], depth: usize, kind: u64) -> bool
+fn may_stand(opened: &[u64; DEPTH], depth: usize, kind: u64) -> bool
     requires { ⌜ depth ≤ 64 ⌝ }
     ensures { λ r. ⌜ r ≡ mayStand kind (stackOf depth (now (opened .entry))) ⌝ }
 {
@@ -57,7 +59,7 @@ fn may_stand(opened: &[u64; 64], depth: usize, kind: u64) -> bool
 }
 
 // How many items are open past one of this kind. An IF becomes an ELSE once its ELSE has come.
-fn open_after(opened: &mut [u64; 64], depth: usize, kind: u64) -> usize
+fn open_after(opened: &mut [u64; DEPTH], depth: usize, kind: u64) -> usize
     requires { ⌜ (length (now opened) ≡ 64) × (depth ≤ 64) × (depth + one (opens kind) ≤ 64) ⌝ }
     requires { ⌜ mayStand kind (stackOf depth (now opened)) ≡ true ⌝ }
     ensures { λ r. ⌜ length (now (opened .exit)) ≡ 64 ⌝ }
@@ -76,18 +78,14 @@ fn open_after(opened: &mut [u64; 64], depth: usize, kind: u64) -> usize
     depth
 }
 
-// What may follow RETURN and CONTINUE: what ends their block.
-fn ends_block(kind: u64) -> bool
+// What may follow RETURN and CONTINUE: what ends their block, or 0 at the sheet's end.
+fn ends_block_or_sheet(kind: u64) -> bool
     ensures { λ r. ⌜ r ≡ member kind (0 ∷ kinds .END ∷ kinds .UNTIL ∷ kinds .ELSEIF ∷ kinds .ELSE ∷ []) ⌝ }
 {
-    match kind {
-        0 => true,
-        END => true,
-        UNTIL => true,
-        ELSEIF => true,
-        ELSE => true,
-        _ => false,
+    if kind == 0 {
+        return true;
     }
+    ends_block(kind)
 }
 
 // Whether two kinds may stand side by side, 0 at the sheet's ends.
@@ -97,8 +95,8 @@ fn may_follow(last: u64, kind: u64) -> bool
     match last {
         LOCAL => kind == NAME,
         NAME => true,
-        RETURN => ends_block(kind),
-        CONTINUE => ends_block(kind),
+        RETURN => ends_block_or_sheet(kind),
+        CONTINUE => ends_block_or_sheet(kind),
         _ => kind != NAME,
     }
 }
@@ -108,7 +106,7 @@ pub fn bad_nesting(kinds: &[u64], spans: &[u64]) -> bool
     requires { ⌜ outnumbered 0 0 (zip (now kinds) (now spans)) ≡ false ⌝ }
     ensures { λ r. ⌜ r ≡ not (pairsUp [] (zip (now (kinds .entry)) (now (spans .entry))) && sideBySide 0 (zip (now (kinds .entry)) (now (spans .entry)))) ⌝ }
 {
-    let mut opened = [0u64; 64];
+    let mut opened = [0u64; DEPTH];
     let mut depth: usize = 0;
     let mut last = 0;
     let mut i = 0;

@@ -12,11 +12,12 @@ use live_steps::LocalDeclaration;
 use live_steps::is_alive_at;
 use search::at;
 use search::insert;
+use words::HALF;
 
 // A node's word is the code of the last edge to it + FIRST × that of the edge before its own first one + SECOND × that of the edge before its own second one.
 const FIRST: u64 = 65536;
 
-const SECOND: u64 = 4294967296;
+const SECOND: u64 = HALF;
 
 // An edge of node u to v put in front of v's chain: the code of v's last edge is put at a place (FIRST or SECOND) of u's word that is still empty, and the edge's own code takes its place. What is no node has no chain.
 fn link(chain: &mut [u64], n: usize, u: usize, v: usize, place: u64, code: usize)

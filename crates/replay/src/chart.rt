@@ -4,6 +4,10 @@ ghost use mathlib.Core.Bool.{true};
 ghost use mathlib.Core.List.{[], _∷_};
 ghost use Rattle.flow.specs.Answers.{countValues, chartTold};
 use crate::stored::Stored;
+use column_lengths::CODES;
+use column_lengths::FINDINGS;
+use column_lengths::LOCALS;
+use column_lengths::NODES;
 use flow::ChartAnswer;
 use flow::Counts;
 use numbers::chart_number;
@@ -49,7 +53,7 @@ fn end_in(column: &[u64], words: &[u64], from: usize, n: usize) -> usize {
 }
 
 // The columns are passed by value: a copy asks for less proof than a loan.
-fn node_end(column: [u64; 1600], words: &[u64], from: usize, n: usize) -> usize {
+fn node_end(column: [u64; NODES], words: &[u64], from: usize, n: usize) -> usize {
     end_in(&column, words, from, n)
 }
 
@@ -57,7 +61,7 @@ fn entry_end(column: [u64; 1024], words: &[u64], from: usize, n: usize) -> usize
     end_in(&column, words, from, n)
 }
 
-pub fn finding_end(column: [u64; 3072], words: &[u64], from: usize, n: usize) -> usize {
+pub fn finding_end(column: [u64; FINDINGS], words: &[u64], from: usize, n: usize) -> usize {
     end_in(&column, words, from, n)
 }
 
@@ -89,15 +93,15 @@ fn answer_is(answer: ChartAnswer, stored: Stored) -> bool
 
 // Whether the columns hold a stored chart's cells, and nothing new behind them.
 pub fn cells_hold(
-    first: [u64; 1600],
-    second: [u64; 1600],
-    start: [u64; 1600],
-    reachable: [u64; 1600],
-    code_span: [u64; 1024],
-    code_node: [u64; 1024],
-    name_span: [u64; 1024],
-    name_node: [u64; 1024],
-    name_end: [u64; 1024],
+    first: [u64; NODES],
+    second: [u64; NODES],
+    start: [u64; NODES],
+    reachable: [u64; NODES],
+    code_span: [u64; CODES],
+    code_node: [u64; CODES],
+    name_span: [u64; LOCALS],
+    name_node: [u64; LOCALS],
+    name_end: [u64; LOCALS],
     stored: Stored,
     words: &[u64],
 ) -> bool {
@@ -117,15 +121,15 @@ pub fn cells_hold(
 
 // Whether chart answers and writes what is stored.
 pub fn chart_agrees(sheet: &[u64], stored: Stored, words: &[u64]) -> bool {
-    let mut first = [OLD; 1600];
-    let mut second = [OLD; 1600];
-    let mut start = [OLD; 1600];
-    let mut reachable = [OLD; 1600];
-    let mut code_span = [OLD; 1024];
-    let mut code_node = [OLD; 1024];
-    let mut name_span = [OLD; 1024];
-    let mut name_node = [OLD; 1024];
-    let mut name_end = [OLD; 1024];
+    let mut first = [OLD; NODES];
+    let mut second = [OLD; NODES];
+    let mut start = [OLD; NODES];
+    let mut reachable = [OLD; NODES];
+    let mut code_span = [OLD; CODES];
+    let mut code_node = [OLD; CODES];
+    let mut name_span = [OLD; LOCALS];
+    let mut name_node = [OLD; LOCALS];
+    let mut name_end = [OLD; LOCALS];
     let answer = calls::chart(
         sheet,
         &mut first,

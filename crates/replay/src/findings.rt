@@ -7,6 +7,10 @@ use crate::chart::cells_hold;
 use crate::chart::counts_are;
 use crate::chart::finding_end;
 use crate::stored::Stored;
+use column_lengths::CODES;
+use column_lengths::FINDINGS;
+use column_lengths::LOCALS;
+use column_lengths::NODES;
 use flow::JudgeAnswer;
 use numbers::judge_number;
 
@@ -34,9 +38,9 @@ fn is_mark(mark: u64, i: usize, stored: Stored) -> bool {
     mark == OLD
 }
 
-fn marks_hold(mark: [u64; 1024], stored: Stored) -> bool {
+fn marks_hold(mark: [u64; LOCALS], stored: Stored) -> bool {
     let mut i = 0;
-    while i < 1024 {
+    while i < LOCALS {
         if !is_mark(mark[i], i, stored) {
             return false;
         }
@@ -46,7 +50,12 @@ fn marks_hold(mark: [u64; 1024], stored: Stored) -> bool {
 }
 
 // The findings' cells are a case's last words.
-fn findings_hold(word: [u64; 3072], span: [u64; 3072], words: &[u64], stored: Stored) -> bool {
+fn findings_hold(
+    word: [u64; FINDINGS],
+    span: [u64; FINDINGS],
+    words: &[u64],
+    stored: Stored,
+) -> bool {
     let n = stored.findings as usize;
     let span_from = finding_end(word, words, stored.findings_from, n);
     finding_end(span, words, span_from, n) == words.len()
@@ -54,18 +63,18 @@ fn findings_hold(word: [u64; 3072], span: [u64; 3072], words: &[u64], stored: St
 
 // Whether judge answers and writes what is stored: the chart's cells, and the findings'.
 pub fn judge_agrees(sheet: &[u64], uses: &[u64], stored: Stored, words: &[u64]) -> bool {
-    let mut first = [OLD; 1600];
-    let mut second = [OLD; 1600];
-    let mut start = [OLD; 1600];
-    let mut reachable = [OLD; 1600];
-    let mut code_span = [OLD; 1024];
-    let mut code_node = [OLD; 1024];
-    let mut name_span = [OLD; 1024];
-    let mut name_node = [OLD; 1024];
-    let mut name_end = [OLD; 1024];
-    let mut finding_word = [OLD; 3072];
-    let mut finding_span = [OLD; 3072];
-    let mut mark = [OLD; 1024];
+    let mut first = [OLD; NODES];
+    let mut second = [OLD; NODES];
+    let mut start = [OLD; NODES];
+    let mut reachable = [OLD; NODES];
+    let mut code_span = [OLD; CODES];
+    let mut code_node = [OLD; CODES];
+    let mut name_span = [OLD; LOCALS];
+    let mut name_node = [OLD; LOCALS];
+    let mut name_end = [OLD; LOCALS];
+    let mut finding_word = [OLD; FINDINGS];
+    let mut finding_span = [OLD; FINDINGS];
+    let mut mark = [OLD; LOCALS];
     let answer = judge::judge(
         sheet,
         uses,

@@ -1,12 +1,13 @@
 // What a case stores of the calls' answers, behind its sheet and its uses: chart's number, judge's and the label check's.
 // Where chart's is 0 there follow three counts, the cells of the nodes, codes and names, the runs, and the findings.
 ghost use Prim.Native.Nat.{_≤_};
+use words::ABSENT;
 
 // What is read behind the last word: no number, count, offset or node.
 const MISSING: u64 = 18446744073709551615;
 
-// A count that is missing or too large: no call answers as many.
-pub const NONE: u32 = 4294967295;
+// What a case has for no node, and what stands for a count that is missing or too large: no call answers as many.
+pub const NONE: u32 = ABSENT as u32;
 
 // The chart's cells stand behind three numbers and three counts.
 const CELLS: usize = 6;

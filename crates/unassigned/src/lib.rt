@@ -16,11 +16,8 @@ use local_walk::walk_local;
 use locals::declaration_at;
 use locals::part_of;
 use locals::push_finding;
-
-// A finding's word is list + LOCALS × local + USES × (use number + 1), and this is list 0.
-const LOCALS: u64 = 2;
-
-const USES: u64 = 4294967296;
+use words::finding::LOCAL;
+use words::finding::USE;
 
 // The mark figure and the finding of a walk. The result is the number of findings.
 fn push_walked(
@@ -43,7 +40,7 @@ fn push_walked(
         push_finding(
             finding_word,
             count,
-            LOCALS * local as u64 + USES * first as u64,
+            LOCAL * local as u64 + USE * first as u64,
         )
     }
 }

@@ -7,7 +7,11 @@ ghost use Rattle.flow.specs.declared.Found.the-variants.{At};
 ghost use Rattle.flow.specs.Sheet.{localOf, useKindOf, crossingOf};
 ghost use Rattle.flow.specs.Findings.{isRead, isWrite};
 ghost use Rattle.use_words.specs.Words.{numberIn, nodeIn, localIn, closureIn, useOf};
+use words::CROSSING;
+use words::HALF;
 use words::USE_KIND;
+use words::use_kind::READ;
+use words::use_kind::WRITE;
 
 // A number, a node and a local are each below FIELD.
 const FIELD: u64 = 65536;
@@ -15,15 +19,11 @@ const FIELD: u64 = 65536;
 // The word is number + NODE × node + LOCAL × local + KIND × kind + CLOSURE × (1 in a closure).
 const NODE: u64 = 65536;
 
-const LOCAL: u64 = 4294967296;
+const LOCAL: u64 = HALF;
 
-const KIND: u64 = 281474976710656;
+const KIND: u64 = HALF * FIELD;
 
-const CLOSURE: u64 = 1125899906842624;
-
-const READ: u64 = 0;
-
-const WRITE: u64 = 1;
+const CLOSURE: u64 = KIND * CROSSING;
 
 // The use with this number, at this node, whose word in the use sheet is `word`.
 pub fn pack(number: usize, node: usize, word: u64, captured: bool) -> u64
@@ -32,10 +32,10 @@ pub fn pack(number: usize, node: usize, word: u64, captured: bool) -> u64
     ensures { λ r. ⌜ localIn r ≡ localOf word ⌝ }
 {
     let local = word % USE_KIND;
-    let kind = word / USE_KIND % 4;
+    let kind = word / USE_KIND % CROSSING;
     let open = number as u64 + NODE * node as u64 + LOCAL * local + KIND * kind;
     if captured {
-        if word / USE_KIND / 4 == 1 {
+        if word / USE_KIND / CROSSING == 1 {
             return open + CLOSURE;
         }
     }
@@ -64,14 +64,14 @@ pub fn local_of(word: u64) -> usize
 pub fn is_read(word: u64) -> bool
     ensures { λ r. ⌜ r ≡ isRead (useOf word) ⌝ }
 {
-    word / KIND % 4 != WRITE
+    word / KIND % CROSSING != WRITE
 }
 
 // A Write or a ReadWrite.
 pub fn is_write(word: u64) -> bool
     ensures { λ r. ⌜ r ≡ isWrite (useOf word) ⌝ }
 {
-    word / KIND % 4 != READ
+    word / KIND % CROSSING != READ
 }
 
 pub fn is_in_closure(word: u64) -> bool

@@ -1,37 +1,32 @@
--- `columns::has_start` meets its contract: 8 and 9, which the code tests as a range, and 12 give no start.
+-- `columns::has_start` meets its contract: closers and labels give no start.
 -- Assumes nothing.
-use mathlib.Core.Path.{_≡_, refl}
-use mathlib.Core.Bool.{Bool, true, false, not, _||_}
-use mathlib.Core.List.{[], _∷_}
-use Prim.Native.Nat.{ℕ, _≤_, _<_}
-use native.Mathlib.Omega.{arith}
+use mathlib.Core.Path.{_≡_, refl, sym, _∙_}
+use mathlib.Core.Bool.{Bool, true, false, not, _||_, false≢true, true≢false}
 use lib.Dec.{eqb}
-use borrow.Author.Tests.{eq-eqb, ne-eqb, eqb-false}
-use Rattle.flow.specs.Sheet.{member}
+use Rattle.flow.specs.Sheet.{kindOf}
 use Rattle.columns.proofs.has_start.Statement.{statement}
 use Rattle.columns.proofs.has_start.Tie as tie
 
-some : (k : ℕ) → (k ≡ 8 → ⊥) → (k ≡ 9 → ⊥) → (k ≡ 12 → ⊥) → true ≡ not (member k (8 ∷ 9 ∷ 12 ∷ []))
-some k p q r = rw (ne-eqb k 8 p, ne-eqb k 9 q, ne-eqb k 12 r)
+-- of the tests for END, UNTIL and LABEL
+closing : (a b c : Bool) → (a || b) ≡ true → false ≡ not (a || (b || (c || false)))
+closing true b c e = refl
+closing false true c e = refl
+closing false false c e = absurd (false≢true e)
 
-closing : (k : ℕ) → 8 ≤ k → k < 10 → false ≡ not (member k (8 ∷ 9 ∷ 12 ∷ []))
-closing k p q = go (eqb k 8) refl
-  where
-    go : (t : Bool) → eqb k 8 ≡ t → false ≡ not (t || (eqb k 9 || (eqb k 12 || false)))
-    go true e = refl
-    go false e = let n = eqb-false k 8 e in rw (eq-eqb k 9 (omega (arith, n)))
+staying : (a b c : Bool) → (a || b) ≡ false → not c ≡ not (a || (b || (c || false)))
+staying true b c e = absurd (true≢false e)
+staying false true c e = absurd (true≢false e)
+staying false false true e = refl
+staying false false false e = refl
+
+is-closer-requires : tie.Need-is-closer-requires
+is-closer-requires c κs = tt
 
 returns : tie.Need-returns
-returns c = some _ (λ e. omega arith) (λ e. omega arith) (c .before .match .rest .1)
+returns c = let k = kindOf (c .before .before .args .word) in closing (eqb k 8) (eqb k 9) (eqb k 12) (sym (c .before .is-closer .ensures) ∙ c .if1 .taken)
 
 returns-2 : tie.Need-returns-2
-returns-2 c = some _ (λ e. omega arith) (λ e. omega arith) (c .before .before .match .rest .1)
-
-returns-3 : tie.Need-returns-3
-returns-3 c = rw (c .match .keys1)
-
-returns-4 : tie.Need-returns-4
-returns-4 c = closing _ (c .before .if1 .left) (c .if2 .taken)
+returns-2 c = let k = kindOf (c .before .before .args .word) in staying (eqb k 8) (eqb k 9) (eqb k 12) (sym (c .before .is-closer .ensures) ∙ c .if1 .left)
 
 pub has-start-spec : {M : Type 1} → statement M
-has-start-spec = tie.close (tie.spec returns returns-2 returns-3 returns-4)
+has-start-spec = tie.close (tie.spec is-closer-requires returns returns-2)

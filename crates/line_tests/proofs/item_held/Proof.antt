@@ -7,7 +7,7 @@ use borrow.Author.Tests.{le-leb, lt-leb, eq-eqb, ne-eqb, not-true, not-false}
 use denote.Ref.{now}
 use Rattle.flow.specs.Refusals.{one}
 use Rattle.flow.specs.Sheet.{member}
-use Rattle.sheet_tests.proofs.Bools.{and-true}
+use Rattle.sweeps.proofs.Bools.{and-true}
 use Rattle.line_tests.proofs.Lows.{within-low, scopes-pop, no-until}
 use Rattle.nesting_tests.proofs.Stacks.{pop, top}
 use Rattle.line_tests.proofs.item_held.Statement.{statement}

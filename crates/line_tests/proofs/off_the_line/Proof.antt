@@ -13,20 +13,20 @@ use Rattle.flow.specs.Sheet.{Item, endOf}
 use Rattle.nesting_tests.specs.Stack.{stackOf}
 use Rattle.line_tests.specs.Turn.{Scopes, Room}
 use Rattle.line_tests.proofs.Nested.{Nested, nested-room, scopes-next}
-use Rattle.sheet_tests.proofs.Sweep.{Swept, begin, onward, fails, ends, rest, rest-next, item}
+use Rattle.sweeps.proofs.Sweep.{Swept, begin, onward, fails, ends, rest, rest-next, item}
 use Rattle.line_tests.proofs.Sweeps.{lining}
 use Rattle.line_tests.proofs.off_the_line.Statement.{statement}
 use Rattle.line_tests.proofs.off_the_line.Tie as tie
 
 abbrev Inv-loop : tie.InvT-loop
-Inv-loop outer kinds spans ends₀ lows₀ count₀ line₀ i₀ ends lows count line i =
+Inv-loop outer kinds spans ends₀ lows₀ count₀ reached₀ i₀ ends lows count reached i =
     Scopes count ends lows
     × (0 < count)
     × Nested (count - 1) (rest kinds spans i)
-    × Swept lining kinds spans (0, outer ∷ []) i (line, stackOf count ends)
+    × Swept lining kinds spans (0, outer ∷ []) i (reached, stackOf count ends)
 
 abbrev μ-loop : tie.MeasureT-loop
-μ-loop outer kinds spans ends₀ lows₀ count₀ line₀ i₀ ends lows count line i = length kinds - i
+μ-loop outer kinds spans ends₀ lows₀ count₀ reached₀ i₀ ends lows count reached i = length kinds - i
 
 nested-here : (c : tie.In-loop Inv-loop μ-loop) → Nested (c .before .loop .count - 1) (item (now (c .before .before .before .before .args .kinds)) (now (c .before .before .before .before .args .spans)) (c .before .loop .i) ∷ rest (now (c .before .before .before .before .args .kinds)) (now (c .before .before .before .before .args .spans)) (c .before .loop .i + 1))
 nested-here c =
@@ -82,8 +82,8 @@ returns c =
     let start = before-loop at-loop in
     rw (fails (at-loop .loop .inv .3) (start .pre .0 .0) (in-loop .loop-test .taken) (sym (c .before .item-held .ensures) ∙ not-true _ (c .if1 .taken)))
 
-line-after-requires : tie.Need-line-after-requires Inv-loop μ-loop
-line-after-requires c κs = tt
+reached-after-requires : tie.Need-reached-after-requires Inv-loop μ-loop
+reached-after-requires c κs = tt
 
 scopes-after-requires : tie.Need-scopes-after-requires Inv-loop μ-loop
 scopes-after-requires c κs =
@@ -114,7 +114,7 @@ loop-again c =
       c .scopes-after .ensures .1,
       next .0,
       next .1,
-      rw (c .before .before .before .line-after .ensures ∙ ap (λ (b : Bool). cond b (endOf (it .span)) (l .line)) (after-is-code .is-code .ensures (it .span)), c .scopes-after .ensures .0)
+      rw (c .before .before .before .reached-after .ensures ∙ ap (λ (b : Bool). cond b (endOf (it .span)) (l .reached)) (after-is-code .is-code .ensures (it .span)), c .scopes-after .ensures .0)
           (onward (l .inv .3) (start .pre .0 .0) (in-loop .loop-test .taken) (sym (after-item-held .item-held .ensures) ∙ not-false _ (else1 .if1 .left))),
     )
 
@@ -136,7 +136,7 @@ off-the-line-spec =
     is-code-requires
     item-held-requires
     returns
-    line-after-requires
+    reached-after-requires
     scopes-after-requires
     add-i
     loop-less

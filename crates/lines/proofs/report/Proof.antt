@@ -9,7 +9,7 @@ use Rattle.flow.specs.Answers.{countValues}
 use Rattle.flow.specs.Listing.{findingLines, report as reportLines}
 use Rattle.line_writer.specs.Output.{Room}
 use Rattle.line_writer.proofs.Appended.{first-room, then-room, both, printed}
-use Rattle.lines.specs.Report.{firstFindings}
+use Rattle.finding_lines.specs.Findings.{firstFindings}
 use Rattle.lines.proofs.Texts.{whole-report}
 use Rattle.lines.proofs.Sizes.{findings-long, head-long, from-start}
 use Rattle.lines.proofs.report.Statement.{statement}

@@ -12,7 +12,7 @@ use Rattle.flow.specs.Refusals.{outnumbered, mayFollow, pairsUp, sideBySide}
 use Rattle.nesting_tests.specs.Stack.{stackOf}
 use Rattle.nesting_tests.proofs.Nesting.{most, deep-next, closer-in, depth-next}
 use Rattle.nesting_tests.proofs.Stacks.{length-stackOf}
-use Rattle.sheet_tests.proofs.Sweep.{Swept, begin, onward, fails, ends, from-here, rest, item}
+use Rattle.sweeps.proofs.Sweep.{Swept, begin, onward, fails, ends, from-here, rest, item}
 use Rattle.nesting_tests.proofs.Sweeps.{nesting}
 use Rattle.nesting_tests.proofs.bad_nesting.Statement.{statement}
 use Rattle.nesting_tests.proofs.bad_nesting.Tie as tie

@@ -27,11 +27,11 @@ last-in-block : (l : ℕ) (b : Bool) → eqb l 11 ≡ b → member l (0 ∷ 8 �
 last-in-block l true e = rw (eqb-true l 11 e)
 last-in-block l false e = refl
 
-ends-block-requires : tie.Need-ends-block-requires
-ends-block-requires c κs = tt
+ends-block-or-sheet-requires : tie.Need-ends-block-or-sheet-requires
+ends-block-or-sheet-requires c κs = tt
 
-ends-block-requires-2 : tie.Need-ends-block-requires-2
-ends-block-requires-2 c κs = tt
+ends-block-or-sheet-requires-2 : tie.Need-ends-block-or-sheet-requires-2
+ends-block-or-sheet-requires-2 c κs = tt
 
 returns : tie.Need-returns
 unfolding mayFollow
@@ -43,11 +43,11 @@ returns-2 c = rw (c .match .keys2) (past-name (eqb (c .before .args .kind) 11))
 
 returns-3 : tie.Need-returns-3
 unfolding mayFollow
-returns-3 c = rw (c .before .match .keys3) (c .ends-block .ensures ∙ last-in-block (c .before .before .args .kind) _ refl)
+returns-3 c = rw (c .before .match .keys3) (c .ends-block-or-sheet .ensures ∙ last-in-block (c .before .before .args .kind) _ refl)
 
 returns-4 : tie.Need-returns-4
 unfolding mayFollow
-returns-4 c = rw (c .before .match .keys4) (c .ends-block2 .ensures ∙ last-in-block (c .before .before .args .kind) _ refl)
+returns-4 c = rw (c .before .match .keys4) (c .ends-block-or-sheet2 .ensures ∙ last-in-block (c .before .before .args .kind) _ refl)
 
 returns-5 : tie.Need-returns-5
 unfolding mayFollow
@@ -59,8 +59,8 @@ pub may-follow-spec : {M : Type 1} → statement M
 may-follow-spec =
     tie.close
     (tie.spec
-    ends-block-requires
-    ends-block-requires-2
+    ends-block-or-sheet-requires
+    ends-block-or-sheet-requires-2
     returns
     returns-2
     returns-3

@@ -1,3 +1,0 @@
-pub mod Bools
-pub mod Sweep
-pub mod Sweeps

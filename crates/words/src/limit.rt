@@ -1,0 +1,8 @@
+// The most items that an admitted sheet has, and the most uses of a use sheet,
+pub const ITEMS: usize = 1024;
+
+// the most openers that are not closed yet,
+pub const DEPTH: usize = 64;
+
+// and the most nodes of its graph.
+pub const NODES: usize = 1600;
