@@ -11,7 +11,7 @@ use crate::token::{Dialect, Span, Token};
 #[derive(Debug)]
 pub struct Resolved<'ast, 'source> {
     pub tree: ScopeTree<'source>,
-    /// The script's own block, then the body of every function in it, in the order of the text.
+    /// The script's own block first; behind it all function bodies, in the order of the text.
     pub function_blocks: Vec<FunctionBlock<'ast>>,
 }
 

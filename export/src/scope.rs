@@ -37,7 +37,7 @@ pub struct ScopeTree<'source> {
     pub(crate) error_references: Vec<(u32, ReferenceId)>,
     /// Globals that this script writes as free names.
     pub assigned_globals: HashSet<&'source [u8]>,
-    /// The script assigns its own `_ENV`, which redirects every free name.
+    /// Some assignment of the script writes to its `_ENV`: no free name is sure to be a global then.
     pub is_env_assigned: bool,
 }
 
@@ -51,9 +51,9 @@ pub struct Scope {
 pub enum ScopeKind {
     Module,
     Function,
-    /// `do` block, or an `if`, `elseif`, or `else` body.
+    /// What `do` opens, or an arm of an `if`.
     Block,
-    /// `while`, `repeat`, or `for` body.
+    /// The body of a loop.
     Loop,
 }
 
@@ -76,7 +76,7 @@ pub enum SymbolKind {
     IteratorVariable,
     NumericForVariable,
     FunctionName,
-    /// The `self` of `function t:m()`, which no token spells.
+    /// What a method's `function t:m()` declares unsaid: `self`.
     ImplicitSelf,
 }
 
@@ -85,9 +85,9 @@ pub struct Reference {
     pub span: Span,
     pub kind: ReferenceKind,
     pub scope: ScopeId,
-    /// The local that the name means, or none for a free name.
+    /// The local that the name means; a free name means none.
     pub resolved: Option<SymbolId>,
-    /// The local `_ENV` that a free name is a field of.
+    /// Where a local `_ENV` is in scope, that local: a free name is looked up in it.
     pub env: Option<SymbolId>,
 }
 
@@ -124,8 +124,7 @@ impl ScopeTree<'_> {
         Some(self.reference(self.error_references[index].1))
     }
 
-    /// Whether code in the scope `from` runs in a function nested inside the
-    /// scope `to`, rather than in the function that holds `to`.
+    /// Whether a function lies between the scope `from` and the scope `to` around it.
     #[must_use]
     pub fn crosses_function_boundary(&self, from: ScopeId, to: ScopeId) -> bool {
         let mut current = Some(from);

@@ -76,7 +76,7 @@ fn functions_of_listing(listing: &str, version: Version) -> Vec<Function> {
     functions
 }
 
-/// What a free name is a field of where no local `_ENV` is in scope.
+/// Where free names are looked up if no local `_ENV` is in scope.
 const SCRIPT_ENV: Option<SymbolId> = None;
 
 fn functions_of_tree(source: &str, version: Version) -> Vec<Function> {

@@ -57,7 +57,7 @@ pub struct GraphBuilder {
     pub nodes: usize,
     pub codes: usize,
     pub names: usize,
-    // The node that the next code runs after, or NO_NODE right after a jump.
+    // The current node: the next code takes an edge from it. NO_NODE where nothing is current.
     pub cursor: usize,
     pub settings: BlockSettings,
 }

@@ -14,7 +14,7 @@ use use_words::is_write;
 use use_words::node_of;
 use use_words::number_of;
 
-// Whether a use is a read outside closures at a node that is not marked.
+// Whether a use is an empty read: a read outside closures, which run who knows when, at a node that is not marked.
 fn is_empty_read(visited: &[u16], stamp: u16, word: u64) -> bool
     requires { ⌜ nodeIn word < length (now visited) ⌝ }
     ensures { λ r. ⌜ ((n : ℕ) → nodeIn word < n → r ≡ isEmptyRead (flagsOf stamp n (held visited)) [] (useOf word)) ⌝ }
@@ -30,7 +30,7 @@ fn is_empty_read(visited: &[u16], stamp: u16, word: u64) -> bool
     }
 }
 
-// The node of a use marked, if it is a write: a later read in the statement that wrote sees the value.
+// The node of a use marked, if it is a write, for the reads that follow in its statement.
 fn mark_write(visited: &mut [u16], stamp: u16, word: u64)
     requires { ⌜ nodeIn word < length (now visited) ⌝ }
     ensures { λ _. ⌜ left visited ≡ markIf (isWrite (useOf word)) (nodeIn word) stamp (held visited) ⌝ }
@@ -40,8 +40,18 @@ fn mark_write(visited: &mut [u16], stamp: u16, word: u64)
     }
 }
 
-// The first read, in use order, that no write can reach, as its number + 1; 0 where there is none. A read in a closure runs at an
-// unknown time. The marks are those of live_walk. A read is tested before its own node is marked: a ReadWrite reads first.
+// Both of one use, the test first: a ReadWrite reads before it writes, so its own mark must not hide its read.
+fn test_and_mark(visited: &mut [u16], stamp: u16, word: u64) -> bool
+    requires { ⌜ nodeIn word < length (now visited) ⌝ }
+    ensures { λ r. ⌜ ((n : ℕ) → nodeIn word < n → r ≡ isEmptyRead (flagsOf stamp n (held visited)) [] (useOf word)) ⌝ }
+    ensures { λ _. ⌜ left visited ≡ markIf (isWrite (useOf word)) (nodeIn word) stamp (held visited) ⌝ }
+{
+    let empty = is_empty_read(visited, stamp, word);
+    mark_write(visited, stamp, word);
+    empty
+}
+
+// The first empty read in use order, as its number + 1; 0 where there is none. The marks are those of the local's live walk.
 pub fn first_unassigned_use(mine: &[u64], visited: &mut [u16], stamp: u16) -> usize
     requires { ⌜ AllPlaced (length (now visited)) (now mine) ⌝ }
     ensures { λ r. ⌜ ((n : ℕ) → AllPlaced n (held mine) → r ≡ codeOf (firstEmptyRead (flagsOf stamp n (held visited)) [] (usesIn (held mine)))) ⌝ }
@@ -50,10 +60,9 @@ pub fn first_unassigned_use(mine: &[u64], visited: &mut [u16], stamp: u16) -> us
     let mut i = 0;
     while i < mine.len() {
         let word = mine[i];
-        if is_empty_read(visited, stamp, word) {
+        if test_and_mark(visited, stamp, word) {
             return number_of(word) + 1;
         }
-        mark_write(visited, stamp, word);
         i += 1;
     }
     0

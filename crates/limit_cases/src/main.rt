@@ -9,6 +9,7 @@ use flow::LabelAnswer;
 use libc::STDOUT_FILENO;
 use numbers::chart_number;
 use numbers::judge_number;
+use numbers::label_number;
 use numbers::run_number;
 use words::ARGUMENT;
 use words::HALF;
@@ -61,11 +62,10 @@ fn nested_do(sheet: &mut [u64; WORDS], depth: usize)
 }
 
 // No label stands in these pieces: a no would be printed as a number that no refusal has.
-fn label_number(answer: LabelAnswer) -> u64 {
+fn label_or_no(answer: LabelAnswer) -> u64 {
     match answer {
-        LabelAnswer::Refused(refusal) => numbers::number(refusal),
-        LabelAnswer::Yes => 0,
         LabelAnswer::No => NO,
+        _ => label_number(answer),
     }
 }
 
@@ -135,7 +135,7 @@ fn tell(what: &[u8], sheet: &[u64]) {
     io::write_all(STDOUT_FILENO, b", run ");
     io::print_decimal(STDOUT_FILENO, run_number(run::run(sheet, 0)));
     io::write_all(STDOUT_FILENO, b", label check ");
-    io::print_decimal(STDOUT_FILENO, label_number(calls::label_check(sheet)));
+    io::print_decimal(STDOUT_FILENO, label_or_no(calls::label_check(sheet)));
     io::write_all(STDOUT_FILENO, b"\n");
 }
 

@@ -19,7 +19,7 @@ pub struct LocalDeclaration {
     pub scope_end: u64,
 }
 
-// Past the local's scope, or at its LOCAL, which makes the variable anew, its value can't go on.
+// Whether a live path may go through v: not through the LOCAL, where the variable begins anew, nor to code at or past the scope end.
 pub fn is_alive_at(start: &[u64], declaration: LocalDeclaration, v: usize) -> bool
     requires { ⌜ v < length (now start) ⌝ }
     ensures { λ r. ⌜ r ≡ aliveIn (held start) (declared declaration) v ⌝ }

@@ -108,7 +108,7 @@ fn push_starts(
     top
 }
 
-// The nodes from which some path's next use is of the sort, marked by the stamp.
+// The nodes that a path which meets a use of the sort begins at, marked by the stamp.
 fn search_back(
     start: &[u64],
     chain: &[u64],
@@ -158,7 +158,7 @@ fn mark_used(sorted: &[u64], used: &mut [u16], stamp: u16)
     }
 }
 
-// Each node from which some path's next use of the local is a read, and each from which it is a pure write, marked by the stamp.
+// What the paths meet: a stamp in `reads` for the nodes that a path to a read begins at, and in `writes` for those of a pure write.
 pub fn mark_next_uses(
     start: &[u64],
     chain: &[u64],

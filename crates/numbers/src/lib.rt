@@ -1,11 +1,12 @@
-// The number of a refusal, and of the answers that are asked for it, as code.
+// The number of a refusal, and of each answer, as code.
 ghost use mathlib.Core.Path.{_≡_};
 ghost use mathlib.Core.List.{[]};
 ghost use Prim.Native.Nat.{_≤_};
 ghost use Rattle.flow.specs.Refusals;
-ghost use Rattle.flow.specs.Answers.{tells, chartTold, runTold, judgeTold};
+ghost use Rattle.flow.specs.Answers.{tells, chartTold, runTold, judgeTold, labelTold};
 use flow::ChartAnswer;
 use flow::JudgeAnswer;
+use flow::LabelAnswer;
 use flow::Refusal;
 use flow::RunAnswer;
 use flow::Verdict;
@@ -60,5 +61,15 @@ pub fn judge_number(answer: JudgeAnswer) -> u64
     match answer {
         JudgeAnswer::Refused(refusal) => number(refusal),
         JudgeAnswer::Judged(_, _) => 0,
+    }
+}
+
+pub fn label_number(answer: LabelAnswer) -> u64
+    ensures { λ r. ⌜ r ≡ labelTold answer .number ⌝ }
+{
+    match answer {
+        LabelAnswer::Refused(refusal) => number(refusal),
+        LabelAnswer::Yes => 0,
+        LabelAnswer::No => 0,
     }
 }

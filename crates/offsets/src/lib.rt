@@ -71,7 +71,7 @@ pub fn code_at(code_span: &[u64], codes: usize, offset: u64, hint: usize) -> usi
     }
 }
 
-// The node of the code at an index; past all codes there is none.
+// The node that a code has, by its index; past all codes there is none.
 pub fn node_of_code(code_node: &[u64], codes: usize, index: usize) -> Found
     requires { ⌜ codes ≤ length (now «code_node») ⌝ }
     ensures { λ r. ⌜ ((spans : List ℕ) (offset : ℕ) → codes ≤ length spans → FirstPast codes spans offset index → r ≡ nodeAmong (take codes spans) (take codes (now («code_node» .entry))) offset) ⌝ }

@@ -12,7 +12,7 @@ use column_lengths::FINDINGS;
 use column_lengths::LOCALS;
 use column_lengths::NODES;
 use flow::LabelAnswer;
-use numbers::number;
+use numbers::label_number;
 use numbers::verdict_number;
 
 // Misshapen: a length goes past the case's end. Unread: the file ends in the case, or the case is
@@ -29,8 +29,9 @@ pub enum Outcome {
 fn label_word(answer: LabelAnswer) -> u64
     ensures { λ r. ⌜ r ≡ labelTold answer .number + getD (labelTold answer .values) 0 0 ⌝ }
 {
+    let number = label_number(answer);
     match answer {
-        LabelAnswer::Refused(refusal) => number(refusal),
+        LabelAnswer::Refused(_) => number,
         LabelAnswer::Yes => 1,
         LabelAnswer::No => 0,
     }

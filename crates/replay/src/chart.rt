@@ -3,6 +3,7 @@ ghost use mathlib.Core.Path.{_≡_};
 ghost use mathlib.Core.Bool.{true};
 ghost use mathlib.Core.List.{[], _∷_};
 ghost use Rattle.flow.specs.Answers.{countValues, chartTold};
+ghost use Rattle.replay.specs.Words.{storedTold};
 use crate::stored::Stored;
 use column_lengths::CODES;
 use column_lengths::FINDINGS;
@@ -80,7 +81,7 @@ pub fn counts_are(counts: Counts, stored: Stored) -> bool
 
 // Whether an answer tells the stored number, and where that is 0 the stored counts.
 fn answer_is(answer: ChartAnswer, stored: Stored) -> bool
-    ensures { λ r. ⌜ (r ≡ true → chartTold answer .number ≡ stored .number) ⌝ }
+    ensures { λ r. ⌜ (r ≡ true → chartTold answer ≡ storedTold (stored .number) (stored .nodes ∷ stored .codes ∷ stored .names ∷ [])) ⌝ }
 {
     if chart_number(answer) != stored.number {
         return false;

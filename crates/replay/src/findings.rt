@@ -1,7 +1,9 @@
 // The stored findings of a case, with its chart, against what judge writes and answers.
 ghost use mathlib.Core.Path.{_≡_};
 ghost use mathlib.Core.Bool.{true};
+ghost use mathlib.Core.List.{[], _∷_};
 ghost use Rattle.flow.specs.Answers.{judgeTold};
+ghost use Rattle.replay.specs.Words.{storedTold};
 use crate::chart::OLD;
 use crate::chart::cells_hold;
 use crate::chart::counts_are;
@@ -16,7 +18,7 @@ use numbers::judge_number;
 
 // Whether an answer tells the stored number, and where that is 0 the stored counts and the number of findings.
 fn answer_is(answer: JudgeAnswer, stored: Stored) -> bool
-    ensures { λ r. ⌜ (r ≡ true → judgeTold answer .number ≡ stored .number) ⌝ }
+    ensures { λ r. ⌜ (r ≡ true → judgeTold answer ≡ storedTold (stored .number) (stored .nodes ∷ stored .codes ∷ stored .names ∷ stored .findings ∷ [])) ⌝ }
 {
     if judge_number(answer) != stored.number {
         return false;
@@ -24,8 +26,10 @@ fn answer_is(answer: JudgeAnswer, stored: Stored) -> bool
     match answer {
         JudgeAnswer::Refused(_) => true,
         JudgeAnswer::Judged(counts, found) => {
-            let counted = counts_are(counts, stored);
-            counted & (found == stored.findings as usize)
+            if !counts_are(counts, stored) {
+                return false;
+            }
+            found == stored.findings as usize
         }
     }
 }

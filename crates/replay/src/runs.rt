@@ -1,5 +1,11 @@
 // The stored runs of a case, against what run::run answers.
+ghost use mathlib.Core.Path.{_≡_};
+ghost use mathlib.Core.Bool.{true};
+ghost use mathlib.Core.List.{_∷_};
 ghost use Prim.Native.Nat.{_≤_};
+ghost use Rattle.flow.specs.Refusals.{one};
+ghost use Rattle.flow.specs.Answers.{foundValues, runTold};
+ghost use Rattle.replay.specs.Words.{storedTold, storedNode};
 use crate::stored::NONE;
 use crate::stored::Stored;
 use crate::stored::cells_end;
@@ -8,18 +14,40 @@ use crate::stored::word_at;
 use flow::Found;
 use flow::RunAnswer;
 
-// A case writes NONE where there is no node.
-fn node_is(found: Found, node: u64) -> bool {
+// Whether the values that a node or nothing tells are the stored ones: NONE where there is no node.
+fn node_is(found: Found, node: u64) -> bool
+    ensures { λ r. ⌜ (r ≡ true → foundValues found ≡ storedNode node) ⌝ }
+{
     match found {
-        Found::At(v) => v as u64 == node,
+        Found::At(v) => {
+            if node == NONE as u64 {
+                return false;
+            }
+            v as u64 == node
+        }
         Found::Nothing => node == NONE as u64,
     }
 }
 
-fn answer_is(answer: RunAnswer, node: u64, can: u64) -> bool {
+// Whether yes is stored as 1, or no as 0.
+fn yes_is(yes: bool, can: u64) -> bool
+    ensures { λ r. ⌜ (r ≡ true → one yes ≡ can) ⌝ }
+{
+    if yes { can == 1 } else { can == 0 }
+}
+
+// Whether an answer is accepted and tells the stored values.
+fn answer_is(answer: RunAnswer, node: u64, can: u64) -> bool
+    ensures { λ r. ⌜ (r ≡ true → runTold answer ≡ storedTold 0 (can ∷ storedNode node)) ⌝ }
+{
     match answer {
         RunAnswer::Refused(_) => false,
-        RunAnswer::Ran(found, yes) => node_is(found, node) & (can < 2) & (yes == (can == 1)),
+        RunAnswer::Ran(found, yes) => {
+            if !node_is(found, node) {
+                return false;
+            }
+            yes_is(yes, can)
+        }
     }
 }
 

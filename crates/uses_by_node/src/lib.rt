@@ -62,7 +62,7 @@ fn is_ahead(first: &[u64], second: &[u64], marks: &[u16], n: usize, stamp: u16, 
     }
 }
 
-// Whether a value that leaves through v is overwritten on some path and read on none.
+// Whether of the paths that a value leaves v by, some meets a pure write and none a read.
 pub fn is_overwritten_unread(
     first: &[u64],
     second: &[u64],
@@ -82,7 +82,7 @@ pub fn is_overwritten_unread(
     }
 }
 
-// Whether the use at place i is a write that is overwritten: by the next use in its node or, where none follows there, on some path and read on none.
+// Whether the use at place i is an overwritten write: by the next use in its node or, where none follows there, by what the paths from its node meet.
 pub fn is_overwritten(
     first: &[u64],
     second: &[u64],

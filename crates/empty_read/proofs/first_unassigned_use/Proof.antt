@@ -36,11 +36,8 @@ shared-slice-read-word c = omega arith
 abbrev entered : tie.In-loop Inv-loop μ-loop → tie.Start Inv-loop μ-loop
 entered c = c .before .before .before .before
 
-abbrev tried : tie.After-is-empty-read Inv-loop μ-loop → tie.In-loop Inv-loop μ-loop
+abbrev tried : tie.After-test-and-mark Inv-loop μ-loop → tie.In-loop Inv-loop μ-loop
 tried c = c .before .before .before
-
-abbrev turned : tie.After-mark-write Inv-loop μ-loop → tie.After-is-empty-read Inv-loop μ-loop
-turned c = c .before .before .before
 
 -- ---- the use at place i
 
@@ -50,8 +47,29 @@ word c = getD (now (entered c .args .mine)) (c .before .loop .i) 0
 inside : (c : tie.In-loop Inv-loop μ-loop) → nodeIn (word c) < length (c .before .loop .visited)
 inside c = rw (c .before .loop .inv .0) (entered c .pre (c .before .loop .i) (c .loop-test .taken))
 
-is-empty-read-requires : tie.Need-is-empty-read-requires Inv-loop μ-loop
-is-empty-read-requires c κs = inside (c .before .before)
+test-and-mark-requires : tie.Need-test-and-mark-requires Inv-loop μ-loop
+test-and-mark-requires c κs = inside (c .before .before)
+
+module _ (c : tie.After-test-and-mark Inv-loop μ-loop) where
+  abbrev t : tie.In-loop Inv-loop μ-loop
+  t = tried c
+
+  abbrev stamp : ℕ
+  stamp = entered t .args .stamp
+
+  told : (n : ℕ) → AllPlaced n (now (entered t .args .mine)) → c .test-and-mark .result ≡ isEmptyRead (flagsOf stamp n (t .before .loop .visited)) [] (useOf (word t))
+  told n p = c .test-and-mark .ensures .0 n (p (t .before .loop .i) (t .loop-test .taken))
+
+  marked : markIf (isWrite (useOf (word t))) (nodeIn (word t)) stamp (t .before .loop .visited) ≡ c .test-and-mark .last .0
+  marked = sym (c .test-and-mark .ensures .1)
+
+  as-long : length (c .test-and-mark .last .0) ≡ length (now (entered t .args .visited))
+  as-long = c .test-and-mark .kept .0 ∙ t .before .loop .inv .0
+
+  bounded : Stamped stamp (now (entered t .args .visited)) → Stamped stamp (c .test-and-mark .last .0)
+  bounded f = subst (Stamped stamp) marked (bounded-if stamp (nodeIn (word t)) (t .before .loop .visited) (isWrite (useOf (word t))) (inside t) (t .before .loop .inv .1 f))
+
+-- ---- where the read is empty
 
 number-of-requires : tie.Need-number-of-requires Inv-loop μ-loop
 number-of-requires c κs = search needs
@@ -59,47 +77,36 @@ number-of-requires c κs = search needs
 add-result : tie.Need-add-result Inv-loop μ-loop
 add-result c = omega (arith, c .number-of .ensures)
 
-told : (c : tie.After-is-empty-read Inv-loop μ-loop) (n : ℕ) → AllPlaced n (now (entered (tried c) .args .mine)) → c .is-empty-read .result ≡ isEmptyRead (flagsOf (entered (tried c) .args .stamp) n (tried c .before .loop .visited)) [] (useOf (word (tried c)))
-told c n p = c .is-empty-read .ensures n (p (tried c .before .loop .i) (tried c .loop-test .taken))
-
 same-length : tie.Need-same-length Inv-loop μ-loop
-same-length c = tried (c .before .before) .before .loop .inv .0
+same-length c = as-long (c .before .before .before .before)
 
 returns : tie.Need-returns Inv-loop μ-loop
 returns c =
-    let r = c .before .before in
+    let r = c .before .before .before .before in
     let t = tried r in
     let a = entered t .args in
     let l = t .before .loop in (
       λ n p. ap (λ (x : ℕ). x + 1) (c .number-of .ensures) ∙ found (a .stamp) n (l .visited) (now (a .mine)) (l .i) (t .loop-test .taken) (sym (told r n p) ∙ c .before .if1 .taken) ∙ ap codeOf (sym (l .inv .2 n p)),
-      l .inv .1,
+      bounded r,
     )
-
-mark-write-requires : tie.Need-mark-write-requires Inv-loop μ-loop
-mark-write-requires c κs = inside (tried (c .before .before))
 
 -- ---- after a turn
 
 add-i : tie.Need-add-i Inv-loop μ-loop
-add-i c = let t = tried (turned (c .before .before)) in omega (arith, t .loop-test .taken, entered t .good .0)
+add-i c = let t = tried (c .before .before .before) in omega (arith, t .loop-test .taken, entered t .good .0)
 
 loop-less : tie.Need-loop-less Inv-loop μ-loop
-loop-less c = omega (arith, tried (turned (c .before .before)) .loop-test .taken)
-
-marked : (c : tie.After-mark-write Inv-loop μ-loop) → let t = tried (turned c) in markIf (isWrite (useOf (word t))) (nodeIn (word t)) (entered t .args .stamp) (t .before .loop .visited) ≡ c .mark-write .last .0
-marked c = sym (c .mark-write .ensures)
+loop-less c = omega (arith, tried (c .before .before .before) .loop-test .taken)
 
 loop-again : tie.Need-loop-again Inv-loop μ-loop
 loop-again c =
-    let m = c .before .before in
-    let r = turned m in
+    let r = c .before .before .before in
     let t = tried r in
     let a = entered t .args in
-    let l = t .before .loop in
-    let w = word t in (
-      m .mark-write .kept .0 ∙ l .inv .0,
-      λ f. subst (Stamped (a .stamp)) (marked m) (bounded-if (a .stamp) (nodeIn w) (l .visited) (isWrite (useOf w)) (inside t) (l .inv .1 f)),
-      λ n p. l .inv .2 n p ∙ passed (a .stamp) n (l .visited) (now (a .mine)) (l .i) (t .loop-test .taken) p (inside t) (sym (told r n p) ∙ m .before .before .if1 .left) ∙ ap (λ (x : List ℕ). firstEmptyRead (flagsOf (a .stamp) n x) [] (usesIn (drop (l .i + 1) (now (a .mine))))) (marked m),
+    let l = t .before .loop in (
+      as-long r,
+      bounded r,
+      λ n p. l .inv .2 n p ∙ passed (a .stamp) n (l .visited) (now (a .mine)) (l .i) (t .loop-test .taken) p (inside t) (sym (told r n p) ∙ c .if1 .left) ∙ ap (λ (x : List ℕ). firstEmptyRead (flagsOf (a .stamp) n x) [] (usesIn (drop (l .i + 1) (now (a .mine))))) (marked r),
     )
 
 same-length-2 : tie.Need-same-length-2 Inv-loop μ-loop
@@ -120,12 +127,11 @@ first-unassigned-use-spec =
     loop-holds
     mul-word
     shared-slice-read-word
-    is-empty-read-requires
+    test-and-mark-requires
     number-of-requires
     add-result
     same-length
     returns
-    mark-write-requires
     add-i
     loop-less
     loop-again

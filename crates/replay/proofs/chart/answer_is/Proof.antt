@@ -2,6 +2,7 @@
 use borrow.Author.Needs.{needs}
 use mathlib.Core.Bool.{false≢true}
 use mathlib.Core.Path.{sym, _∙_}
+use Rattle.replay.proofs.Told.{chart-refused, chart-charted}
 use Rattle.replay.proofs.chart.answer_is.Statement.{statement}
 use Rattle.replay.proofs.chart.answer_is.Tie as tie
 
@@ -21,10 +22,10 @@ counts-are-requires : tie.Need-counts-are-requires
 counts-are-requires c κs = search needs
 
 returns-2 : tie.Need-returns-2
-returns-2 c = λ e. sym (c .before .before .before .before .chart-number .ensures) ∙ c .before .before .if1 .left
+returns-2 c = λ e. chart-refused (c .enum-told .given .1) _ _ (sym (c .before .before .before .before .chart-number .ensures) ∙ c .before .before .if1 .left)
 
 returns-3 : tie.Need-returns-3
-returns-3 c = λ e. sym (c .before .before .before .before .before .before .chart-number .ensures) ∙ c .before .before .before .before .if1 .left
+returns-3 c = λ e. chart-charted (c .before .before .answer .given .1) _ _ (sym (c .before .before .before .before .before .before .chart-number .ensures) ∙ c .before .before .before .before .if1 .left) (c .counts-are .ensures e)
 
 pub answer-is-spec : {M : Type 1} → statement M
 answer-is-spec =
