@@ -13,7 +13,9 @@ use Rattle.flow.specs.Sheet.{kindWords}
 use Rattle.flow.specs.Locals.{locals, tracked, localAt}
 use Rattle.flow.specs.Findings.{firstUnassignedUse, initialOverwritten, writesOverwritten, unassignedOf, overwrittenOf, findings}
 use Rattle.flow.specs.Judge.{wordsOf}
-use Rattle.facts.specs.Facts.{localsIn, FactsOf, Stored, None}
+use Rattle.facts.specs.Facts.{FactsOf, None}
+use Rattle.name_facts.specs.Names.{localsIn, Stored}
+use Rattle.name_facts.proofs.Names.{names-counted, names-known}
 use Rattle.locals.specs.Columns.{Tables}
 use Rattle.locals.specs.Entries.{Added}
 use Rattle.locals.proofs.Entries.{added-none}
