@@ -6,6 +6,17 @@ use Rattle.cfg_steps.proofs.Loops.{repeat-did}
 use Rattle.cfg_steps.proofs.GraphBuilder.repeat_end.Statement.{statement}
 use Rattle.cfg_steps.proofs.GraphBuilder.repeat_end.Tie as tie
 
+-- ---- the places: from each place back to the one before it
+
+abbrev before-may-hold : tie.After-may-hold → tie.After-connect-if
+before-may-hold c = c .before .before .before
+
+abbrev before-may-fail : tie.After-may-fail → tie.After-record-code
+before-may-fail c = c .before .before .before
+
+abbrev before-record-code : tie.After-record-code → tie.Start
+before-record-code c = c .before .before .before .before
+
 add-record-code : tie.Need-add-record-code
 add-record-code c = search needs
 
@@ -43,7 +54,13 @@ same-length-2 : tie.Need-same-length-2
 same-length-2 c = search needs
 
 returns : tie.Need-returns
-returns c = λ ks n l ok q. repeat-did ks _ _ n l _ (c .before .before .before .before .before .before .before .before .before .before .before .before .before .before .before .before .args .body) (c .before .before .before .before .before .before .before .before .before .before .before .before .before .before .before .before .args .j) (c .before .before .before .before .before .before .before .before .before .before .before .before .before .before .before .before .args .truth) _ _ (c .before .before .before .before .before .before .before .before .before .before .before .before .record-code .ensures .0 ks _ n l ok q) (c .before .before .before .before .before .before .before .before .before .may-fail .ensures) (c .before .before .before .before .may-hold .ensures) (c .before .before .before .before .before .before .before .connect-if .ensures) (c .before .before .connect-if2 .ensures) (omega (arith, c .before .before .before .before .before .before .before .before .before .before .before .before .before .before .before .before .pre .1 .0, c .before .before .before .before .before .before .before .before .before .before .before .before .record-code .ensures .1 .0))
+returns c =
+    let after-may-hold = c .before .before .before .before in
+    let after-connect-if = before-may-hold after-may-hold in
+    let after-may-fail = after-connect-if .before .before in
+    let after-record-code = before-may-fail after-may-fail in
+    let start = before-record-code after-record-code in
+    λ ks n l ok q. repeat-did ks _ _ n l _ (start .args .body) (start .args .j) (start .args .truth) _ _ (after-record-code .record-code .ensures .0 ks _ n l ok q) (after-may-fail .may-fail .ensures) (after-may-hold .may-hold .ensures) (after-connect-if .connect-if .ensures) (c .before .before .connect-if2 .ensures) (omega (arith, start .pre .1 .0, after-record-code .record-code .ensures .1 .0))
 
 pub repeat-end-spec : {M : Type 1} → statement M
 repeat-end-spec =
