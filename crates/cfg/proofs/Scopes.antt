@@ -11,10 +11,11 @@ use Rattle.flow.specs.Tree.{Block, labelsOf}
 use Rattle.flow.specs.Size.{blockNodes}
 use Rattle.flow.specs.Graph.{Settings, Label, buildBlock, inside, inLoop, entered, closeInto, withLabels}
 use Rattle.blocks.specs.Open.{openAt, Ender, labelsAt}
-use Rattle.cfg_steps.specs.declared.BlockSettings.{BlockSettings}
+use Rattle.block_settings.specs.declared.BlockSettings.{BlockSettings}
+use Rattle.block_settings.specs.Settings.{scopeSettings, loopSettings}
 use Rattle.cfg_steps.specs.declared.GraphBuilder.{GraphBuilder}
 use Rattle.cfg_edges.specs.Halves.{labelList}
-use Rattle.cfg_steps.specs.Columns.{Cols, cols, graphOf, settingsOf, within, scopeSettings, loopSettings, Good, Did, Entered}
+use Rattle.cfg_steps.specs.Columns.{Cols, cols, graphOf, settingsOf, within, Good, Did, Entered}
 use Rattle.cfg_steps.proofs.Fits.{good-as}
 use Rattle.cfg_steps.proofs.Ops.{grown-trans, same-labels, take-less}
 use Rattle.cfg.specs.Steps.{bare, Finished, Scoped, Looped}

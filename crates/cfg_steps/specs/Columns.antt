@@ -13,7 +13,7 @@ use Rattle.flow.specs.Sheet.{kindOf, argumentOf, startOf, member}
 use Rattle.flow.specs.Kinds.{kinds, raises}
 use Rattle.flow.specs.Graph.{exits, newNodes, withLabels, standAt, labelNode, orBreak, jump, code, connect, setCurrent, recordCode, unlessTrue, unlessFalse, simpleStmt, Graph, Settings, Label, absent}
 use Rattle.cfg_edges.specs.Halves.{lo, hi, labelList}
-use Rattle.cfg_steps.specs.declared.BlockSettings.{BlockSettings}
+use Rattle.block_settings.specs.declared.BlockSettings.{BlockSettings}
 use Rattle.cfg_steps.specs.declared.GraphBuilder.{GraphBuilder}
 open record exits using (ReturnValue, ReturnEmpty, Error)
 open record kinds using (END, UNTIL, NAME, LABEL, BREAK, CONTINUE, RETURN, CALL, EMPTY)
@@ -83,13 +83,6 @@ within st b = record {
   cursor = b .cursor;
   settings = st;
 }
-
--- the settings of a block inside a scope that ends at e, and inside a loop, with the labels outside
-abbrev pub scopeSettings : ℕ → BlockSettings → BlockSettings
-scopeSettings e st = record { labels = st .labels; «scope_end» = e; «break_target» = st .«break_target»; «continue_target» = st .«continue_target» }
-
-abbrev pub loopSettings : ℕ → ℕ → BlockSettings → BlockSettings
-loopSettings after next st = record { labels = st .labels; «scope_end» = st .«scope_end»; «break_target» = after; «continue_target» = next }
 
 -- the columns are wide enough, and all that they hold are nodes and items that were read
 pub record Good (b : GraphBuilder) (x : Cols) : Type 0 where

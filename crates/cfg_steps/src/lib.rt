@@ -8,10 +8,12 @@ ghost use Prim.Native.Nat.{ℕ, _+_, _≤_, _<_, _^_};
 ghost use lib.ListN.{length, getD};
 ghost use Rattle.flow.specs.Sheet.{kindOf, argumentOf};
 ghost use Rattle.flow.specs.Graph.{newNode, advanceTo, code, closeInto, jump, recordCode, declare, connect, setCurrent, enterWhen, unlessTrue};
+ghost use Rattle.block_settings.specs.Settings.{scopeSettings, loopSettings};
 ghost use Rattle.blocks.specs.Open.{labelsAt, labelsHere};
 ghost use Rattle.cfg_edges.specs.Halves.{labelList};
 ghost use Rattle.search.specs.Lent.{held, left};
-ghost use Rattle.cfg_steps.specs.Columns.{cols, settingsOf, within, scopeSettings, loopSettings, Good, Standing, Does, DoesCode, DoesSimple, Enters, LabelsFit, labelled, gone, coded, repeatEnd, simpleMade};
+ghost use Rattle.cfg_steps.specs.Columns.{cols, settingsOf, within, Good, Standing, Does, DoesCode, DoesSimple, Enters, LabelsFit, labelled, gone, coded, repeatEnd, simpleMade};
+use block_settings::BlockSettings;
 use blocks::depth_after;
 use blocks::ends_at;
 use cfg_edges::connect;
@@ -40,15 +42,6 @@ use words::kind::RETURN;
 
 // The numbers that a name's word has for a node.
 const NAME_NODES: usize = NAME_ITEM as usize;
-
-// What holds inside a block and returns to what it was outside as the block closes.
-pub struct BlockSettings {
-    // How many labels are in force.
-    pub labels: usize,
-    pub scope_end: u64,
-    pub break_target: usize,
-    pub continue_target: usize,
-}
 
 // The builder's place in the sheet, its counts and its settings.
 pub struct GraphBuilder {
@@ -98,11 +91,13 @@ impl GraphBuilder {
         self
     }
 
-    // "Break target, continue target and scope end return to their outer settings when a body closes", and so do the labels in force.
+    // The settings of the block outside, as a body closes.
     pub fn return_to(mut self, outer: BlockSettings) -> GraphBuilder
         ensures { λ r. ⌜ r ≡ within outer self ⌝ }
     {
-        self.settings = outer;
+        let inner = self.settings;
+        let settings = inner.return_to(outer);
+        self.settings = settings;
         self
     }
 
@@ -110,7 +105,9 @@ impl GraphBuilder {
     pub fn enter_scope(mut self, scope_end: u64) -> GraphBuilder
         ensures { λ r. ⌜ r ≡ within (scopeSettings «scope_end» (self .settings)) self ⌝ }
     {
-        self.settings.scope_end = scope_end;
+        let outer = self.settings;
+        let settings = outer.enter_scope(scope_end);
+        self.settings = settings;
         self
     }
 
@@ -118,8 +115,9 @@ impl GraphBuilder {
     pub fn enter_loop(mut self, break_target: usize, continue_target: usize) -> GraphBuilder
         ensures { λ r. ⌜ r ≡ within (loopSettings «break_target» «continue_target» (self .settings)) self ⌝ }
     {
-        self.settings.break_target = break_target;
-        self.settings.continue_target = continue_target;
+        let outer = self.settings;
+        let settings = outer.enter_loop(break_target, continue_target);
+        self.settings = settings;
         self
     }
 
