@@ -11,7 +11,7 @@ use Rattle.flow.specs.Size.{stmtNodes, blockNodes, armNodes}
 use Rattle.flow.specs.Graph.{exits, buildStmt, buildBlock, buildArms, inside, inLoop, entered, closeInto, outside, startGraph}
 use Rattle.blocks.specs.Open.{openAt, Ender}
 use Rattle.cfg_steps.specs.declared.GraphBuilder.{GraphBuilder}
-use Rattle.cfg.specs.declared.IfBuilder.{IfBuilder}
+use Rattle.if_builder.specs.declared.IfBuilder.{IfBuilder}
 use Rattle.cfg_steps.specs.Columns.{Cols, graphOf, settingsOf, Good, Grown, LabelsFit}
 open record exits using (End)
 

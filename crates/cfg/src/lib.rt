@@ -11,6 +11,7 @@ use block_settings::BlockSettings;
 use blocks::ends_at;
 use cfg_steps::GraphBuilder;
 use flow::Truth;
+use if_builder::IfBuilder;
 use kinds::literal_truth;
 use words::ARGUMENT;
 use words::NO_SUCCESSORS;
@@ -222,13 +223,6 @@ fn if_stmt(
     r
 }
 
-// An IF between two of its arms: its last test, and whether that test goes on to the join past them all.
-struct IfBuilder {
-    builder: GraphBuilder,
-    test: usize,
-    falls: bool,
-}
-
 // Whether ELSEIF or ELSE stands at an item.
 fn arm_follows(kinds: &[u64], at: usize) -> bool
     ensures { λ r. ⌜ (r ≡ true → (at < length (held kinds)) × Arm (kindOf (getD (held kinds) at 0))) × (r ≡ false → at < length (held kinds) → Arm (kindOf (getD (held kinds) at 0)) → ⊥) ⌝ }
@@ -298,20 +292,12 @@ fn arm(
         let h = t.arm_test(edges, codes, at, s.test);
         let b = scoped_block(kinds, edges, codes, names, labels, h, scope_end);
         let c = b.close_into(edges, join);
-        return IfBuilder {
-            builder: c,
-            test: n,
-            falls: s.falls,
-        };
+        return s.past_elseif(c, n);
     }
     t.cursor = s.test;
     let b = scoped_block(kinds, edges, codes, names, labels, t, scope_end);
     let c = b.close_into(edges, join);
-    IfBuilder {
-        builder: c,
-        test: s.test,
-        falls: false,
-    }
+    s.past_else(c)
 }
 
 // The statement at the builder's item.

@@ -71,6 +71,8 @@ use Rattle.cfg_steps.proofs.GraphBuilder.return_to.Reads as return-to-reads
 use Rattle.cfg_steps.proofs.GraphBuilder.simple_stmt.Reads as simple-stmt-reads
 use Rattle.cfg_steps.proofs.GraphBuilder.while_head.Reads as while-head-reads
 use Rattle.blocks.proofs.ends_at.Reads as ends-at-reads
+use Rattle.if_builder.proofs.IfBuilder.past_elseif.Reads as past-elseif-reads
+use Rattle.if_builder.proofs.IfBuilder.past_else.Reads as past-else-reads
 use Rattle.kinds.proofs.literal_truth.Reads as literal-truth-reads
 use Rattle.cfg.proofs.+arm+arms+block+for_loop+if_stmt+loop_body+repeat_loop+scoped_block+stmt+while_loop.{
   statement,
@@ -182,7 +184,7 @@ while-loop-below t =
     and 5 while-loop-kinds.ps (falls 5 while-loop-kinds.ps _<_ μ-while-loop t) while-loop.Pre
 
 abbrev arm-claims : ℕ → arm-lts.Claims
-arm-claims t = (arm-test-reads.Asked, arm-test-reads.Learnt, scoped-block-below t, scoped-block.Post, close-into-reads.Asked, close-into-reads.Learnt)
+arm-claims t = (arm-test-reads.Asked, arm-test-reads.Learnt, scoped-block-below t, scoped-block.Post, close-into-reads.Asked, close-into-reads.Learnt, past-elseif-reads.Asked, past-elseif-reads.Learnt, past-else-reads.Asked, past-else-reads.Learnt)
 
 abbrev arms-claims : ℕ → arms-lts.Claims
 arms-claims t = (arm-follows-reads.Asked, arm-follows-reads.Learnt, arm-below t, arm.Post, past-reads.Asked, past-reads.Learnt, arms-end-reads.Asked, arms-end-reads.Learnt)
@@ -263,16 +265,20 @@ arm-close-into-requires t c κs =
     let hd = after-arm-test .arm-test .ensures (start .args .kinds .now) _ _ (good-item (start .args .s .builder .item + 1) (omega arith) (omega (arith, start .pre .1 .0 .2, start .pre .1 .0 .0 .few)) (start .pre .1 .0 .1)) (code-starts _ 6 (then1 .if1 .taken) (lit≤ tt)) in
     let s = after-scoped-block .scoped-block .ensures (start .args .kinds .now) refl .moved in (stands (s .good), omega (arith, s .grown .nodes, hd .nodes, start .pre .1 .1 .1))
 
+arm-past-elseif-requires : (t : ℕ) → arm-lts.Need-past-elseif-requires (arm-claims t) (arm-at t) arm.Post
+arm-past-elseif-requires t c κs = tt
+
 arm-returns : (t : ℕ) → arm-lts.Need-returns (arm-claims t) (arm-at t) arm.Post
 arm-returns t c =
-    let after-scoped-block = c .before .before .before .before .before .before .before .before .before .before .before .before in
+    let d = c .before in
+    let after-scoped-block = d .before .before .before .before .before .before .before .before .before .before .before .before in
     let after-arm-test = arm-before-scoped-block t after-scoped-block in
     let then1 = arm-before-arm-test t after-arm-test in
     let start = arm-before-then1 t then1 in
     let hd = after-arm-test .arm-test .ensures (start .args .kinds .now) _ _ (good-item (start .args .s .builder .item + 1) (omega arith) (omega (arith, start .pre .1 .0 .2, start .pre .1 .0 .0 .few)) (start .pre .1 .0 .1)) (code-starts _ 6 (then1 .if1 .taken) (lit≤ tt)) in
     let sc = after-scoped-block .scoped-block .ensures (start .args .kinds .now) refl in
-    let cl = c .before .before .close-into .ensures (start .args .kinds .now) _ _ _ (sc .moved .good) in
-    (omega (arith, hd .item, sc .moved .forward, cl .item), λ ss e. elseif-built (start .args .kinds .now) ss e (start .pre .1 .0 .0 .few) (start .pre .1 .0 .1) (start .pre .1 .0 .2) _ _ _ _ (then1 .if1 .taken) refl (start .pre .1 .0 .4) hd (after-scoped-block .scoped-block .ensures ss e) cl)
+    let cl = d .before .before .close-into .ensures (start .args .kinds .now) _ _ _ (sc .moved .good) in
+    rw (c .past-elseif .ensures) (omega (arith, hd .item, sc .moved .forward, cl .item), λ ss e. elseif-built (start .args .kinds .now) ss e (start .pre .1 .0 .0 .few) (start .pre .1 .0 .1) (start .pre .1 .0 .2) _ _ _ _ (then1 .if1 .taken) refl (start .pre .1 .0 .4) hd (after-scoped-block .scoped-block .ensures ss e) cl)
 
 arm-scoped-block-requires-2 : (t : ℕ) → arm-lts.Need-scoped-block-requires-2 (arm-claims t) (arm-at t) arm.Post
 arm-scoped-block-requires-2 t c κs =
@@ -289,15 +295,19 @@ arm-close-into-requires-2 t c κs =
     let start = arm-before-else1 t else1 in
     let s = after-scoped-block2 .scoped-block2 .ensures (start .args .kinds .now) refl .moved in (stands (s .good), omega (arith, s .grown .nodes, start .pre .1 .1 .1))
 
+arm-past-else-requires : (t : ℕ) → arm-lts.Need-past-else-requires (arm-claims t) (arm-at t) arm.Post
+arm-past-else-requires t c κs = tt
+
 arm-returns-2 : (t : ℕ) → arm-lts.Need-returns-2 (arm-claims t) (arm-at t) arm.Post
 arm-returns-2 t c =
-    let after-scoped-block2 = c .before .before .before .before .before .before .before .before .before .before .before .before in
+    let d = c .before in
+    let after-scoped-block2 = d .before .before .before .before .before .before .before .before .before .before .before .before in
     let else1 = arm-before-scoped-block2 t after-scoped-block2 in
     let start = arm-before-else1 t else1 in
     let hd = move-did (start .args .kinds .now) _ _ _ _ _ (good-item (start .args .s .builder .item + 1) (omega arith) (omega (arith, start .pre .1 .0 .2, start .pre .1 .0 .0 .few)) (start .pre .1 .0 .1)) _ (inl (start .pre .1 .1 .0)) in
     let sc = after-scoped-block2 .scoped-block2 .ensures (start .args .kinds .now) refl in
-    let cl = c .before .before .close-into2 .ensures (start .args .kinds .now) _ _ _ (sc .moved .good) in
-    (omega (arith, hd .item, sc .moved .forward, cl .item), λ ss e. else-built (start .args .kinds .now) ss e (start .pre .1 .0 .0 .few) (start .pre .1 .0 .1) (start .pre .1 .0 .2) _ _ _ _ (arm-else _ (start .pre .1 .0 .3) (else1 .if1 .left)) refl (start .pre .1 .1 .0) (start .pre .1 .0 .4) hd (after-scoped-block2 .scoped-block2 .ensures ss e) cl)
+    let cl = d .before .before .close-into2 .ensures (start .args .kinds .now) _ _ _ (sc .moved .good) in
+    rw (c .past-else .ensures) (omega (arith, hd .item, sc .moved .forward, cl .item), λ ss e. else-built (start .args .kinds .now) ss e (start .pre .1 .0 .0 .few) (start .pre .1 .0 .1) (start .pre .1 .0 .2) _ _ _ _ (arm-else _ (start .pre .1 .0 .3) (else1 .if1 .left)) refl (start .pre .1 .1 .0) (start .pre .1 .0 .4) hd (after-scoped-block2 .scoped-block2 .ensures ss e) cl)
 
 abbrev arms-Inv-loop : arms-lts.InvT-loop
 arms-Inv-loop kinds edges₀ codes₀ names₀ labels₀ test join falls s₀ at₀ edges codes names labels s at = (at ≡ s .builder .item) × ((ss : List ℕ) → length ss ≡ length kinds → Armed kinds ss join (s₀ .test) (s₀ .falls) (s₀ .builder) (cols edges₀ codes₀ names₀ labels₀) (s .test) (s .falls) (s .builder) (cols edges codes names labels))
@@ -992,9 +1002,10 @@ while-loop-returns t c =
     let start = while-loop-before-literal-truth t after-literal-truth in
     λ ss e. while-opened (start .args .kinds .now) ss e (start .pre .1 .0 .few) (start .args .i) (start .pre .1 .4) _ _ _ (start .pre .1 .5) (after-literal-truth .literal-truth .ensures) refl (start .pre .1 .2) (start .pre .1 .1) (start .pre .1 .0 .tidy ss e _ (start .pre .1 .4) (omega (arith, start .pre .1 .5)) (omega (arith, start .pre .1 .5))) (after-while-head .while-head .ensures (start .args .kinds .now) _ _ (start .pre .1 .1) (code-starts _ 2 (start .pre .1 .5) (lit≤ tt))) (after-loop-body .loop-body .ensures ss e) (after-past .past .ensures .2) (after-past .past .ensures .3) (after-past .past .ensures .1) (after-past .past .ensures .0) (c .before .before .loop-end .ensures (start .args .kinds .now) _ _ _ (good-item (after-past .past .result) (after-past .past .ensures .0) (omega (arith, after-past .past .ensures .1, start .pre .1 .0 .few)) (after-loop-body .loop-body .ensures (start .args .kinds .now) refl .moved .good)))
 
-abbrev arm-begun : (t : ℕ) → arm-lts.After-slice-known11 (arm-claims t) (arm-at t) arm.Post → arm-lts.Start (arm-claims t) (arm-at t) arm.Post
+abbrev arm-begun : (t : ℕ) → arm-lts.After-past-elseif (arm-claims t) (arm-at t) arm.Post → arm-lts.Start (arm-claims t) (arm-at t) arm.Post
 arm-begun t c =
-    let after-scoped-block = c .before .before .before .before .before .before .before .before .before .before .before .before in
+    let d = c .before in
+    let after-scoped-block = d .before .before .before .before .before .before .before .before .before .before .before .before in
     let after-arm-test = arm-before-scoped-block t after-scoped-block in
     let then1 = arm-before-arm-test t after-arm-test in
     arm-before-then1 t then1
@@ -1011,9 +1022,10 @@ arm-same-length-3 t c = arm-returns t c .1 (arm-begun t c .args .kinds .now) ref
 arm-same-length-4 : (t : ℕ) → arm-lts.Need-same-length-4 (arm-claims t) (arm-at t) arm.Post
 arm-same-length-4 t c = arm-returns t c .1 (arm-begun t c .args .kinds .now) refl .moved .grown .labelsLength
 
-abbrev arm-begun-2 : (t : ℕ) → arm-lts.After-slice-known16 (arm-claims t) (arm-at t) arm.Post → arm-lts.Start (arm-claims t) (arm-at t) arm.Post
+abbrev arm-begun-2 : (t : ℕ) → arm-lts.After-past-else (arm-claims t) (arm-at t) arm.Post → arm-lts.Start (arm-claims t) (arm-at t) arm.Post
 arm-begun-2 t c =
-    let after-scoped-block2 = c .before .before .before .before .before .before .before .before .before .before .before .before in
+    let d = c .before in
+    let after-scoped-block2 = d .before .before .before .before .before .before .before .before .before .before .before .before in
     let else1 = arm-before-scoped-block2 t after-scoped-block2 in
     arm-before-else1 t else1
 
@@ -1345,6 +1357,7 @@ pub +arm+arms+block+for-loop+if-stmt+loop-body+repeat-loop+scoped-block+stmt+whi
     (arm-arm-test-requires t)
     (arm-scoped-block-requires t)
     (arm-close-into-requires t)
+    (arm-past-elseif-requires t)
     (arm-same-length t)
     (arm-same-length-2 t)
     (arm-same-length-3 t)
@@ -1352,6 +1365,7 @@ pub +arm+arms+block+for-loop+if-stmt+loop-body+repeat-loop+scoped-block+stmt+whi
     (arm-returns t)
     (arm-scoped-block-requires-2 t)
     (arm-close-into-requires-2 t)
+    (arm-past-else-requires t)
     (arm-same-length-5 t)
     (arm-same-length-6 t)
     (arm-same-length-7 t)
