@@ -2,7 +2,7 @@
 -- Assumes nothing.
 use mathlib.Core.Path.{_≡_, refl, sym, ap, _∙_, subst}
 use mathlib.Core.List.{List, [], _∷_, _++_, append-nil}
-use mathlib.Core.Bool.{Bool, true, false, _&&_, true≢false, and-true}
+use mathlib.Core.Bool.{Bool, true, false, _&&_, true≢false, and-true, or-comm}
 use Prim.Native.Nat.{ℕ, _+_, _-_, _≤_, _<_}
 use native.Mathlib.Numerals.{add-one}
 use native.Mathlib.Omega.{arith}
@@ -14,12 +14,13 @@ use Rattle.flow.specs.Sheet.{Item, kind, kindOf, argumentOf, member, zip}
 use Rattle.flow.specs.Kinds.{closes}
 use Rattle.flow.specs.Tree.{Stmt, Arms, Frame, Open, simple, no-more, outer, inFront, opened, tree, labelsOf}
 use Rattle.flow.specs.Labels.{distinct, labelsFineIn, blockFine, armsFine}
+use Rattle.flow.proofs.Lookup.{one-of-append}
 use Rattle.blocks.specs.Open.{itemAt, openAt, labelsAt}
 use Rattle.blocks.proofs.Parse.{read-at, read-end, read-close, read-simple, read-opener}
-use Rattle.label_check.specs.declared.Sight.{Sight}
-use Rattle.label_check.specs.Walk.{labelsToCome, visible, flat, bases, Holds, wholeFine, openFine, outsideFine, Checkable, Unlabelled, openedSight, nextArm, closedSight, jumped, inBlock, Entered, Entering, Walking, After}
-use Rattle.label_check.proofs.Names.{one-of-flat}
-use Rattle.label_check.proofs.Named.{made-names, outer-to-come, front-to-come, opened-to-come, simple-few, few-to-come}
+use Rattle.label_sight.specs.declared.Sight.{Sight}
+use Rattle.label_sight.specs.Labels.{labelsToCome, Unlabelled, openedSight, nextArm, closedSight, jumped, inBlock, Entered}
+use Rattle.label_check.specs.Walk.{visible, flat, bases, Holds, wholeFine, openFine, outsideFine, Checkable, Entering, Walking, After}
+use Rattle.label_sight.proofs.Named.{made-names, outer-to-come, front-to-come, opened-to-come, simple-few, few-to-come}
 use Rattle.label_check.proofs.Fine.{Enters, front-fine, opener-fine, arm-fine, close-fine, end-fine, opener-enters, arm-enters, goto-fine, simple-fine}
 
 -- ---- how many blocks are open
@@ -40,6 +41,13 @@ unfolding inFront
 front-below st o = refl
 
 -- ---- the columns
+
+-- in whichever order the blocks stand
+pub one-of-flat : (a : ℕ) (ss : List (List ℕ)) → member a (flat ss) ≡ member a (visible ss)
+unfolding flat visible
+one-of-flat a [] = refl
+one-of-flat a (s ∷ ss) =
+    one-of-append a (flat ss) s ∙ rw (one-of-flat a ss) (or-comm (member a (visible ss)) (member a s)) ∙ sym (one-of-append a s (visible ss))
 
 module _ {top : List ℕ} {around : List (List ℕ)} {x : Sight} {l m : List ℕ} (h : Holds top around x l m) where
   pub base-count : x .base ≤ x .count

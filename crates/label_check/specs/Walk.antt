@@ -12,27 +12,8 @@ use Rattle.flow.specs.Labels.{distinct, blockFine, armsFine}
 use Rattle.flow.specs.Admitted.{Tidy}
 use Rattle.kinds.specs.Label.{isLabel}
 use Rattle.blocks.specs.Open.{openAt, labelsAt}
-use Rattle.label_check.specs.declared.Sight.{Sight}
-
--- ---- how many labels there are
-
--- how many labels with a name there are
-unfoldable pub named : List ℕ → ℕ
-named [] = 0
-named (w ∷ ws) = one (isLabel w) + named ws
-
--- none stands at a place or after it
-pub record Unlabelled (ks : List ℕ) (end : ℕ) : Type 0 where
-  pub within : end ≤ length ks
-  pub none : named (drop end ks) ≡ 0
-
--- how many labels stand directly in the open blocks, of what is still to come
-unfoldable pub framesLabels : List Frame → ℕ
-framesLabels [] = 0
-framesLabels (f ∷ fs) = length (labelsOf (f .body)) + framesLabels fs
-
-unfoldable pub labelsToCome : Open → ℕ
-labelsToCome o = length (labelsOf (o .top .body)) + framesLabels (o .below)
+use Rattle.label_sight.specs.declared.Sight.{Sight}
+use Rattle.label_sight.specs.Labels.{labelsToCome}
 
 -- ---- what is in sight
 
@@ -82,33 +63,6 @@ pub record Checkable (ks : List ℕ) : Type 0 where
   pub few : length ks ≤ 1024
   pub tidy : Tidy ks
   pub closed : (ss : List ℕ) → length ss ≡ length ks → parse (zip ks ss) .below ≡ []
-
--- a block opened with no label found yet, its next arm likewise, and the block closed
-abbrev pub openedSight : Sight → Sight
-openedSight x = record { fine = x .fine; count = x .count; base = x .count; depth = x .depth + 1 }
-
-abbrev pub nextArm : Sight → Sight
-nextArm x = record { fine = x .fine; count = x .base; base = x .base; depth = x .depth }
-
-abbrev pub closedSight : Sight → List ℕ → Sight
-closedSight x marks = record { fine = x .fine; count = x .base; base = getD marks (x .depth - 1) 0; depth = x .depth - 1 }
-
-abbrev pub jumped : Sight → List ℕ → ℕ → Sight
-jumped x labels name = record { fine = member name (take (x .count) labels); count = x .count; base = x .base; depth = x .depth }
-
--- the labels of the innermost block that are found so far
-abbrev pub inBlock : Sight → List ℕ → List ℕ
-inBlock x labels = drop (x .base) (take (x .count) labels)
-
--- the names as' are in sight besides, as labels of the innermost block
-pub record Entered (as' : List ℕ) (x : Sight) (l : List ℕ) (r : Sight) (m : List ℕ) : Type 0 where
-  pub long : length m ≡ length l
-  pub depth : r .depth ≡ x .depth
-  pub base : r .base ≡ x .base
-  pub count : r .count ≡ x .count + length as'
-  pub labels : take (r .count) m ≡ take (x .count) l ++ as'
-  pub block : inBlock r m ≡ inBlock x l ++ as'
-  pub fine : x .fine ≡ distinct (inBlock x l) → r .fine ≡ distinct (inBlock r m)
 
 -- a block starts at item j, and its labels are not in sight yet
 pub record Entering (ks ss : List ℕ) (j : ℕ) (x : Sight) (labels marks : List ℕ) : Type 0 where

@@ -1,190 +1,48 @@
 // The label check: no two labels of a name stand directly in a block, and every GOTO finds a label.
 ghost use mathlib.Core.Path.{_≡_};
 ghost use mathlib.Core.Bool.{true, false};
-ghost use mathlib.Core.List.{List, [], _∷_};
-ghost use Prim.Native.Nat.{ℕ, _+_, _-_, _≤_, _<_};
-ghost use lib.ListN.{length, take, drop, set};
-ghost use Rattle.flow.specs.Sheet.{member, zip};
+ghost use mathlib.Core.List.{List};
+ghost use Prim.Native.Nat.{ℕ, _+_, _<_};
+ghost use lib.ListN.{length};
+ghost use Rattle.flow.specs.Sheet.{zip};
 ghost use Rattle.flow.specs.Tree.{tree};
-ghost use Rattle.blocks.specs.Open.{labelsAt, labelsHere};
-ghost use Rattle.label_check.specs.Walk.{openedSight, nextArm, closedSight, jumped, wholeFine, Checkable, Unlabelled, Entered, Walking, After};
-use blocks::depth_after;
-use blocks::ends_at;
+ghost use Rattle.label_sight.specs.Labels.{Unlabelled};
+ghost use Rattle.label_check.specs.Walk.{wholeFine, Checkable, Walking, After};
 use kinds::is_closer;
-use kinds::is_label;
 use kinds::is_opener;
+use label_sight::Sight;
+use label_sight::labels_end;
 use words::ARGUMENT;
 use words::kind::ELSE;
 use words::kind::ELSEIF;
 use words::kind::GOTO;
 use words::limit::ITEMS;
 
-// Where no label with a name follows any more, so that no scan need go on.
-fn labels_end(kinds: &[u64]) -> usize
-    ensures { λ r. ⌜ Unlabelled (now (kinds .entry)) r ⌝ }
+// What is in sight past item j.
+fn step(
+    s: Sight,
+    kinds: &[u64],
+    labels: &mut [u64; ITEMS],
+    marks: &mut [usize; ITEMS],
+    end: usize,
+    j: usize,
+) -> Sight
+    requires { ⌜ Checkable (now kinds) × Unlabelled (now kinds) end × (j < length (now kinds)) × (s .fine ≡ true) ⌝ }
+    requires { ⌜ ((ss : List ℕ) → length ss ≡ length (now kinds) → Walking (now kinds) ss j s (now labels) (now marks)) ⌝ }
+    ensures { λ r. ⌜ ((ss : List ℕ) → length ss ≡ length (now (kinds .entry)) → After (now (kinds .entry)) ss (j + 1) r (now (labels .exit)) (now (marks .exit))) ⌝ }
 {
-    let mut end = kinds.len();
-    while 0 < end {
-        let last = end - 1;
-        let w = kinds[last];
-        if is_label(w) {
-            return end;
-        }
-        end = last;
+    let w = kinds[j];
+    let kind = w % ARGUMENT;
+    if is_opener(kind) {
+        return s.open(marks).enter(kinds, labels, end, j + 1);
     }
-    end
-}
-
-// Whether a name is among the labels from one place up to another, the latest first.
-fn among(labels: &[u64; ITEMS], from: usize, to: usize, name: u64) -> bool
-    requires { ⌜ (from ≤ to) × (to ≤ 1024) × (length (now labels) ≡ 1024) ⌝ }
-    ensures { λ r. ⌜ r ≡ member name (drop from (take to (now (labels .entry)))) ⌝ }
-{
-    let mut k = to;
-    while from < k {
-        k -= 1;
-        if labels[k] == name {
-            return true;
-        }
+    if is_closer(kind) {
+        return s.close(marks);
     }
-    false
-}
-
-// What a walk over the items has found, and the labels that are in sight there.
-struct Sight {
-    // Whether no label is repeated so far, and each GOTO found its label.
-    fine: bool,
-    // How many labels are in sight, and how many of them stand outside the innermost block.
-    count: usize,
-    base: usize,
-    // How many blocks are open in the outermost one.
-    depth: usize,
-}
-
-impl Sight {
-    // A label more in its block, where it may be a repeat.
-    fn add(mut self, labels: &mut [u64; ITEMS], name: u64) -> Sight
-        requires { ⌜ (self .base ≤ self .count) × (self .count < 1024) × (length (now labels) ≡ 1024) ⌝ }
-        ensures { λ r. ⌜ Entered (name ∷ []) self (now (labels .entry)) r (now (labels .exit)) ⌝ }
-    {
-        let base = self.base;
-        let count = self.count;
-        let mut fine = self.fine;
-        if among(labels, base, count, name) {
-            fine = false;
-        }
-        labels[count] = name;
-        self.fine = fine;
-        self.count = count + 1;
-        self
-    }
-
-    // The same, where an item is a named label that stands directly in the block.
-    fn label_here(self, labels: &mut [u64; ITEMS], w: u64, depth: usize) -> Sight
-        requires { ⌜ (self .base ≤ self .count) × (self .count + length (labelsHere w depth) ≤ 1024) × (length (now labels) ≡ 1024) ⌝ }
-        ensures { λ r. ⌜ Entered (labelsHere w depth) self (now (labels .entry)) r (now (labels .exit)) ⌝ }
-    {
-        if depth != 0 {
-            return self;
-        }
-        if !is_label(w) {
-            return self;
-        }
-        self.add(labels, w / ARGUMENT)
-    }
-
-    // The labels standing directly in the block that starts at an item come in sight.
-    fn enter(self, kinds: &[u64], labels: &mut [u64; ITEMS], end: usize, from: usize) -> Sight
-        requires { ⌜ Unlabelled (now kinds) end × (length (now kinds) ≤ 1024) ⌝ }
-        requires { ⌜ (self .base ≤ self .count) × (length (now labels) ≡ 1024) ⌝ }
-        requires { ⌜ ((ss : List ℕ) → length ss ≡ length (now kinds) → self .count + length (labelsAt (now kinds) ss from) ≤ 1024) ⌝ }
-        ensures { λ r. ⌜ ((ss : List ℕ) → length ss ≡ length (now (kinds .entry)) → Entered (labelsAt (now (kinds .entry)) ss from) self (now (labels .entry)) r (now (labels .exit))) ⌝ }
-    {
-        let mut s = self;
-        let mut depth = 0;
-        let mut j = from;
-        while j < end {
-            let w = kinds[j];
-            let kind = w % ARGUMENT;
-            if ends_at(kind, depth) {
-                return s;
-            }
-            s = s.label_here(labels, w, depth);
-            depth = depth_after(kind, depth);
-            j += 1;
-        }
-        s
-    }
-
-    // A block opens, with no label in sight yet.
-    fn open(mut self, marks: &mut [usize; ITEMS]) -> Sight
-        requires { ⌜ self .depth < 1024 ⌝ }
-        ensures { λ r. ⌜ (r ≡ openedSight self) × (now (marks .exit) ≡ set (now (marks .entry)) (self .depth) (self .base)) ⌝ }
-    {
-        let depth = self.depth;
-        marks[depth] = self.base;
-        self.base = self.count;
-        self.depth = depth + 1;
-        self
-    }
-
-    // The arm above is left, and its labels go out of sight.
-    fn next_arm(mut self) -> Sight
-        ensures { λ r. ⌜ r ≡ nextArm self ⌝ }
-    {
-        self.count = self.base;
-        self
-    }
-
-    // The innermost block is left, and its labels go out of sight.
-    fn close(mut self, marks: &[usize; ITEMS]) -> Sight
-        requires { ⌜ (1 ≤ self .depth) × (self .depth ≤ 1024) ⌝ }
-        ensures { λ r. ⌜ r ≡ closedSight self (now (marks .entry)) ⌝ }
-    {
-        let depth = self.depth - 1;
-        let count = self.base;
-        self.count = count;
-        self.base = marks[depth];
-        self.depth = depth;
-        self
-    }
-
-    // A GOTO of a name, which has to be in sight.
-    fn jump(mut self, labels: &[u64; ITEMS], name: u64) -> Sight
-        requires { ⌜ (self .count ≤ 1024) × (length (now labels) ≡ 1024) ⌝ }
-        ensures { λ r. ⌜ r ≡ jumped self (now (labels .entry)) name ⌝ }
-    {
-        let count = self.count;
-        self.fine = among(labels, 0, count, name);
-        self
-    }
-
-    // What is in sight past item j.
-    fn step(
-        self,
-        kinds: &[u64],
-        labels: &mut [u64; ITEMS],
-        marks: &mut [usize; ITEMS],
-        end: usize,
-        j: usize,
-    ) -> Sight
-        requires { ⌜ Checkable (now kinds) × Unlabelled (now kinds) end × (j < length (now kinds)) × (self .fine ≡ true) ⌝ }
-        requires { ⌜ ((ss : List ℕ) → length ss ≡ length (now kinds) → Walking (now kinds) ss j self (now labels) (now marks)) ⌝ }
-        ensures { λ r. ⌜ ((ss : List ℕ) → length ss ≡ length (now (kinds .entry)) → After (now (kinds .entry)) ss (j + 1) r (now (labels .exit)) (now (marks .exit))) ⌝ }
-    {
-        let w = kinds[j];
-        let kind = w % ARGUMENT;
-        if is_opener(kind) {
-            return self.open(marks).enter(kinds, labels, end, j + 1);
-        }
-        if is_closer(kind) {
-            return self.close(marks);
-        }
-        match kind {
-            ELSEIF | ELSE => self.next_arm().enter(kinds, labels, end, j + 1),
-            GOTO => self.jump(labels, w / ARGUMENT),
-            _ => self,
-        }
+    match kind {
+        ELSEIF | ELSE => s.next_arm().enter(kinds, labels, end, j + 1),
+        GOTO => s.jump(labels, w / ARGUMENT),
+        _ => s,
     }
 }
 
@@ -208,7 +66,7 @@ pub fn labels_fine(kinds: &[u64]) -> bool
         if !s.fine {
             break;
         }
-        s = s.step(kinds, &mut labels, &mut marks, end, j);
+        s = step(s, kinds, &mut labels, &mut marks, end, j);
         j += 1;
     }
     s.fine

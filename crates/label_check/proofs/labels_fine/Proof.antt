@@ -9,7 +9,8 @@ use borrow.Author.Needs.{needs}
 use borrow.Author.Tests.{not-true, not-false}
 use denote.Ref.{now}
 use lib.ListN.{length, length-replicate, replicate}
-use Rattle.label_check.specs.Walk.{Unlabelled, Entering, After}
+use Rattle.label_sight.specs.Labels.{Unlabelled}
+use Rattle.label_check.specs.Walk.{Entering, After}
 use Rattle.label_check.proofs.Walks.{enter-asked, entered-after, walk-start, walk-end, walk-lost}
 use Rattle.label_check.proofs.labels_fine.Statement.{statement}
 use Rattle.label_check.proofs.labels_fine.Tie as tie

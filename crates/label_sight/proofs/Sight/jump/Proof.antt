@@ -1,10 +1,10 @@
--- `label_check::Sight::jump` meets its contract: the name is looked for among all the labels in sight.
+-- `label_sight::Sight::jump` meets its contract: the name is looked for among all the labels in sight.
 -- Assumes nothing.
 use mathlib.Core.Path.{ap}
 use mathlib.Core.Bool.{Bool}
 use borrow.Author.Needs.{needs}
-use Rattle.label_check.proofs.Sight.jump.Statement.{statement}
-use Rattle.label_check.proofs.Sight.jump.Tie as tie
+use Rattle.label_sight.proofs.Sight.jump.Statement.{statement}
+use Rattle.label_sight.proofs.Sight.jump.Tie as tie
 
 among-requires : tie.Need-among-requires
 among-requires c κs = search needs

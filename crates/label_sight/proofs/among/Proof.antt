@@ -1,13 +1,13 @@
--- `label_check::among` meets its contract: what is passed holds no such name.
+-- `label_sight::among` meets its contract: what is passed holds no such name.
 -- Assumes nothing.
 use Prim.Native.Nat.{_≤_}
 use mathlib.Core.Path.{_≡_, refl, sym, _∙_}
 use native.Mathlib.Omega.{arith}
 use lib.ListN.{take, drop}
 use Rattle.flow.specs.Sheet.{member}
-use Rattle.label_check.proofs.Names.{look-found, look-past, look-none}
-use Rattle.label_check.proofs.among.Statement.{statement}
-use Rattle.label_check.proofs.among.Tie as tie
+use Rattle.label_sight.proofs.Names.{look-found, look-past, look-none}
+use Rattle.label_sight.proofs.among.Statement.{statement}
+use Rattle.label_sight.proofs.among.Tie as tie
 
 abbrev Inv-loop : tie.InvT-loop
 Inv-loop labels from to name k₀ k = (from ≤ k) × (k ≤ to) × (member name (drop from (take to labels)) ≡ member name (drop from (take k labels)))

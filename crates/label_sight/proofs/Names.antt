@@ -13,14 +13,6 @@ use borrow.Author.Tests.{eq-eqb, ne-eqb}
 use Rattle.flow.specs.Sheet.{member}
 use Rattle.flow.specs.Labels.{distinct}
 use Rattle.flow.proofs.Lookup.{one-of-append}
-use Rattle.label_check.specs.Walk.{visible, flat}
-
--- in whichever order the blocks stand
-pub one-of-flat : (a : ℕ) (ss : List (List ℕ)) → member a (flat ss) ≡ member a (visible ss)
-unfolding flat visible
-one-of-flat a [] = refl
-one-of-flat a (s ∷ ss) =
-    one-of-append a (flat ss) s ∙ rw (one-of-flat a ss) (or-comm (member a (visible ss)) (member a s)) ∙ sym (one-of-append a s (visible ss))
 
 eqb-comm : (a b : ℕ) → eqb a b ≡ eqb b a
 eqb-comm a b = elim (ℕ-discrete a b) [ yes e ↦ eq-eqb a b e ∙ sym (eq-eqb b a (sym e)) | no q ↦ ne-eqb a b q ∙ sym (ne-eqb b a (λ e. q (sym e))) ]

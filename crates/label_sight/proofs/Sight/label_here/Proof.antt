@@ -1,4 +1,4 @@
--- `label_check::Sight::label_here` meets its contract: the item is no label of the block, or it is pushed.
+-- `label_sight::Sight::label_here` meets its contract: the item is no label of the block, or it is pushed.
 -- Assumes nothing.
 use mathlib.Core.Path.{ap, sym, _∙_}
 use native.Mathlib.Omega.{arith}
@@ -6,9 +6,9 @@ use borrow.Author.Needs.{needs}
 use borrow.Author.Tests.{not-true, not-false}
 use lib.ListN.{length}
 use Rattle.blocks.proofs.Scan.{here-deep, here-other, here-named}
-use Rattle.label_check.proofs.Scan.{entered-empty}
-use Rattle.label_check.proofs.Sight.label_here.Statement.{statement}
-use Rattle.label_check.proofs.Sight.label_here.Tie as tie
+use Rattle.label_sight.proofs.Scan.{entered-empty}
+use Rattle.label_sight.proofs.Sight.label_here.Statement.{statement}
+use Rattle.label_sight.proofs.Sight.label_here.Tie as tie
 
 returns : tie.Need-returns
 returns c = entered-empty _ _ _ (here-deep _ _ (c .if1 .taken))

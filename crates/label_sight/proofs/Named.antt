@@ -14,7 +14,7 @@ use Rattle.flow.proofs.Nesting.{Made, a-do, a-while, a-repeat, a-for, an-if}
 use Rattle.kinds.specs.Label.{isLabel}
 use Rattle.blocks.specs.Open.{openAt, toCome}
 use Rattle.blocks.proofs.Parse.{Reads, opener, arm, closer, other, reads}
-use Rattle.label_check.specs.Walk.{named, Unlabelled, framesLabels, labelsToCome}
+use Rattle.label_sight.specs.Labels.{named, Unlabelled, framesLabels, labelsToCome}
 
 -- ---- what an item adds
 

@@ -10,9 +10,9 @@ use lib.ListN.{length, take, drop, set, length-set, length-append}
 use lib.Seq.{take-suc-set, drop-append-le, length-take-le}
 use Rattle.flow.specs.Sheet.{member}
 use Rattle.flow.specs.Labels.{distinct}
-use Rattle.label_check.specs.declared.Sight.{Sight}
-use Rattle.label_check.specs.Walk.{inBlock, Entered}
-use Rattle.label_check.proofs.Names.{distinct-more}
+use Rattle.label_sight.specs.declared.Sight.{Sight}
+use Rattle.label_sight.specs.Labels.{inBlock, Entered}
+use Rattle.label_sight.proofs.Names.{distinct-more}
 
 -- ---- labels in sight
 

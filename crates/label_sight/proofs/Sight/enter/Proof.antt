@@ -1,4 +1,4 @@
--- `label_check::Sight::enter` meets its contract: the scan finds the labels of the block, in order.
+-- `label_sight::Sight::enter` meets its contract: the scan finds the labels of the block, in order.
 -- Assumes nothing.
 use Prim.Native.Nat.{ℕ, _≤_, _-_}
 use mathlib.Core.Path.{_≡_, refl, sym, _∙_}
@@ -8,11 +8,11 @@ use borrow.Author.Needs.{needs}
 use lib.ListN.{length}
 use denote.Ref.{now}
 use Rattle.blocks.proofs.Scan.{depth-step, Scanning, scan-start, scan-more, scan-none, scan-ended, scan-room}
-use Rattle.label_check.specs.Walk.{Entered}
-use Rattle.label_check.proofs.Named.{none-to-come}
-use Rattle.label_check.proofs.Scan.{entered-none, entered-trans}
-use Rattle.label_check.proofs.Sight.enter.Statement.{statement}
-use Rattle.label_check.proofs.Sight.enter.Tie as tie
+use Rattle.label_sight.specs.Labels.{Entered}
+use Rattle.label_sight.proofs.Named.{none-to-come}
+use Rattle.label_sight.proofs.Scan.{entered-none, entered-trans}
+use Rattle.label_sight.proofs.Sight.enter.Statement.{statement}
+use Rattle.label_sight.proofs.Sight.enter.Tie as tie
 
 abbrev Inv-loop : tie.InvT-loop
 Inv-loop kinds labels₀ end from s₀ depth₀ j₀ labels s depth j = (depth ≤ j) × ((ss : List ℕ) → length ss ≡ length kinds → Scanning (λ as'. Entered as' s₀ labels₀ s labels) kinds ss from depth j)

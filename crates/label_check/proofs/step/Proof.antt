@@ -1,4 +1,4 @@
--- `label_check::Sight::step` meets its contract: the law of the walk for each kind.
+-- `label_check::step` meets its contract: the law of the walk for each kind.
 -- Assumes nothing.
 use Prim.Native.Nat.{ℕ, _+_, _≤_}
 use mathlib.Core.Path.{_≡_, refl, sym, ap, _∙_}
@@ -8,12 +8,12 @@ use borrow.Author.Needs.{needs}
 use denote.Ref.{now}
 use lib.ListN.{length, getD}
 use Rattle.flow.specs.Sheet.{kindOf}
-use Rattle.label_check.specs.declared.Sight.{Sight}
+use Rattle.label_sight.specs.declared.Sight.{Sight}
 use Rattle.label_check.specs.Walk.{Entering}
 use Rattle.label_check.proofs.Numbers.{opener-number, closer-number, arm-number}
 use Rattle.label_check.proofs.Walks.{enter-asked, entered-after, few-open, few-labels, open-entering, arm-entering, close-open, close-after, jump-after, other-after}
-use Rattle.label_check.proofs.Sight.step.Statement.{statement}
-use Rattle.label_check.proofs.Sight.step.Tie as tie
+use Rattle.label_check.proofs.step.Statement.{statement}
+use Rattle.label_check.proofs.step.Tie as tie
 
 mul-w : tie.Need-mul-w
 mul-w c = search needs

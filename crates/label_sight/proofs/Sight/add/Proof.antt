@@ -1,15 +1,15 @@
--- `label_check::Sight::add` meets its contract: the label is pushed, and a repeat is seen.
+-- `label_sight::Sight::add` meets its contract: the label is pushed, and a repeat is seen.
 -- Assumes nothing.
 use mathlib.Core.Logic.{⊎-elim}
 use native.Mathlib.Omega.{arith}
 use borrow.Author.Needs.{needs}
 use denote.Ref.{now}
 use Rattle.flow.specs.Sheet.{member}
-use Rattle.label_check.specs.Walk.{inBlock}
-use Rattle.label_check.proofs.Names.{repeated, not-repeated}
-use Rattle.label_check.proofs.Scan.{label-entered}
-use Rattle.label_check.proofs.Sight.add.Statement.{statement}
-use Rattle.label_check.proofs.Sight.add.Tie as tie
+use Rattle.label_sight.specs.Labels.{inBlock}
+use Rattle.label_sight.proofs.Names.{repeated, not-repeated}
+use Rattle.label_sight.proofs.Scan.{label-entered}
+use Rattle.label_sight.proofs.Sight.add.Statement.{statement}
+use Rattle.label_sight.proofs.Sight.add.Tie as tie
 
 among-requires : tie.Need-among-requires
 among-requires c κs = search needs

@@ -1,12 +1,12 @@
--- `label_check::labels_end` meets its contract: what is passed is no label.
+-- `label_sight::labels_end` meets its contract: what is passed is no label.
 -- Assumes nothing.
 use mathlib.Core.Path.{sym, _∙_}
 use native.Mathlib.Omega.{arith}
 use borrow.Author.Needs.{needs}
-use Rattle.label_check.specs.Walk.{Unlabelled}
-use Rattle.label_check.proofs.Named.{all-passed, one-less}
-use Rattle.label_check.proofs.labels_end.Statement.{statement}
-use Rattle.label_check.proofs.labels_end.Tie as tie
+use Rattle.label_sight.specs.Labels.{Unlabelled}
+use Rattle.label_sight.proofs.Named.{all-passed, one-less}
+use Rattle.label_sight.proofs.labels_end.Statement.{statement}
+use Rattle.label_sight.proofs.labels_end.Tie as tie
 
 abbrev Inv-loop : tie.InvT-loop
 Inv-loop kinds end₀ end = Unlabelled kinds end
