@@ -16,7 +16,8 @@ use Rattle.flow.proofs.NodeCount.{built-count}
 use Rattle.blocks.specs.Open.{itemAt, openAt, Ender}
 use Rattle.blocks.proofs.Parse.{read-at, read-do, read-while, read-repeat, read-for, read-if, read-elseif, read-else, read-simple}
 use Rattle.cfg_steps.specs.declared.GraphBuilder.{GraphBuilder}
-use Rattle.cfg_steps.specs.Columns.{Cols, hasStart, simpleMade, Good}
+use Rattle.kinds.specs.Starts.{hasStart}
+use Rattle.cfg_steps.specs.Columns.{Cols, simpleMade, Good}
 use Rattle.cfg_steps.proofs.Simple.{starts}
 use borrow.Author.Tests.{ne-eqb}
 use Rattle.cfg.specs.Steps.{Scoped, StmtRoom, ArmRoom, BlockRoom}

@@ -16,7 +16,8 @@ use Rattle.flow.specs.Graph.{Graph, Nodes, Codes, Names, absent, nodeCount, new
 use Rattle.cfg_steps.specs.declared.GraphBuilder.{GraphBuilder}
 use Rattle.cfg_edges.specs.Halves.{lo, hi, joined, labelList}
 use Rattle.cfg_edges.proofs.Lookup.{is-node}
-use Rattle.cfg_steps.specs.Columns.{Cols, cols, hasStart, painted, nameNode, nameItem, graphOf, settingsOf, Good, Standing, Grown, Did}
+use Rattle.kinds.specs.Starts.{hasStart}
+use Rattle.cfg_steps.specs.Columns.{Cols, cols, painted, nameNode, nameItem, graphOf, settingsOf, Good, Standing, Grown, Did}
 use Rattle.cfg_steps.proofs.Fits.{each-more, good-of, good-as}
 
 -- one place more

@@ -15,7 +15,8 @@ use Rattle.flow.specs.Kinds.{raises}
 use Rattle.flow.specs.Graph.{Graph, Label, labelNode, orBreak, jump, code, declare, simpleStmt, advanceTo, recordCode}
 use Rattle.cfg_steps.specs.declared.GraphBuilder.{GraphBuilder}
 use Rattle.cfg_edges.specs.Halves.{hi, labelList}
-use Rattle.cfg_steps.specs.Columns.{Cols, cols, hasStart, settingsOf, labelled, coded, simpleMade, Good, Standing, Did}
+use Rattle.kinds.specs.Starts.{hasStart}
+use Rattle.cfg_steps.specs.Columns.{Cols, cols, settingsOf, labelled, coded, simpleMade, Good, Standing, Did}
 use Rattle.cfg_steps.proofs.Ops.{grown-same}
 
 pub did-none : (ks : List ℕ) (b : GraphBuilder) (x : Cols) → Good b x → Did ks (λ ss g. g) 0 b x b x

@@ -2,7 +2,7 @@
 -- Assumes nothing: these are definitions.
 use mathlib.Core.Path.{_≡_}
 use mathlib.Core.Logic.{_⊎_}
-use mathlib.Core.Bool.{Bool, cond, not, _&&_}
+use mathlib.Core.Bool.{Bool, cond, _&&_}
 use mathlib.Core.List.{List, [], _∷_, map}
 use Prim.Native.Nat.{ℕ, _+_, _/_, _%_, _^_, _≤_, _<_}
 use lib.ListN.{length, take, drop, getD, set, replicate}
@@ -12,6 +12,7 @@ use Rattle.flow.specs.declared.Truth.{Truth}
 use Rattle.flow.specs.Sheet.{kindOf, argumentOf, startOf, member}
 use Rattle.flow.specs.Kinds.{kinds, raises}
 use Rattle.flow.specs.Graph.{exits, newNodes, withLabels, standAt, labelNode, orBreak, jump, code, connect, setCurrent, recordCode, unlessTrue, unlessFalse, simpleStmt, Graph, Settings, Label, absent}
+use Rattle.kinds.specs.Starts.{hasStart}
 use Rattle.cfg_edges.specs.Halves.{lo, hi, labelList}
 use Rattle.block_settings.specs.declared.BlockSettings.{BlockSettings}
 use Rattle.cfg_steps.specs.declared.GraphBuilder.{GraphBuilder}
@@ -34,10 +35,6 @@ colsAt at e c n l = cols (at e) (at c) (at n) (at l)
 -- the columns of a call that is lent some of them, at the entry or at the exit: `λ at. cols (at edges) c n l` where only edges is lent
 abbrev pub Lent : Type 0
 Lent = (Column → List ℕ) → Cols
-
--- "LABEL .. (code start remains 0)", and UNTIL's "code start remains 0": an item that closes or is a label gives its node none
-abbrev pub hasStart : ℕ → Bool
-hasStart w = not (member (kindOf w) (END ∷ UNTIL ∷ LABEL ∷ []))
 
 -- the code starts that code words give, by the sheet's kinds and spans
 unfoldable pub painted : List ℕ → List ℕ → List ℕ → List ℕ → List ℕ

@@ -19,7 +19,7 @@ use Rattle.cfg_steps.proofs.Ops.{painted-length}
 use Rattle.cfg.specs.Steps.{Sane, Wide as WideWords, WholeRoom, Whole}
 use Rattle.cfg.proofs.Sanity.{sane, whole-room}
 use Rattle.cfg.proofs.Sheets.{is-graph}
-use Rattle.columns.specs.Words.{CodeWithin}
+use Rattle.code_columns.specs.Words.{CodeWithin}
 use Rattle.chart.specs.Lent.{overlay, PartsOf, columns, Wide, chartOf, Charted}
 
 -- the first n cells of a column that begins with f of n words

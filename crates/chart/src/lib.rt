@@ -10,7 +10,7 @@ ghost use Rattle.reach.specs.Columns.{FlagsOver};
 ghost use Rattle.search.specs.Lent.{held};
 ghost use Rattle.chart.specs.Lent.{PartsOf, columns, lent, Wide, Charted, ChartedOf};
 use cfg::of_block;
-use columns::split_codes;
+use code_columns::split_codes;
 use columns::split_edges;
 use columns::split_names;
 use flow::Counts;

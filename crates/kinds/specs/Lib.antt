@@ -1,3 +1,4 @@
 pub mod Ends
 pub mod Label
+pub mod Starts
 pub mod Truths

@@ -1,9 +1,10 @@
-// What a kind word says, asked here and nowhere else: whether an item is code or a label that has a name, whether its kind opens, closes or ends a block, what a condition is known to be and may turn out to be, and whether a call raises.
+// What a kind word says, asked here and nowhere else: whether an item is code, gives its node a start or is a label that has a name, whether its kind opens, closes or ends a block, what a condition is known to be and may turn out to be, and whether a call raises.
 ghost use mathlib.Core.Path.{_≡_};
 ghost use Prim.Native.Nat.{ℕ};
 ghost use Rattle.flow.specs.Kinds.{isCode, opens, closes, literalTruth, raises};
 ghost use Rattle.kinds.specs.Ends.{endsBlock};
 ghost use Rattle.kinds.specs.Label.{isLabel};
+ghost use Rattle.kinds.specs.Starts.{hasStart};
 ghost use Rattle.kinds.specs.Truths.{mayFail, mayHold};
 use flow::Truth;
 use words::ARGUMENT;
@@ -57,6 +58,17 @@ pub fn is_label(w: u64) -> bool
         return false;
     }
     w / ARGUMENT != 0
+}
+
+// Whether a code gives its node a start, by its item's word: not where the item closes a block or is a label.
+pub fn has_start(word: u64) -> bool
+    ensures { λ r. ⌜ r ≡ hasStart word ⌝ }
+{
+    let kind = word % ARGUMENT;
+    if is_closer(kind) {
+        return false;
+    }
+    kind != LABEL
 }
 
 pub fn is_opener(kind: u64) -> bool

@@ -1,4 +1,4 @@
--- `columns::split_codes` meets its contract: at the loop's head the first k words are taken apart, and their starts are set.
+-- `code_columns::split_codes` meets its contract: at the loop's head the first k words are taken apart, and their starts are set.
 -- Assumes nothing.
 use Prim.Native.Nat.{ℕ, _≤_, _<_, _-_}
 use mathlib.Core.Path.{_≡_, refl, _∙_}
@@ -8,10 +8,10 @@ use lib.ListN.{length, getD, take}
 use denote.Ref.{now}
 use Rattle.cfg_edges.specs.Halves.{lo, hi}
 use Rattle.cfg_steps.specs.Columns.{painted}
 use Rattle.columns.proofs.Written.{Written, none, still, turn}
-use Rattle.columns.proofs.Starts.{paint-more, paint-all}
-use Rattle.columns.proofs.split_codes.Statement.{statement}
-use Rattle.columns.proofs.split_codes.Tie as tie
+use Rattle.code_columns.proofs.Starts.{paint-more, paint-all}
+use Rattle.code_columns.proofs.split_codes.Statement.{statement}
+use Rattle.code_columns.proofs.split_codes.Tie as tie
 
 abbrev span : List ℕ → ℕ → ℕ
 span ss c = getD ss (hi c) 0

@@ -1,10 +1,10 @@
--- `columns::split_code` meets its contract, by whether the code's item gives a start.
+-- `code_columns::split_code` meets its contract, by whether the code's item gives a start.
 -- Assumes nothing.
 use mathlib.Core.Path.{refl, sym, _∙_}
 use borrow.Author.Needs.{needs}
 use Rattle.cfg_steps.specs.Columns.{painted}
-use Rattle.columns.proofs.split_code.Statement.{statement}
-use Rattle.columns.proofs.split_code.Tie as tie
+use Rattle.code_columns.proofs.split_code.Statement.{statement}
+use Rattle.code_columns.proofs.split_code.Tie as tie
 
 mul-c : tie.Need-mul-c
 mul-c c = search needs

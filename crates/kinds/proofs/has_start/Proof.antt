@@ -1,11 +1,11 @@
--- `columns::has_start` meets its contract: closers and labels give no start.
+-- `kinds::has_start` meets its contract: closers and labels give no start.
 -- Assumes nothing.
 use mathlib.Core.Path.{_≡_, refl, sym, _∙_}
 use mathlib.Core.Bool.{Bool, true, false, not, _||_, false≢true, true≢false}
 use lib.Dec.{eqb}
 use Rattle.flow.specs.Sheet.{kindOf}
-use Rattle.columns.proofs.has_start.Statement.{statement}
-use Rattle.columns.proofs.has_start.Tie as tie
+use Rattle.kinds.proofs.has_start.Statement.{statement}
+use Rattle.kinds.proofs.has_start.Tie as tie
 
 -- of the tests for END, UNTIL and LABEL
 closing : (a b c : Bool) → (a || b) ≡ true → false ≡ not (a || (b || (c || false)))
