@@ -1,6 +1,6 @@
 -- Statements that hold blocks: from what their parts give to what they give.
 -- Assumes nothing.
-use mathlib.Core.Path.{_≡_, refl, sym, ap, _∙_}
+use mathlib.Core.Path.{_≡_, refl, sym, ap, _∙_, subst}
 use mathlib.Core.List.{List}
 use mathlib.Core.Bool.{true}
 use mathlib.Core.Logic.{inl}
@@ -15,11 +15,16 @@ use Rattle.flow.specs.Tree.{Stmt, Block, Open, while-loop, repeat-loop, for-loo
 use Rattle.flow.specs.Graph.{Graph, Settings, nodeCount, newNode, code, advanceTo, setCurrent, connect, recordCode, enterWhen, unlessTrue, unlessFalse, buildStmt, buildBlock, buildArms, inside, inLoop, entered, closeInto}
 use Rattle.blocks.specs.Open.{itemAt, openAt}
 use Rattle.blocks.proofs.Parse.{read-at, read-while, read-repeat, read-for, read-if}
+use Rattle.loop_nodes.specs.declared.LoopTargets.{LoopTargets}
 use Rattle.cfg_steps.specs.declared.GraphBuilder.{GraphBuilder}
 use Rattle.cfg_steps.specs.Columns.{Cols, graphOf, settingsOf, Good, Grown, Did}
 use Rattle.cfg_steps.proofs.Fits.{good-as}
 use Rattle.cfg.specs.Steps.{bare, Moved, Opened, Scoped, Looped, Chosen}
 use Rattle.cfg.proofs.Blocks.{nodes-of, moved-trans, moved-did, past-close}
+
+-- a loop's body with the targets that are found to be its own
+pub looped-to : {ks ss : List ℕ} {e : ℕ} {s t : LoopTargets} {b r : GraphBuilder} {x y : Cols} → s ≡ t → Looped ks ss e (s .«break_target») (s .«continue_target») b x r y → Looped ks ss e (t .«break_target») (t .«continue_target») b x r y
+looped-to {ks} {ss} {e} {b = b} {r} {x} {y} q l = subst (λ (z : LoopTargets). Looped ks ss e (z .«break_target») (z .«continue_target») b x r y) q l
 
 -- ---- another place in the sheet
 

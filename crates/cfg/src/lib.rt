@@ -13,6 +13,7 @@ use cfg_steps::GraphBuilder;
 use flow::Truth;
 use if_builder::IfBuilder;
 use kinds::literal_truth;
+use loop_nodes::repeat_targets;
 use words::ARGUMENT;
 use words::NO_SUCCESSORS;
 use words::SCOPE_END;
@@ -152,6 +153,7 @@ fn repeat_loop(
     let truth = literal_truth(argument % SCOPE_END);
     let body = b.nodes;
     let h = b.repeat_head(edges);
+    let targets = repeat_targets(body);
     let mut s = loop_body(
         kinds,
         edges,
@@ -160,8 +162,8 @@ fn repeat_loop(
         labels,
         h,
         argument / SCOPE_END,
-        body + 2,
-        body + 1,
+        targets.break_target,
+        targets.continue_target,
     );
     let end = s.item;
     s.item = past(end, kinds.len());

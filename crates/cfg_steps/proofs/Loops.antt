@@ -1,6 +1,6 @@
 -- Where loops begin and end.
 -- Assumes nothing.
-use mathlib.Core.Path.{_≡_, refl, ap, _∙_}
+use mathlib.Core.Path.{_≡_, refl, ap, _∙_, subst}
 use mathlib.Core.Logic.{_⊎_, inl}
 use mathlib.Core.List.{List}
 use mathlib.Core.Bool.{Bool, true, false, cond}
@@ -49,6 +49,10 @@ pub if-did : (ks : List ℕ) (b : GraphBuilder) (e c n l : List ℕ) (ok : Good 
     → Did ks (λ ss g. setCurrent v (cond wanted (connect a t g) g)) 0 b (cols e c n l) (withCursor ks b e c n l ok v) (cols e' c n l)
 if-did ks b e c n l ok a t v true e' q ha ht hv = edge-did ks b e c n l ok a t v e' q (inl ha) ht hv
 if-did ks b e c n l ok a t v false e' q ha ht hv = rw q (move-did ks b e c n l ok v hv)
+
+-- what is built from the node v is built from the node that is found to be v
+pub did-at : (f : ℕ → List ℕ → Graph → Graph) {ks : List ℕ} {k h v : ℕ} {b r : GraphBuilder} {x y : Cols} → h ≡ v → Did ks (f h) k b x r y → Did ks (f v) k b x r y
+did-at f {ks} {k} {b = b} {r} {x} {y} e d = subst (λ (z : ℕ). Did ks (f z) k b x r y) e d
 
 pub fails-edge : (t : Truth) (a b : ℕ) (g : Graph) → cond (mayFail t) (connect a b g) g ≡ unlessTrue t (connect a b) g
 fails-edge False a b g = refl

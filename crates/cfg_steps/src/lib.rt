@@ -25,6 +25,7 @@ use kinds::call_raises;
 use kinds::is_label;
 use kinds::may_fail;
 use kinds::may_hold;
+use loop_nodes::for_head;
 use words::ARGUMENT;
 use words::HALF;
 use words::NAME_ITEM;
@@ -408,7 +409,7 @@ impl GraphBuilder {
         requires { ⌜ (self .nodes + 3 ≤ 1600) × (self .codes < self .item) × (i < self .item) ⌝ }
         ensures { λ r. ⌜ ((ks n l : List ℕ) → DoesCode ks i true (λ s g. newNode (advanceTo (self .nodes + 1) (newNode (code s g)))) 3 self r (λ at. cols (at edges) (at codes) n l)) ⌝ }
     {
-        let head = self.nodes + 1;
+        let head = for_head(self.nodes);
         let h = self.code_and_after(edges, codes, i);
         let a = h.advance_to(edges, head);
         a.new_node(edges)

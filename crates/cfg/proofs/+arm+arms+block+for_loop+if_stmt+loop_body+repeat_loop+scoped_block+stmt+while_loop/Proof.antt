@@ -5,7 +5,7 @@ use mathlib.Core.Logic.{inl}
 use lib.Dec.{lit≤}
 use Rattle.cfg.proofs.Rooms.{do-room, while-room, repeat-room, for-room, if-room, simple-room, elseif-room, else-room, code-starts, close-starts, simple-kind, ended-on, arms-left, at-item}
 use Rattle.cfg.proofs.Choices.{armed-none, armed-more, armed-chosen, chosen-last, arm-else, elseif-built, else-built, opened-stepped, do-stepped, simple-stepped}
-use Rattle.cfg.proofs.Statements.{withItem, good-item, withCursor, good-cursor, while-opened, repeat-opened, for-opened, if-opened}
+use Rattle.cfg.proofs.Statements.{withItem, good-item, withCursor, good-cursor, while-opened, repeat-opened, for-opened, if-opened, looped-to}
 use Rattle.cfg.proofs.Scopes.{good-scope, entered-scope, good-loop, scoped-loop, entered-room, scoped, looped}
 use Rattle.flow.proofs.Builds.{labels-inside}
 use Rattle.cfg.proofs.Blocks.{Going, going-none, going-room, going-more, going-ended, ender-done, end-done, closed-at}
@@ -74,6 +74,7 @@ use Rattle.blocks.proofs.ends_at.Reads as ends-at-reads
 use Rattle.if_builder.proofs.IfBuilder.past_elseif.Reads as past-elseif-reads
 use Rattle.if_builder.proofs.IfBuilder.past_else.Reads as past-else-reads
 use Rattle.kinds.proofs.literal_truth.Reads as literal-truth-reads
+use Rattle.loop_nodes.proofs.repeat_targets.Reads as repeat-targets-reads
 use Rattle.cfg.proofs.+arm+arms+block+for_loop+if_stmt+loop_body+repeat_loop+scoped_block+stmt+while_loop.{
   statement,
 }
@@ -202,7 +203,7 @@ abbrev loop-body-claims : ℕ → loop-body-lts.Claims
 loop-body-claims t = (enter-loop-reads.Asked, enter-loop-reads.Learnt, scoped-block-below t, scoped-block.Post, close-into-reads.Asked, close-into-reads.Learnt, return-to-reads.Asked, return-to-reads.Learnt)
 
 abbrev repeat-loop-claims : ℕ → repeat-loop-lts.Claims
-repeat-loop-claims t = (literal-truth-reads.Asked, literal-truth-reads.Learnt, repeat-head-reads.Asked, repeat-head-reads.Learnt, loop-body-below t, loop-body.Post, past-reads.Asked, past-reads.Learnt, repeat-end-reads.Asked, repeat-end-reads.Learnt)
+repeat-loop-claims t = (literal-truth-reads.Asked, literal-truth-reads.Learnt, repeat-head-reads.Asked, repeat-head-reads.Learnt, repeat-targets-reads.Asked, repeat-targets-reads.Learnt, loop-body-below t, loop-body.Post, past-reads.Asked, past-reads.Learnt, repeat-end-reads.Asked, repeat-end-reads.Learnt)
 
 abbrev scoped-block-claims : ℕ → scoped-block-lts.Claims
 scoped-block-claims t = (enter-scope-reads.Asked, enter-scope-reads.Learnt, enter-block-reads.Asked, enter-block-reads.Learnt, block-below t, block.Post, return-to-reads.Asked, return-to-reads.Learnt)
@@ -656,8 +657,11 @@ loop-body-returns t c =
 abbrev repeat-loop-before-literal-truth : (t : ℕ) → repeat-loop-lts.After-literal-truth (repeat-loop-claims t) (repeat-loop-at t) repeat-loop.Post → repeat-loop-lts.Start (repeat-loop-claims t) (repeat-loop-at t) repeat-loop.Post
 repeat-loop-before-literal-truth t c = c .before .before .before .before .before .before .before
 
-abbrev repeat-loop-before-loop-body : (t : ℕ) → repeat-loop-lts.After-loop-body (repeat-loop-claims t) (repeat-loop-at t) repeat-loop.Post → repeat-loop-lts.After-repeat-head (repeat-loop-claims t) (repeat-loop-at t) repeat-loop.Post
-repeat-loop-before-loop-body t c = c .before .before .before .before .before .before .before
+abbrev repeat-loop-before-repeat-targets : (t : ℕ) → repeat-loop-lts.After-repeat-targets (repeat-loop-claims t) (repeat-loop-at t) repeat-loop.Post → repeat-loop-lts.After-repeat-head (repeat-loop-claims t) (repeat-loop-at t) repeat-loop.Post
+repeat-loop-before-repeat-targets t c = c .before .before .before
+
+abbrev repeat-loop-before-loop-body : (t : ℕ) → repeat-loop-lts.After-loop-body (repeat-loop-claims t) (repeat-loop-at t) repeat-loop.Post → repeat-loop-lts.After-repeat-targets (repeat-loop-claims t) (repeat-loop-at t) repeat-loop.Post
+repeat-loop-before-loop-body t c = c .before .before .before .before .before
 
 abbrev repeat-loop-before-repeat-end : (t : ℕ) → repeat-loop-lts.After-repeat-end (repeat-loop-claims t) (repeat-loop-at t) repeat-loop.Post → repeat-loop-lts.After-past (repeat-loop-claims t) (repeat-loop-at t) repeat-loop.Post
 repeat-loop-before-repeat-end t c = c .before .before .before
@@ -681,37 +685,32 @@ repeat-loop-repeat-head-requires t c κs =
     let start = c .before .before .before .before .before .before .before .before in
     ((_, _, _, start .pre .1 .1), omega (arith, repeat-room (start .args .kinds .now) (start .args .kinds .now) refl (start .args .i) (start .pre .1 .4) (start .args .b) (start .pre .1 .6) (start .pre .1 .5)))
 
-repeat-loop-add-loop-body : (t : ℕ) → repeat-loop-lts.Need-add-loop-body (repeat-loop-claims t) (repeat-loop-at t) repeat-loop.Post
-repeat-loop-add-loop-body t c =
-    let after-repeat-head = c .before .before .before .before .before .before in
-    let after-literal-truth = after-repeat-head .before .before in
-    let start = repeat-loop-before-literal-truth t after-literal-truth in
-    omega (arith, start .pre .1 .1 .nodes)
-
-repeat-loop-add-loop-body-2 : (t : ℕ) → repeat-loop-lts.Need-add-loop-body-2 (repeat-loop-claims t) (repeat-loop-at t) repeat-loop.Post
-repeat-loop-add-loop-body-2 t c =
-    let after-repeat-head = c .before .before .before .before .before .before in
+repeat-loop-repeat-targets-requires : (t : ℕ) → repeat-loop-lts.Need-repeat-targets-requires (repeat-loop-claims t) (repeat-loop-at t) repeat-loop.Post
+repeat-loop-repeat-targets-requires t c κs =
+    let after-repeat-head = c .before .before in
     let after-literal-truth = after-repeat-head .before .before in
     let start = repeat-loop-before-literal-truth t after-literal-truth in
     omega (arith, start .pre .1 .1 .nodes)
 
 repeat-loop-loop-body-requires : (t : ℕ) → repeat-loop-lts.Need-loop-body-requires (repeat-loop-claims t) (repeat-loop-at t) repeat-loop.Post
 repeat-loop-loop-body-requires t c κs =
-    let after-repeat-head = c .before .before .before .before .before .before in
+    let after-repeat-targets = c .before .before .before .before in
+    let after-repeat-head = repeat-loop-before-repeat-targets t after-repeat-targets in
     let after-literal-truth = after-repeat-head .before .before in
     let start = repeat-loop-before-literal-truth t after-literal-truth in
     let hd = after-repeat-head .repeat-head .ensures (start .args .kinds .now) _ _ _ (start .pre .1 .1) in (
       omega (arith, start .pre .0, hd .item, start .pre .1 .2, start .pre .1 .4),
       (
         (start .pre .1 .0, hd .good, omega (arith, hd .item, start .pre .1 .2, start .pre .1 .4), at-item (start .args .kinds .now) (after-repeat-head .repeat-head .result) ((start .args .i) + 1) (hd .item ∙ start .pre .1 .2) (λ ss e. omega (arith, repeat-room (start .args .kinds .now) ss e (start .args .i) (start .pre .1 .4) (start .args .b) (start .pre .1 .6) (start .pre .1 .5), hd .nodes)), start .pre .1 .0 .scopes _ (start .pre .1 .4) (omega (arith, start .pre .1 .5)) (omega (arith, start .pre .1 .5))),
-        (omega (arith, hd .nodes), omega (arith, hd .nodes)),
+        rw (after-repeat-targets .repeat-targets .ensures) (omega (arith, hd .nodes), omega (arith, hd .nodes)),
       ),
     )
 
 repeat-loop-past-requires : (t : ℕ) → repeat-loop-lts.Need-past-requires (repeat-loop-claims t) (repeat-loop-at t) repeat-loop.Post
 repeat-loop-past-requires t c κs =
     let after-loop-body = c .before .before .before .before .before .before .before .before in
-    let after-repeat-head = repeat-loop-before-loop-body t after-loop-body in
+    let after-repeat-targets = repeat-loop-before-loop-body t after-loop-body in
+    let after-repeat-head = repeat-loop-before-repeat-targets t after-repeat-targets in
     let after-literal-truth = after-repeat-head .before .before in
     let start = repeat-loop-before-literal-truth t after-literal-truth in
     after-loop-body .loop-body .ensures (start .args .kinds .now) refl .moved .within
@@ -719,7 +718,8 @@ repeat-loop-past-requires t c κs =
 repeat-loop-repeat-end-requires : (t : ℕ) → repeat-loop-lts.Need-repeat-end-requires (repeat-loop-claims t) (repeat-loop-at t) repeat-loop.Post
 repeat-loop-repeat-end-requires t c κs =
     let after-loop-body = c .before .before .before .before .before .before .before .before .before .before .before in
-    let after-repeat-head = repeat-loop-before-loop-body t after-loop-body in
+    let after-repeat-targets = repeat-loop-before-loop-body t after-loop-body in
+    let after-repeat-head = repeat-loop-before-repeat-targets t after-repeat-targets in
     let after-literal-truth = after-repeat-head .before .before in
     let start = repeat-loop-before-literal-truth t after-literal-truth in
     let ca = closed-at (start .args .kinds .now) (start .args .kinds .now) refl (after-loop-body .loop-body .result .item) (openAt (start .args .kinds .now) (start .args .kinds .now) ((start .args .i) + 1)) (after-loop-body .loop-body .ensures (start .args .kinds .now) refl .ended) (after-loop-body .loop-body .ensures (start .args .kinds .now) refl .shut ∙ ap (λ j. bare (openAt (start .args .kinds .now) (start .args .kinds .now) j)) (after-repeat-head .repeat-head .ensures (start .args .kinds .now) _ _ _ (start .pre .1 .1) .item ∙ start .pre .1 .2)) (start .pre .1 .0 .tidy (start .args .kinds .now) refl _ (start .pre .1 .4) (omega (arith, start .pre .1 .5)) (omega (arith, start .pre .1 .5))) (start .pre .1 .0 .closed (start .args .kinds .now) refl _ (start .pre .1 .4) (start .pre .1 .5)) in
@@ -731,12 +731,13 @@ repeat-loop-returns t c =
     let after-repeat-end = c .before .before .before .before in
     let after-past = repeat-loop-before-repeat-end t after-repeat-end in
     let after-loop-body = repeat-loop-before-past t after-past in
-    let after-repeat-head = repeat-loop-before-loop-body t after-loop-body in
+    let after-repeat-targets = repeat-loop-before-loop-body t after-loop-body in
+    let after-repeat-head = repeat-loop-before-repeat-targets t after-repeat-targets in
     let after-literal-truth = after-repeat-head .before .before in
     let start = repeat-loop-before-literal-truth t after-literal-truth in
     λ ss e.
     let ca = closed-at (start .args .kinds .now) ss e (after-loop-body .loop-body .result .item) (openAt (start .args .kinds .now) ss ((start .args .i) + 1)) (after-loop-body .loop-body .ensures ss e .ended) (after-loop-body .loop-body .ensures ss e .shut ∙ ap (λ j. bare (openAt (start .args .kinds .now) ss j)) (after-repeat-head .repeat-head .ensures (start .args .kinds .now) _ _ _ (start .pre .1 .1) .item ∙ start .pre .1 .2)) (start .pre .1 .0 .tidy ss e _ (start .pre .1 .4) (omega (arith, start .pre .1 .5)) (omega (arith, start .pre .1 .5))) (start .pre .1 .0 .closed ss e _ (start .pre .1 .4) (start .pre .1 .5)) in
-    repeat-opened (start .args .kinds .now) ss e (start .pre .1 .0 .few) (start .args .i) (start .pre .1 .4) _ _ _ (start .pre .1 .5) (after-literal-truth .literal-truth .ensures) refl (start .pre .1 .2) (start .pre .1 .1) (start .pre .1 .0 .tidy ss e _ (start .pre .1 .4) (omega (arith, start .pre .1 .5)) (omega (arith, start .pre .1 .5))) (after-repeat-head .repeat-head .ensures (start .args .kinds .now) _ _ _ (start .pre .1 .1)) (after-loop-body .loop-body .ensures ss e) (after-past .past .ensures .2) (after-past .past .ensures .3) (after-past .past .ensures .1) (after-past .past .ensures .0) (ca .2) (after-repeat-end .repeat-end .ensures (start .args .kinds .now) _ _ (good-item (after-past .past .result) (after-past .past .ensures .0) (omega (arith, after-past .past .ensures .1, start .pre .1 .0 .few)) (after-loop-body .loop-body .ensures (start .args .kinds .now) refl .moved .good)) (close-starts (getD (start .args .kinds .now) (after-loop-body .loop-body .result .item) 0) (ca .1)))
+    repeat-opened (start .args .kinds .now) ss e (start .pre .1 .0 .few) (start .args .i) (start .pre .1 .4) _ _ _ (start .pre .1 .5) (after-literal-truth .literal-truth .ensures) refl (start .pre .1 .2) (start .pre .1 .1) (start .pre .1 .0 .tidy ss e _ (start .pre .1 .4) (omega (arith, start .pre .1 .5)) (omega (arith, start .pre .1 .5))) (after-repeat-head .repeat-head .ensures (start .args .kinds .now) _ _ _ (start .pre .1 .1)) (looped-to (after-repeat-targets .repeat-targets .ensures) (after-loop-body .loop-body .ensures ss e)) (after-past .past .ensures .2) (after-past .past .ensures .3) (after-past .past .ensures .1) (after-past .past .ensures .0) (ca .2) (after-repeat-end .repeat-end .ensures (start .args .kinds .now) _ _ (good-item (after-past .past .result) (after-past .past .ensures .0) (omega (arith, after-past .past .ensures .1, start .pre .1 .0 .few)) (after-loop-body .loop-body .ensures (start .args .kinds .now) refl .moved .good)) (close-starts (getD (start .args .kinds .now) (after-loop-body .loop-body .result .item) 0) (ca .1)))
 
 -- ---- scoped-block: from each place back to the one before it
 
@@ -1157,7 +1158,8 @@ repeat-loop-begun t c =
     let after-repeat-end = c .before .before .before .before in
     let after-past = repeat-loop-before-repeat-end t after-repeat-end in
     let after-loop-body = repeat-loop-before-past t after-past in
-    let after-repeat-head = repeat-loop-before-loop-body t after-loop-body in
+    let after-repeat-targets = repeat-loop-before-loop-body t after-loop-body in
+    let after-repeat-head = repeat-loop-before-repeat-targets t after-repeat-targets in
     let after-literal-truth = after-repeat-head .before .before in
     repeat-loop-before-literal-truth t after-literal-truth
 
@@ -1462,8 +1464,7 @@ pub +arm+arms+block+for-loop+if-stmt+loop-body+repeat-loop+scoped-block+stmt+whi
     (repeat-loop-shared-slice-read-argument t)
     (repeat-loop-literal-truth-requires t)
     (repeat-loop-repeat-head-requires t)
-    (repeat-loop-add-loop-body t)
-    (repeat-loop-add-loop-body-2 t)
+    (repeat-loop-repeat-targets-requires t)
     (repeat-loop-loop-body-requires t)
     (repeat-loop-past-requires t)
     (repeat-loop-repeat-end-requires t)
