@@ -3,14 +3,12 @@
 use mathlib.Core.Path.{_≡_}
 use mathlib.Core.Bool.{Bool, true, false, _&&_}
 use mathlib.Core.List.{List, [], _∷_, _++_}
-use Prim.Native.Nat.{ℕ, _+_, _-_, _≤_}
-use lib.ListN.{length, take, drop, getD}
-use Rattle.flow.specs.Sheet.{zip, member}
-use Rattle.flow.specs.Refusals.{one}
-use Rattle.flow.specs.Tree.{Block, Frame, Open, outer, parse, tree, labelsOf}
+use Prim.Native.Nat.{ℕ, _+_, _≤_}
+use lib.ListN.{length, take}
+use Rattle.flow.specs.Sheet.{zip}
+use Rattle.flow.specs.Tree.{Block, Open, outer, parse, tree, labelsOf}
 use Rattle.flow.specs.Labels.{distinct, blockFine, armsFine}
 use Rattle.flow.specs.Admitted.{Tidy}
-use Rattle.kinds.specs.Label.{isLabel}
 use Rattle.blocks.specs.Open.{openAt, labelsAt}
 use Rattle.label_sight.specs.declared.Sight.{Sight}
 use Rattle.label_sight.specs.Labels.{labelsToCome}
