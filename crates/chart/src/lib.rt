@@ -11,28 +11,9 @@ ghost use Rattle.search.specs.Lent.{held};
 ghost use Rattle.chart.specs.Lent.{PartsOf, columns, lent, Wide, Charted, ChartedOf};
 use cfg::of_block;
 use code_columns::split_codes;
-use columns::split_edges;
-use columns::split_names;
 use flow::Counts;
-use reach::reach;
-
-// The successors of n nodes, whose words stand in `first`, and their reachable flags. `start` is scratch memory here.
-fn split_nodes(
-    first: &mut [u64],
-    second: &mut [u64],
-    start: &mut [u64],
-    reachable: &mut [u64],
-    n: usize,
-)
-    requires { ⌜ (entryNode < n) × (n ≤ length (now first)) × (n ≤ length (now second)) × (n ≤ length (now start)) × (n ≤ length (now reachable)) ⌝ }
-    ensures { λ _. ⌜ now (first .exit) ≡ map lo (take n (now (first .entry))) ++ drop n (now (first .entry)) ⌝ }
-    ensures { λ _. ⌜ now (second .exit) ≡ map hi (take n (now (first .entry))) ++ drop n (now (second .entry)) ⌝ }
-    ensures { λ _. ⌜ (drop n (now (start .exit)) ≡ drop n (now (start .entry))) × (length (now (start .exit)) ≡ length (now (start .entry))) ⌝ }
-    ensures { λ _. ⌜ FlagsOver (map lo (take n (now (first .entry)))) (map hi (take n (now (first .entry)))) n (now (reachable .entry)) (now (reachable .exit)) ⌝ }
-{
-    split_edges(first, second, n);
-    reach(first, second, reachable, start, n);
-}
+use name_columns::split_names;
+use node_columns::split_nodes;
 
 // The chart of the sheet with these kinds, spans and outer scope end. While the graph is built, its words stand in `first`, `code_node`
 // and `name_node`, and the labels in force in `reachable`.

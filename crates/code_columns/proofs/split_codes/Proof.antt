@@ -8,7 +8,7 @@ use lib.ListN.{length, getD, take}
 use denote.Ref.{now}
 use Rattle.cfg_edges.specs.Halves.{lo, hi}
 use Rattle.cfg_steps.specs.Columns.{painted}
-use Rattle.columns.proofs.Written.{Written, none, still, turn}
+use Rattle.node_columns.proofs.Written.{Written, none, still, turn}
 use Rattle.code_columns.proofs.Starts.{paint-more, paint-all}
 use Rattle.code_columns.proofs.split_codes.Statement.{statement}
 use Rattle.code_columns.proofs.split_codes.Tie as tie

@@ -1,9 +1,9 @@
--- `columns::split_name` meets its contract.
+-- `name_columns::split_name` meets its contract.
 -- Assumes nothing.
 use mathlib.Core.Path.{refl}
 use borrow.Author.Needs.{needs}
-use Rattle.columns.proofs.split_name.Statement.{statement}
-use Rattle.columns.proofs.split_name.Tie as tie
+use Rattle.name_columns.proofs.split_name.Statement.{statement}
+use Rattle.name_columns.proofs.split_name.Tie as tie
 
 mul-w : tie.Need-mul-w
 mul-w c = search needs

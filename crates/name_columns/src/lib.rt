@@ -1,38 +1,14 @@
-// The words of a built graph, of nodes and names, taken apart in place into the columns of its chart.
+// The words of a built graph's names, taken apart in place into the columns of its chart: nodes, spans and scope ends.
 ghost use mathlib.Core.Path.{_≡_};
 ghost use mathlib.Core.List.{_++_, map};
 ghost use Prim.Native.Nat.{ℕ, _≤_, _<_};
 ghost use lib.ListN.{length, getD, set, take, drop};
-ghost use Rattle.cfg_edges.specs.Halves.{lo, hi};
+ghost use Rattle.cfg_edges.specs.Halves.{hi};
 ghost use Rattle.cfg_steps.specs.Columns.{nameNode, nameItem};
 use words::ABSENT;
 use words::HALF;
 use words::NAME_ITEM;
 use words::NAME_WITHOUT_NODE;
-
-// The word of node i: its first successor stays in the column, and its second goes to the other.
-fn split_edge(first: &mut [u64], second: &mut [u64], i: usize)
-    requires { ⌜ (i < length (now first)) × (i < length (now second)) ⌝ }
-    ensures { λ _. ⌜ now (first .exit) ≡ set (now (first .entry)) i (lo (getD (now (first .entry)) i 0)) ⌝ }
-    ensures { λ _. ⌜ now (second .exit) ≡ set (now (second .entry)) i (hi (getD (now (first .entry)) i 0)) ⌝ }
-{
-    let w = first[i];
-    first[i] = w % HALF;
-    second[i] = w / HALF;
-}
-
-// The successors of n nodes, whose words stand in `first`.
-pub fn split_edges(first: &mut [u64], second: &mut [u64], n: usize)
-    requires { ⌜ (n ≤ length (now first)) × (n ≤ length (now second)) ⌝ }
-    ensures { λ _. ⌜ now (first .exit) ≡ map lo (take n (now (first .entry))) ++ drop n (now (first .entry)) ⌝ }
-    ensures { λ _. ⌜ now (second .exit) ≡ map hi (take n (now (first .entry))) ++ drop n (now (second .entry)) ⌝ }
-{
-    let mut i = 0;
-    while i < n {
-        split_edge(first, second, i);
-        i += 1;
-    }
-}
 
 // A name's node by its word.
 fn node_of_name(w: u64) -> u64

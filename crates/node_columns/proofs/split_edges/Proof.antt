@@ -1,12 +1,12 @@
--- `columns::split_edges` meets its contract: at the loop's head the first i words are taken apart.
+-- `node_columns::split_edges` meets its contract: at the loop's head the first i words are taken apart.
 -- Assumes nothing.
 use Prim.Native.Nat.{_≤_, _-_}
 use mathlib.Core.Path.{_≡_}
 use native.Mathlib.Omega.{arith}
 use Rattle.cfg_edges.specs.Halves.{lo, hi}
-use Rattle.columns.proofs.Written.{Written, none, turn}
-use Rattle.columns.proofs.split_edges.Statement.{statement}
-use Rattle.columns.proofs.split_edges.Tie as tie
+use Rattle.node_columns.proofs.Written.{Written, none, turn}
+use Rattle.node_columns.proofs.split_edges.Statement.{statement}
+use Rattle.node_columns.proofs.split_edges.Tie as tie
 
 abbrev Inv-loop : tie.InvT-loop
 Inv-loop first₀ second₀ n i₀ first second i = (i ≤ n) × Written lo i first₀ first₀ first × Written hi i first₀ second₀ second

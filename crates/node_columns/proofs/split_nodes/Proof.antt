@@ -1,13 +1,13 @@
--- `chart::split_nodes` meets its contract: successors from the words of edges, and the reachable flags by a search over them.
+-- `node_columns::split_nodes` meets its contract: successors from the words of edges, and the reachable flags by a search over them.
 -- Assumes nothing.
 use borrow.Author.Needs.{needs}
 use mathlib.Core.Path.{sym, ap, _∙_}
 use lib.ListN.{take, drop}
 use denote.Ref.{now}
 use Rattle.cfg_edges.specs.Halves.{lo, hi}
-use Rattle.chart.proofs.Laid.{front}
-use Rattle.chart.proofs.split_nodes.Statement.{statement}
-use Rattle.chart.proofs.split_nodes.Tie as tie
+use Rattle.node_columns.proofs.Laid.{front}
+use Rattle.node_columns.proofs.split_nodes.Statement.{statement}
+use Rattle.node_columns.proofs.split_nodes.Tie as tie
 
 -- ---- the places: from each place back to the one before it
 

@@ -1,4 +1,4 @@
--- `columns::split_names` meets its contract: at the loop's head the first k words are taken apart.
+-- `name_columns::split_names` meets its contract: at the loop's head the first k words are taken apart.
 -- Assumes nothing.
 use Prim.Native.Nat.{ℕ, _≤_, _-_}
 use mathlib.Core.Path.{_≡_}
@@ -7,9 +7,9 @@ use native.Mathlib.Omega.{arith}
 use lib.ListN.{getD}
 use Rattle.cfg_edges.specs.Halves.{hi}
 use Rattle.cfg_steps.specs.Columns.{nameNode, nameItem}
-use Rattle.columns.proofs.Written.{Written, none, still, turn}
-use Rattle.columns.proofs.split_names.Statement.{statement}
-use Rattle.columns.proofs.split_names.Tie as tie
+use Rattle.node_columns.proofs.Written.{Written, none, still, turn}
+use Rattle.name_columns.proofs.split_names.Statement.{statement}
+use Rattle.name_columns.proofs.split_names.Tie as tie
 
 abbrev span : List ℕ → ℕ → ℕ
 span ss w = getD ss (nameItem w) 0

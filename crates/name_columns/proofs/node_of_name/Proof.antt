@@ -1,8 +1,8 @@
--- `columns::node_of_name` meets its contract, by whether the node is 65,535.
+-- `name_columns::node_of_name` meets its contract, by whether the node is 65,535.
 -- Assumes nothing.
 use borrow.Author.Tests.{ne-eqb}
-use Rattle.columns.proofs.node_of_name.Statement.{statement}
-use Rattle.columns.proofs.node_of_name.Tie as tie
+use Rattle.name_columns.proofs.node_of_name.Statement.{statement}
+use Rattle.name_columns.proofs.node_of_name.Tie as tie
 
 returns : tie.Need-returns
 returns c = rw (c .if1 .taken)
