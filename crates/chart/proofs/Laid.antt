@@ -5,7 +5,7 @@ use mathlib.Core.List.{List, _++_, map}
 use Prim.Native.Nat.{ℕ, _≤_, _<_}
 use native.Mathlib.Omega.{arith}
 use lib.ListN.{length, getD, take, drop, replicate, length-map, length-replicate, List·getD-map}
-use lib.Seq.{length-take-le, take-at, getD-take}
+use lib.Seq.{length-take-le, getD-take}
 use Rattle.flow.specs.declared.Counts.{Counts}
 use Rattle.flow.specs.Sheet.{kindWords, spanWords}
 use Rattle.flow.specs.Graph.{Graph, nodeCount, entryNode, graph}
@@ -21,10 +21,6 @@ use Rattle.cfg.proofs.Sanity.{sane, whole-room}
 use Rattle.cfg.proofs.Sheets.{is-graph}
 use Rattle.code_columns.specs.Words.{CodeWithin}
 use Rattle.chart.specs.Lent.{overlay, PartsOf, columns, Wide, chartOf, Charted}
-
--- the first n cells of a column that begins with f of n words
-pub front : (f : ℕ → ℕ) (n : ℕ) (ws rest : List ℕ) → n ≤ length ws → take n (map f (take n ws) ++ rest) ≡ map f (take n ws)
-front f n ws rest h = take-at (map f (take n ws)) rest n (length-map (take n ws) f ∙ length-take-le n ws h)
 
 -- a column that begins with n entries and is past them as it was
 pub laid : {n : ℕ} {entries entries' col : List ℕ} (old mid : List ℕ) → entries ≡ entries' → length entries ≡ n → drop n mid ≡ drop n old → col ≡ entries' ++ drop n mid → col ≡ overlay entries old

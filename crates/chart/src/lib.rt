@@ -1,12 +1,7 @@
 // The chart of an admitted sheet: its graph, built in words and taken apart into the columns that are lent.
-ghost use mathlib.Core.Path.{_≡_};
-ghost use mathlib.Core.List.{List, _++_, map};
-ghost use Prim.Native.Nat.{ℕ, _<_, _≤_};
-ghost use lib.ListN.{length, take, drop};
-ghost use Rattle.flow.specs.Graph.{entryNode};
+ghost use mathlib.Core.List.{List};
+ghost use Prim.Native.Nat.{ℕ};
 ghost use Rattle.flow.specs.Admitted.{AdmittedSheet};
-ghost use Rattle.cfg_edges.specs.Halves.{lo, hi};
-ghost use Rattle.reach.specs.Columns.{FlagsOver};
 ghost use Rattle.search.specs.Lent.{held};
 ghost use Rattle.chart.specs.Lent.{PartsOf, columns, lent, Wide, Charted, ChartedOf};
 use cfg::of_block;

@@ -45,7 +45,7 @@ pub fn judge(
     if let Verdict::Refused(refusal) = verdict {
         return JudgeAnswer::Refused(refusal);
     }
-    findings::of_sheets(
+    judging::of_sheets(
         sheet,
         uses,
         first,

@@ -79,7 +79,7 @@ fn chart(sheet: &[u64]) -> u64 {
     let mut name_span = [0u64; LOCALS];
     let mut name_node = [0u64; LOCALS];
     let mut name_end = [0u64; LOCALS];
-    chart_number(calls::chart(
+    chart_number(chart_call::chart(
         sheet,
         &mut first,
         &mut second,
@@ -135,7 +135,7 @@ fn tell(what: &[u8], sheet: &[u64]) {
     io::write_all(STDOUT_FILENO, b", run ");
     io::print_decimal(STDOUT_FILENO, run_number(run::run(sheet, 0)));
     io::write_all(STDOUT_FILENO, b", label check ");
-    io::print_decimal(STDOUT_FILENO, label_or_no(calls::label_check(sheet)));
+    io::print_decimal(STDOUT_FILENO, label_or_no(label_call::label_check(sheet)));
     io::write_all(STDOUT_FILENO, b"\n");
 }
 

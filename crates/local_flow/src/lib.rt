@@ -1,6 +1,4 @@
 // The findings of all locals, from the columns of a chart and a use sheet (local_flow.rs).
-ghost use mathlib.Core.Path.{_≡_};
-ghost use mathlib.Core.Bool.{true};
 ghost use Prim.Native.Nat.{_≤_};
 ghost use lib.ListN.{length};
 ghost use Rattle.locals.specs.Entries.{Room};
@@ -9,24 +7,11 @@ use both_lists::list_findings;
 use facts::any_tracked;
 use name_facts::find_names;
 use search::clear;
+use small_sheets::SMALL;
+use small_sheets::is_small;
 use tables::make_tables;
 use words::limit::ITEMS;
 use words::limit::NODES;
-
-// So many nodes, names and uses a small sheet has at most.
-const SMALL: usize = 128;
-
-// Whether a sheet has so few nodes, names and uses that little memory will do.
-fn is_small(n: usize, names: usize, uses: usize) -> bool
-    ensures { λ r. ⌜ (r ≡ true → (n ≤ 128) × (names ≤ 128) × (uses ≤ 128)) ⌝ }
-{
-    if n <= SMALL {
-        if names <= SMALL {
-            return uses <= SMALL;
-        }
-    }
-    false
-}
 
 // The findings of a small sheet: most function bodies are small, and to clear what a large one needs would take longer than all else.
 // It and `compute_large` differ in the lengths of their arrays alone, which a function cannot take as a number.

@@ -5,10 +5,11 @@
 -- Assumes nothing.
 use mathlib.Core.Path.{_≡_, refl, ap, _∙_}
 use mathlib.Core.List.{List, [], _∷_, _++_, map}
-use Prim.Native.Nat.{ℕ, zero, suc, _+_, _<_}
+use Prim.Native.Nat.{ℕ, zero, suc, _+_, _≤_, _<_}
 use native.Mathlib.Nat.{not-suc-le-zero, le-of-suc-le-suc}
 use native.Mathlib.Numerals.{add-one}
-use lib.ListN.{length, getD, set, take, drop, length-set}
+use lib.ListN.{length, getD, set, take, drop, length-set, length-map}
+use lib.Seq.{length-take-le, take-at}
 
 -- the column `col`, which was `old`, when i of the words ws are passed
 pub record Written (f : ℕ → ℕ) (i : ℕ) (ws old col : List ℕ) : Type 0 where
@@ -39,3 +40,7 @@ turn {f} {g} {i} {ws} {old} {cur} {col} w v h q e = record {
   long = ap length e ∙ length-set col i (f (getD cur i 0)) ∙ v .long;
   cells = rw (e, v .cells, still w, add-one) (one-more f i ws old h q);
 }
+
+-- the first n cells of a column that begins with f of n words
+pub front : (f : ℕ → ℕ) (n : ℕ) (ws rest : List ℕ) → n ≤ length ws → take n (map f (take n ws) ++ rest) ≡ map f (take n ws)
+front f n ws rest h = take-at (map f (take n ws)) rest n (length-map (take n ws) f ∙ length-take-le n ws h)

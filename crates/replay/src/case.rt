@@ -92,7 +92,7 @@ fn verdicts_agree(sheet: &[u64], uses: &[u64], chart: u64, judge: u64) -> bool {
 fn answers_agree(sheet: &[u64], uses: &[u64], words: &[u64]) -> bool {
     let chart = stored::chart(words);
     let judge = stored::judge(words, chart);
-    let labelled = label_word(calls::label_check(sheet)) == stored::word_at(words, 2);
+    let labelled = label_word(label_call::label_check(sheet)) == stored::word_at(words, 2);
     let admitted = verdicts_agree(sheet, uses, chart.number, judge.number);
     let charted = chart_agrees(sheet, chart, words);
     let ran = runs_agree(sheet, chart, words);

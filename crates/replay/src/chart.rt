@@ -1,4 +1,4 @@
-// The stored chart of a case, against what calls::chart writes and answers.
+// The stored chart of a case, against what chart_call::chart writes and answers.
 ghost use mathlib.Core.Path.{_≡_};
 ghost use mathlib.Core.Bool.{true};
 ghost use mathlib.Core.List.{[], _∷_};
@@ -131,7 +131,7 @@ pub fn chart_agrees(sheet: &[u64], stored: Stored, words: &[u64]) -> bool {
     let mut name_span = [OLD; LOCALS];
     let mut name_node = [OLD; LOCALS];
     let mut name_end = [OLD; LOCALS];
-    let answer = calls::chart(
+    let answer = chart_call::chart(
         sheet,
         &mut first,
         &mut second,

@@ -10,7 +10,7 @@ use Rattle.flow.specs.Reachable.{run, chart}
 use Rattle.flow.specs.Judge.{judge}
 use Rattle.flow.specs.Labels.{labelCheck}
 use Rattle.chart.specs.Lent.{Lent, chartShort}
-use Rattle.calls.specs.Promises.{ChartPromise}
+use Rattle.chart_call.specs.Promises.{ChartPromise}
 use Rattle.run.specs.Promises.{RunPromise}
 use Rattle.judge.specs.Lent.{JudgePromise, JudgeLent, short}
 use Rattle.answer_words.specs.Words.{countsWord, runWord, labelWord, CountFields, RunFields, LabelFields}

@@ -23,7 +23,7 @@ pub extern "C" fn waldimu_chart(
 ) -> u64
     ensures { λ r. ⌜ ChartForC (now (sheet .entry)) r (lent first second start reachable «code_span» «code_node» «name_span» «name_node» «name_end») ⌝ }
 {
-    chart_word(calls::chart(
+    chart_word(chart_call::chart(
         sheet,
         first,
         second,
@@ -85,5 +85,5 @@ pub extern "C" fn waldimu_run(sheet: &[u64], offset: u32) -> u64
 pub extern "C" fn waldimu_label_check(sheet: &[u64]) -> u64
     ensures { λ r. ⌜ LabelForC (now (sheet .entry)) r ⌝ }
 {
-    label_word(calls::label_check(sheet))
+    label_word(label_call::label_check(sheet))
 }

@@ -50,7 +50,7 @@ compute-requires : tie.Need-compute-requires
 compute-requires c κs =
     let d = c .before .before in
     let l = begun d .pre .1 .1 in
-    ((now (begun d .args .sheet), now (begun d .args .uses), parts d), (omega (arith, l .0), l .2))
+    ((now (begun d .args .sheet), now (begun d .args .uses), parts d), (omega (arith, l .0, l .1), l .2))
 
 write-spans-requires : tie.Need-write-spans-requires
 write-spans-requires c κs =

@@ -5,7 +5,7 @@ use mathlib.Core.Path.{sym, ap, _∙_}
 use lib.ListN.{take, drop}
 use denote.Ref.{now}
 use Rattle.cfg_edges.specs.Halves.{lo, hi}
-use Rattle.node_columns.proofs.Laid.{front}
+use Rattle.node_columns.proofs.Written.{front}
 use Rattle.node_columns.proofs.split_nodes.Statement.{statement}
 use Rattle.node_columns.proofs.split_nodes.Tie as tie
 

@@ -16,7 +16,7 @@ use Rattle.flow.proofs.Admission.{admitted, of-sheet}
 use Rattle.chart.specs.Lent.{Columns, chartShort, Wide, Charted}
 use Rattle.chart.proofs.Read.{shown}
 use Rattle.chart.proofs.Widths.{wide}
-use Rattle.calls.specs.Promises.{ChartPromise}
+use Rattle.chart_call.specs.Promises.{ChartPromise}
 
 module _ (x : Columns) (S : List ℕ) (e : sheetVerdict (chartShort x) S ≡ Admitted) where
   pub sheet-admitted : AdmittedSheet S

@@ -1,4 +1,4 @@
--- `calls::label_check` meets its contract. Assumes nothing.
+-- `label_call::label_check` meets its contract. Assumes nothing.
 use borrow.Author.Needs.{needs}
 use mathlib.Core.Path.{_≡_, sym, _∙_}
 use mathlib.Core.Bool.{Bool, false}
@@ -12,8 +12,8 @@ use Rattle.flow.specs.Labels.{labelsFine, labelCheck}
 use Rattle.flow.specs.Admitted.{AdmittedSheet}
 use Rattle.flow.proofs.Admission.{admitted}
 use Rattle.label_check.proofs.Admission.{checkable, labels-fine-law}
-use Rattle.calls.proofs.label_check.Statement.{statement}
-use Rattle.calls.proofs.label_check.Tie as tie
+use Rattle.label_call.proofs.label_check.Statement.{statement}
+use Rattle.label_call.proofs.label_check.Tie as tie
 
 -- ---- where the sheet is admitted
 

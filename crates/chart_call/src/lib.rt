@@ -1,11 +1,7 @@
-// The calls chart and label check of document 01. Each takes any sheet, and answers as its definition does.
-ghost use mathlib.Core.Path.{_≡_};
-ghost use Rattle.flow.specs.Answers.{labelTold};
-ghost use Rattle.flow.specs.Labels.{labelCheck};
+// The call chart of document 01: it takes any sheet, and answers as its definition does.
 ghost use Rattle.chart.specs.Lent.{lent};
-ghost use Rattle.calls.specs.Promises.{ChartPromise};
+ghost use Rattle.chart_call.specs.Promises.{ChartPromise};
 use flow::ChartAnswer;
-use flow::LabelAnswer;
 use flow::Verdict;
 
 // The graph of a sheet, in the columns that are lent.
@@ -51,19 +47,4 @@ pub fn chart(
         name_end,
     );
     ChartAnswer::Charted(counts)
-}
-
-// Whether no label is repeated in its block and every GOTO finds one.
-pub fn label_check(sheet: &[u64]) -> LabelAnswer
-    ensures { λ r. ⌜ labelTold r ≡ labelCheck (now (sheet .entry)) ⌝ }
-{
-    let verdict = admission::sheet_verdict(false, sheet);
-    if let Verdict::Refused(refusal) = verdict {
-        return LabelAnswer::Refused(refusal);
-    }
-    let kinds = sheet_parts::kinds(sheet);
-    if label_check::labels_fine(kinds) {
-        return LabelAnswer::Yes;
-    }
-    LabelAnswer::No
 }

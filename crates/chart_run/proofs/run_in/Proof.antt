@@ -1,11 +1,11 @@
--- `run::run_in` meets its contract: the place among the chart's codes, and the flag of its node.
+-- `chart_run::run_in` meets its contract: the place among the chart's codes, and the flag of its node.
 -- Assumes nothing.
 use borrow.Author.Needs.{needs}
 use denote.Ref.{now}
 use Rattle.flow.specs.Graph.{graph}
-use Rattle.run.proofs.Running.{node-asks, place-is, place-in, place-long, flags-are, ran}
-use Rattle.run.proofs.run_in.Statement.{statement}
-use Rattle.run.proofs.run_in.Tie as tie
+use Rattle.chart_run.proofs.Running.{node-asks, place-is, place-in, place-long, flags-are, ran}
+use Rattle.chart_run.proofs.run_in.Statement.{statement}
+use Rattle.chart_run.proofs.run_in.Tie as tie
 
 -- ---- the places: from each place back to the one before it
 

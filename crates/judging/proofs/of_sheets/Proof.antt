@@ -1,9 +1,9 @@
--- `findings::of_sheets` meets its contract: a chart's columns are what the search for findings asks.
+-- `judging::of_sheets` meets its contract: a chart's columns are what the search for findings asks.
 -- Assumes nothing.
 use borrow.Author.Needs.{needs}
 use Rattle.findings.proofs.Judging.{sheets, accepted}
-use Rattle.findings.proofs.of_sheets.Statement.{statement}
-use Rattle.findings.proofs.of_sheets.Tie as tie
+use Rattle.judging.proofs.of_sheets.Statement.{statement}
+use Rattle.judging.proofs.of_sheets.Tie as tie
 
 -- ---- where the chart is written
 

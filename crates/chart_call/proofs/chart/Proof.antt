@@ -1,4 +1,4 @@
--- `calls::chart` meets its contract: refused, no column was touched; admitted, the columns are wide enough for the graph.
+-- `chart_call::chart` meets its contract: refused, no column was touched; admitted, the columns are wide enough for the graph.
 -- Assumes nothing.
 use borrow.Author.Needs.{needs}
 use mathlib.Core.Path.{_≡_, sym, ap, _∙_}
@@ -8,9 +8,9 @@ use Prim.Native.Nat.{ℕ}
 use denote.Ref.{now}
 use Rattle.flow.specs.Refusals.{sheetVerdict}
 use Rattle.chart.specs.Lent.{Columns, columns, chartShort}
-use Rattle.calls.proofs.Promises.{sheet-admitted, wide-enough, chart-refused, chart-accepted}
-use Rattle.calls.proofs.chart.Statement.{statement}
-use Rattle.calls.proofs.chart.Tie as tie
+use Rattle.chart_call.proofs.Promises.{sheet-admitted, wide-enough, chart-refused, chart-accepted}
+use Rattle.chart_call.proofs.chart.Statement.{statement}
+use Rattle.chart_call.proofs.chart.Tie as tie
 
 -- ---- where the verdict is known
 

@@ -1,9 +1,9 @@
--- `local_flow::is_small` meets its contract: only where all three tests say so it answers yes.
+-- `small_sheets::is_small` meets its contract: only where all three tests say so it answers yes.
 -- Assumes nothing.
 use mathlib.Core.Bool.{false≢true}
 use borrow.Author.Needs.{needs}
-use Rattle.local_flow.proofs.is_small.Statement.{statement}
-use Rattle.local_flow.proofs.is_small.Tie as tie
+use Rattle.small_sheets.proofs.is_small.Statement.{statement}
+use Rattle.small_sheets.proofs.is_small.Tie as tie
 
 returns : tie.Need-returns
 returns c = search needs
