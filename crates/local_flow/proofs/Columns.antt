@@ -1,6 +1,6 @@
--- From the columns of a chart and a use sheet to what both passes ask, and what is found where no local is tracked.
+-- The facts of the names, and what is found where no local is tracked.
 -- Assumes nothing.
-use Prim.Native.Nat.{ℕ, suc, _+_, _≤_, _<_}
+use Prim.Native.Nat.{ℕ, _+_, _≤_, _<_}
 use mathlib.Core.Path.{_≡_, sym, ap, subst, _∙_}
 use mathlib.Core.Bool.{false, true}
 use mathlib.Core.List.{List, [], _++_}
@@ -8,7 +8,6 @@ use native.Mathlib.Omega.{arith}
 use lib.ListN.{length, getD, drop, replicate, length-append, length-drop, length-replicate, List·getD-append}
 use lib.Seq.{drop-append-seam}
 use Rattle.search.proofs.Count.{zero-at}
-use Rattle.search.proofs.Stamps.{unmarked-zeros}
 use Rattle.flow.specs.Sheet.{kindWords}
 use Rattle.flow.specs.Locals.{locals, tracked, localAt}
 use Rattle.flow.specs.Findings.{firstUnassignedUse, initialOverwritten, writesOverwritten, unassignedOf, overwrittenOf, findings}
@@ -16,16 +15,13 @@ use Rattle.flow.specs.Judge.{wordsOf}
 use Rattle.facts.specs.Facts.{FactsOf, None}
 use Rattle.name_facts.specs.Names.{localsIn, Stored}
 use Rattle.name_facts.proofs.Names.{names-counted, names-known}
-use Rattle.locals.specs.Columns.{Tables}
 use Rattle.locals.specs.Entries.{Added}
 use Rattle.locals.proofs.Entries.{added-none}
-use Rattle.tables.specs.Tables.{Room}
 use Rattle.unassigned.specs.Words.{markFigure}
 use Rattle.unassigned.specs.Pass.{Figures}
 use Rattle.overwritten.proofs.Judged.{each-none}
-use Rattle.overwritten.proofs.Locals.{lent}
-use Rattle.both_lists.specs.Passes.{Pair, Walks}
-use Rattle.local_flow.specs.Sheets.{Sheets, Given}
+use Rattle.sized_flow.specs.Given.{Given}
+use Rattle.local_flow.specs.Sheets.{Sheets}
 
 -- ---- the facts of the names
 
@@ -46,26 +42,6 @@ module _ {S U : List ℕ} {n codes : ℕ} {kinds first second start codeSpan cod
 
   pub given : names ≤ length facts → Given S U n codes names first second start codeSpan codeNode nameNode nameEnd words spans facts
   given long = record { columns = rw counted at (p .columns); facts-long = long; facts-are = known }
-
--- what both passes ask, once the tables are made
-pub pair : {S U : List ℕ} {n codes names : ℕ} {first second start codeSpan codeNode nameNode nameEnd words spans facts₀ facts starts byLocal byNode : List ℕ}
-    → Given S U n codes names first second start codeSpan codeNode nameNode nameEnd words spans facts₀ → Tables S U n names facts starts byLocal byNode → Pair S U n names first second start nameNode nameEnd facts starts byLocal byNode
-pair g t = record { charted = g .columns .charted; named = g .columns .named; tables = t }
-
--- ---- the memory
-
-abbrev zeros : ℕ → List ℕ
-zeros k = replicate k 0
-
--- columns of zeros are memory for all that has at most k nodes and names, and at most j uses
-pub tables-room : {n names uses : ℕ} {facts : List ℕ} (k j : ℕ) → names ≤ length facts → n ≤ k → names ≤ k → uses ≤ j → Room uses names n facts (zeros j) (zeros (suc k)) (zeros j) (zeros j)
-tables-room k j f h i m =
-    let l : length (zeros j) ≡ j = length-replicate {A = ℕ} j 0 in
-    let s : length (zeros (suc k)) ≡ suc k = length-replicate {A = ℕ} (suc k) 0 in
-    record { facts-long = f; uses-long = omega (arith, l); name-starts = omega (arith, s); node-starts = omega (arith, s); by-local-long = omega (arith, l); by-node-long = omega (arith, l) }
-
-pub walking-room : {n : ℕ} (k : ℕ) → n ≤ k → Walks n (zeros k) (zeros k) (zeros k) (zeros k) (zeros k) (zeros k)
-walking-room {n} k h = record { unmarked = unmarked-zeros n k h; lent = lent n k h }
 
 -- ---- no local tracked
 
@@ -95,9 +71,9 @@ module _ (S U : List ℕ) {names : ℕ} (facts : List ℕ) (e : length (locals S
   -- and every mark figure is 0
   pub zero-figures : {old new : List ℕ} → names ≤ length old → new ≡ replicate names 0 ++ drop names old → Figures S U names old new
   zero-figures {old} {new} h q =
-      let long : length (zeros names) ≡ names = length-replicate {A = ℕ} names 0 in
+      let long : length (replicate {A = ℕ} names 0) ≡ names = length-replicate {A = ℕ} names 0 in
       record {
-        figure = λ ℓ l. ap (λ (x : List ℕ). getD x ℓ 0) q ∙ List·getD-append (zeros names) (drop names old) 0 ℓ (omega (arith, long)) ∙ zero-at names ℓ ∙ sym (no-figure S U ℓ (untracked ℓ l));
-        rest = rw q (subst (λ (j : ℕ). drop j (zeros names ++ drop names old) ≡ drop names old) long (drop-append-seam (zeros names) (drop names old)));
-        long = ap length q ∙ length-append (zeros names) (drop names old) ∙ omega (arith, long, length-drop names old);
+        figure = λ ℓ l. ap (λ (x : List ℕ). getD x ℓ 0) q ∙ List·getD-append (replicate {A = ℕ} names 0) (drop names old) 0 ℓ (omega (arith, long)) ∙ zero-at names ℓ ∙ sym (no-figure S U ℓ (untracked ℓ l));
+        rest = rw q (subst (λ (j : ℕ). drop j (replicate {A = ℕ} names 0 ++ drop names old) ≡ drop names old) long (drop-append-seam (replicate {A = ℕ} names 0) (drop names old)));
+        long = ap length q ∙ length-append (replicate {A = ℕ} names 0) (drop names old) ∙ omega (arith, long, length-drop names old);
       }

@@ -11,7 +11,8 @@ use Rattle.flow.specs.Findings.{findings}
 use Rattle.flow.specs.Judge.{wordsOf}
 use Rattle.locals.specs.Entries.{Added}
 use Rattle.unassigned.specs.Pass.{Figures}
-use Rattle.local_flow.specs.Sheets.{Sheets, Given}
+use Rattle.sized_flow.specs.Given.{Given}
+use Rattle.local_flow.specs.Sheets.{Sheets}
 use Rattle.local_flow.proofs.Columns.{counted, known, few-names, given, nothing-found, zero-figures}
 use borrow.Author.Needs.{needs}
 use Rattle.local_flow.proofs.compute.Statement.{statement}
