@@ -1,5 +1,5 @@
 #!/bin/sh
-# A bounded comparison: luck's own Rust, the reading of document 01 and, where
+# A bounded comparison: luck's own Rust, the reading of documents 01 and 02 and, where
 # FLOWLIST names the program, the Rattle side. Ends with the first difference.
 # `run.sh library` lets the static library answer too: the one that
 # WALDIMU_ARCHIVE names, or else one that is built first.
@@ -33,6 +33,7 @@ if [ "$part" = library ]; then
     compare=target/library/release/compare
     $compare short --length 3
     $compare short --length 3 --uses 2
+    $compare scopes
     $compare pairs --pairs 200000 --seed 3
     if command -v cc >/dev/null 2>&1; then
         cc -Wall -Werror -I../include -o target/stack stack.c "$WALDIMU_ARCHIVE" -lpthread
@@ -46,6 +47,7 @@ cargo build --release --offline --quiet --target-dir target
 compare=target/release/compare
 
 $compare pieces
+$compare scopes
 $compare stored ../crates/replay/data
 $compare short --length 4
 $compare short --length 3 --uses 2

@@ -10,8 +10,8 @@ enum { ROOM = 8 << 20, PAINT = 0xa5 };
 static uint64_t first[1600], second[1600], start[1600], reachable[1600];
 static uint64_t code_span[1024], code_node[1024], name_span[1024], name_node[1024], name_end[1024];
 static uint64_t finding_word[3072], finding_span[3072], mark[1024];
-static uint64_t sheet[2050], uses[2049];
-static size_t words, use_words;
+static uint64_t sheet[2050], uses[2049], scopes[1 + 2 * 512 + 2 * 1024];
+static size_t words, use_words, scope_words;
 static uint64_t answer;
 
 static void *nothing(void *unused) { return unused; }
@@ -23,7 +23,8 @@ static void *chart(void *unused) {
 }
 
 static void *judge(void *unused) {
-    answer = waldimu_judge(sheet, words, uses, use_words, first, 1600, second, 1600, start, 1600, reachable, 1600,
+    answer = waldimu_judge(sheet, words, uses, use_words, scopes, scope_words,
+                           first, 1600, second, 1600, start, 1600, reachable, 1600,
                            code_span, 1024, code_node, 1024, name_span, 1024, name_node, 1024, name_end, 1024,
                            finding_word, 3072, finding_span, 3072, mark, 1024);
     return unused;
@@ -74,6 +75,7 @@ static void begin(size_t items, size_t used) {
     words = WALDIMU_SHEET_WORDS(items);
     uses[0] = used;
     use_words = WALDIMU_USE_WORDS(used);
+    scope_words = 0;
 }
 
 static void put(size_t at, uint64_t kind, int has_code) {
@@ -93,6 +95,17 @@ static void put_use(size_t at, uint32_t local, uint32_t kind, uint32_t offset) {
     uses[1 + uses[0] + at] = waldimu_span(offset, offset + 1);
 }
 
+/* A chain of 512 blocks with so many names in the outermost and every use in the innermost. */
+static void put_scopes(size_t names) {
+    scopes[0] = 512;
+    for (size_t i = 0; i < 512; i++) {
+        scopes[1 + i] = 2;
+        scopes[513 + i] = i;
+    }
+    for (size_t i = 0; i < names + uses[0]; i++) scopes[1025 + i] = i < names ? 0 : 511;
+    scope_words = 1025 + names + uses[0];
+}
+
 int main(void) {
     begin(1024, 0);
     for (size_t i = 0; i < 1024; i++) put(i, WALDIMU_PLAIN, 1);
@@ -103,6 +116,8 @@ int main(void) {
     put(1023, WALDIMU_PLAIN, 1);
     for (size_t i = 0; i < 1024; i++) put_use(i, i / 2 % 511, i % 2, 1022 + i % 2);
     tell("511 locals, 1,024 uses");
+    put_scopes(511);
+    tell("the same in 512 scopes");
     begin(128, 0);
     for (size_t i = 0; i < 128; i++) put(i, i < 64 ? WALDIMU_IF : WALDIMU_END, i < 64);
     tell("64 nested IF");

@@ -10,7 +10,7 @@
 #include <sys/mman.h>
 #include "waldimu.h"
 
-enum { COLUMNS = 12, CHART_COLUMNS = 9, SHEET = COLUMNS, USES, SLOTS, PAGE = 4096, SLOT_WORDS = 4096 };
+enum { COLUMNS = 12, CHART_COLUMNS = 9, SHEET = COLUMNS, USES, SCOPES, SLOTS, PAGE = 4096, SLOT_WORDS = 4096 };
 enum { FIRST, SECOND, START, REACHABLE, CODE_SPAN, CODE_NODE, NAME_SPAN, NAME_NODE, NAME_END, FOUND_WORD, FOUND_SPAN, MARK };
 
 static const size_t least[COLUMNS] = {
@@ -77,7 +77,7 @@ static void give_back(uint64_t *buffer) {
 enum { ROOM = 1300 };
 
 typedef struct {
-    uint64_t words[WALDIMU_SHEET_WORDS(ROOM) + 2];
+    uint64_t words[SLOT_WORDS];
     size_t length;
 } Sheet;
 
@@ -231,6 +231,19 @@ static void make_uses(Sheet *uses) {
     uses->length = WALDIMU_USE_WORDS(m);
 }
 
+/* Of a sheet just made, and of a use sheet. Admitted, but where there are 513 scopes. Chains, bushes and roots. */
+static void make_scopes(Sheet *scopes, const Sheet *uses) {
+    size_t m = uses->length ? (uses->length - 1) / 2 : 0;
+    size_t s = below(6) ? 1 + below(12) : 511 + below(3), steps = below(2) ? 1 : s;
+    scopes->words[0] = s;
+    for (size_t i = 0; i < s; i++) {
+        scopes->words[1 + i] = below(4);
+        scopes->words[1 + s + i] = i && below(20) ? i - below(i < steps ? i : steps) : 0;
+    }
+    for (size_t i = 0; i < names + m; i++) scopes->words[1 + 2 * s + i] = below(4) ? below(s) : i < names ? 0 : s - 1;
+    scopes->length = WALDIMU_SCOPE_WORDS(s, names, m);
+}
+
 static void damage(Sheet *sheet) {
     size_t at = sheet->length ? below(sheet->length) : 0;
     switch (below(6)) {
@@ -253,7 +266,7 @@ static void damage(Sheet *sheet) {
 static uint64_t *columns[COLUMNS];
 static size_t cells[COLUMNS];
 static uint64_t salt;
-static long told[3][9];
+static long told[3][10];
 
 static void wrong(const char *what, int column, size_t at) {
     printf("wrong: %s, column %d, cell %zu\n", what, column, at);
@@ -302,7 +315,7 @@ static size_t written(int column, uint64_t result) {
 
 static void look(int many, int is_filled, uint64_t result, uint64_t uses) {
     unsigned refusal = waldimu_refusal(result);
-    if (refusal > 8 || (refusal && result != refusal)) wrong("result", -1, refusal);
+    if (refusal > 9 || (refusal && result != refusal)) wrong("result", -1, refusal);
     for (int c = 0; c < many; c++) {
         size_t count = written(c, result);
         if (!refusal && cells[c] < least[c]) wrong("not refused", c, cells[c]);
@@ -323,25 +336,28 @@ static uint64_t chart(const Sheet *sheet, int is_filled) {
         columns[NAME_SPAN], cells[NAME_SPAN], columns[NAME_NODE], cells[NAME_NODE], columns[NAME_END], cells[NAME_END]);
     look(CHART_COLUMNS, is_filled, result, 0);
     if (result >> 48) wrong("chart found something", -1, 0);
+    if (waldimu_refusal(result) > WALDIMU_BAD_NAME) wrong("chart refuses what it is not given", -1, 0);
     if (memcmp(words, sheet->words, sheet->length * sizeof *words)) wrong("sheet changed by chart", -1, 0);
     give_back(words);
     return result;
 }
 
-static uint64_t judge(const Sheet *sheet, const Sheet *uses, int is_filled) {
-    uint64_t *words = copy(SHEET, sheet), *used = copy(USES, uses);
+static uint64_t judge(const Sheet *sheet, const Sheet *uses, const Sheet *scopes, int is_filled) {
+    uint64_t *words = copy(SHEET, sheet), *used = copy(USES, uses), *scoped = copy(SCOPES, scopes);
     lend_columns(COLUMNS, is_filled);
     uint64_t result = waldimu_judge(
-        words, sheet->length, used, uses->length, columns[FIRST], cells[FIRST], columns[SECOND], cells[SECOND],
-        columns[START], cells[START], columns[REACHABLE], cells[REACHABLE], columns[CODE_SPAN], cells[CODE_SPAN],
-        columns[CODE_NODE], cells[CODE_NODE], columns[NAME_SPAN], cells[NAME_SPAN], columns[NAME_NODE], cells[NAME_NODE],
-        columns[NAME_END], cells[NAME_END], columns[FOUND_WORD], cells[FOUND_WORD], columns[FOUND_SPAN], cells[FOUND_SPAN],
-        columns[MARK], cells[MARK]);
+        words, sheet->length, used, uses->length, scoped, scopes->length, columns[FIRST], cells[FIRST],
+        columns[SECOND], cells[SECOND], columns[START], cells[START], columns[REACHABLE], cells[REACHABLE],
+        columns[CODE_SPAN], cells[CODE_SPAN], columns[CODE_NODE], cells[CODE_NODE], columns[NAME_SPAN], cells[NAME_SPAN],
+        columns[NAME_NODE], cells[NAME_NODE], columns[NAME_END], cells[NAME_END], columns[FOUND_WORD], cells[FOUND_WORD],
+        columns[FOUND_SPAN], cells[FOUND_SPAN], columns[MARK], cells[MARK]);
     look(COLUMNS, is_filled, result, uses->words[0]);
     if (memcmp(words, sheet->words, sheet->length * sizeof *words)) wrong("sheet changed by judge", -1, 0);
     if (memcmp(used, uses->words, uses->length * sizeof *used)) wrong("use sheet changed", -1, 0);
+    if (memcmp(scoped, scopes->words, scopes->length * sizeof *scoped)) wrong("scope sheet changed", -1, 0);
     give_back(words);
     give_back(used);
+    give_back(scoped);
     return result;
 }
 
@@ -360,7 +376,7 @@ static uint64_t ask(const Sheet *sheet) {
 }
 
 static void play(void) {
-    static Sheet sheet, uses;
+    static Sheet sheet, uses, scopes;
     int is_filled = fenced || below(2);
     switch (below(16)) {
     case 0: make_noise(&sheet); break;
@@ -372,12 +388,19 @@ static void play(void) {
     if (below(3) == 0) damage(&sheet);
     if (below(6) == 0) damage(&sheet);
     if (below(4) == 0) damage(&uses);
+    switch (below(8)) {
+    case 0: make_noise(&scopes); break;
+    case 1: case 2: scopes.length = 0; break;
+    default: make_scopes(&scopes, &uses);
+    }
+    if (scopes.length && below(4) == 0) damage(&scopes);
     unsigned charted = waldimu_refusal(chart(&sheet, is_filled));
-    unsigned judged = waldimu_refusal(judge(&sheet, &uses, is_filled));
+    unsigned judged = waldimu_refusal(judge(&sheet, &uses, &scopes, is_filled));
     unsigned asked = waldimu_refusal(ask(&sheet));
     if (charted != asked && charted != WALDIMU_BENCH_TOO_SMALL) wrong("chart and label check differ", -1, charted);
-    if (!asked && judged && judged != WALDIMU_BENCH_TOO_SMALL && judged != WALDIMU_MISCOUNT && judged != WALDIMU_BAD_USE)
+    if (!asked && judged && judged != WALDIMU_BENCH_TOO_SMALL && judged != WALDIMU_MISCOUNT && judged < WALDIMU_BAD_USE)
         wrong("judge refuses an admitted sheet", -1, judged);
+    if (judged == WALDIMU_BAD_SCOPE && !scopes.length) wrong("judge refuses a scope sheet that does not come", -1, 0);
     told[0][charted]++;
     told[1][judged]++;
     told[2][asked]++;
@@ -392,8 +415,8 @@ int main(int count, char **arguments) {
     for (long i = 0; i < rounds; i++) play();
     const char *calls[] = {"chart", "judge", "run and label check"};
     for (int i = 0; i < 3; i++) {
-        printf("%s: accepted %ld, refused 1 to 8:", calls[i], told[i][0]);
-        for (int number = 1; number <= 8; number++) printf(" %ld", told[i][number]);
+        printf("%s: accepted %ld, refused 1 to 9:", calls[i], told[i][0]);
+        for (int number = 1; number <= 9; number++) printf(" %ld", told[i][number]);
         puts("");
     }
     return 0;

@@ -1,4 +1,4 @@
-/* A unit's C code over include/waldimu.h: judges 01's printed sheet and one more, and prints the answers in words. */
+/* A unit's C code over include/waldimu.h: judges 01's printed sheet and some more, and prints the answers in words. */
 #include <stdio.h>
 #include "waldimu.h"
 
@@ -7,8 +7,12 @@ static uint64_t code_span[WALDIMU_CODES], code_node[WALDIMU_CODES];
 static uint64_t name_span[WALDIMU_LOCALS], name_node[WALDIMU_LOCALS], name_end[WALDIMU_LOCALS], mark[WALDIMU_LOCALS];
 static uint64_t finding_word[WALDIMU_FINDINGS], finding_span[WALDIMU_FINDINGS];
 
-static uint64_t judge(const uint64_t *sheet, size_t sheet_words, const uint64_t *uses, size_t use_words) {
-    return waldimu_judge(sheet, sheet_words, uses, use_words,
+/* What comes where no scope sheet does: a pointer that is not null, and 0 words. */
+static const uint64_t no_scopes[1];
+
+static uint64_t judge(const uint64_t *sheet, size_t sheet_words, const uint64_t *uses, size_t use_words,
+                      const uint64_t *scopes, size_t scope_words) {
+    return waldimu_judge(sheet, sheet_words, uses, use_words, scopes, scope_words,
                          first, WALDIMU_NODES, second, WALDIMU_NODES, start, WALDIMU_NODES, reachable, WALDIMU_NODES,
                          code_span, WALDIMU_CODES, code_node, WALDIMU_CODES,
                          name_span, WALDIMU_LOCALS, name_node, WALDIMU_LOCALS, name_end, WALDIMU_LOCALS,
@@ -60,6 +64,22 @@ static void print_labels(const uint64_t *sheet, size_t sheet_words) {
     puts(waldimu_yes(waldimu_label_check(sheet, sheet_words)) ? "labels fit" : "labels do not fit");
 }
 
+/* A local without a value whose one read stands in a Function. */
+static void print_read_in_function(uint64_t flags, size_t scope_words) {
+    const uint64_t sheet[WALDIMU_SHEET_WORDS(3)] = {
+        3, 13,
+        waldimu_item(WALDIMU_LOCAL, 0), waldimu_item(WALDIMU_NAME, flags), WALDIMU_PLAIN,
+        waldimu_span(0, 9), waldimu_span(6, 7), waldimu_span(10, 13)};
+    const uint64_t uses[WALDIMU_USE_WORDS(1)] = {1, waldimu_use(0, WALDIMU_READ, 0), waldimu_span(10, 11)};
+    const uint64_t scopes[WALDIMU_SCOPE_WORDS(2, 1, 1)] = {
+        2,
+        WALDIMU_MODULE, WALDIMU_FUNCTION,
+        0, 0 + 1, /* the Function's parent is scope 0 */
+        0,        /* the NAME's scope */
+        1};       /* the use's */
+    print_judged(judge(sheet, WALDIMU_SHEET_WORDS(3), uses, WALDIMU_USE_WORDS(1), scopes, scope_words));
+}
+
 int main(void) {
     const uint64_t printed[WALDIMU_SHEET_WORDS(4)] = {
         4, 22,
@@ -70,7 +90,7 @@ int main(void) {
         waldimu_use(0, WALDIMU_WRITE, 0), waldimu_use(0, WALDIMU_READ, 0),
         waldimu_span(10, 11), waldimu_span(20, 21)};
     puts("local x=1 x=2 print(x)");
-    print_judged(judge(printed, WALDIMU_SHEET_WORDS(4), printed_uses, WALDIMU_USE_WORDS(2)));
+    print_judged(judge(printed, WALDIMU_SHEET_WORDS(4), printed_uses, WALDIMU_USE_WORDS(2), no_scopes, 0));
     print_offset(printed, WALDIMU_SHEET_WORDS(4), 8);
     print_offset(printed, WALDIMU_SHEET_WORDS(4), 9);
     print_offset(printed, WALDIMU_SHEET_WORDS(4), 22);
@@ -82,9 +102,18 @@ int main(void) {
         waldimu_span(0, 7), waldimu_span(6, 7), waldimu_span(8, 12)};
     const uint64_t added_uses[WALDIMU_USE_WORDS(1)] = {1, waldimu_use(0, WALDIMU_READ_WRITE, 0), waldimu_span(8, 9)};
     puts("\nlocal x x+=1");
-    print_judged(judge(added, WALDIMU_SHEET_WORDS(3), added_uses, WALDIMU_USE_WORDS(1)));
+    print_judged(judge(added, WALDIMU_SHEET_WORDS(3), added_uses, WALDIMU_USE_WORDS(1), no_scopes, 0));
 
     puts("\nthe printed sheet without its last word");
-    print_judged(judge(printed, WALDIMU_SHEET_WORDS(4) - 1, printed_uses, WALDIMU_USE_WORDS(2)));
+    print_judged(judge(printed, WALDIMU_SHEET_WORDS(4) - 1, printed_uses, WALDIMU_USE_WORDS(2), no_scopes, 0));
+
+    puts("\na captured local of a Module, read in a Function");
+    print_read_in_function(4, WALDIMU_SCOPE_WORDS(2, 1, 1));
+    puts("\nthe same, not marked as captured");
+    print_read_in_function(0, WALDIMU_SCOPE_WORDS(2, 1, 1));
+    puts("\nthe same, captured, without the scope sheet");
+    print_read_in_function(4, 0);
+    puts("\nthe same, captured, without the scope sheet's last word");
+    print_read_in_function(4, WALDIMU_SCOPE_WORDS(2, 1, 1) - 1);
     return 0;
 }

@@ -1,4 +1,4 @@
-//! A unit's Rust code over the static library: judges 01's printed sheet and one more, and prints the answers in words.
+//! A unit's Rust code over the static library: judges 01's printed sheet and some more, and prints the answers in words.
 //! `include/waldimu.h` says what the calls take, give and write.
 
 unsafe extern "C" {
@@ -7,6 +7,8 @@ unsafe extern "C" {
         sheet_words: usize,
         uses: *const u64,
         use_words: usize,
+        scopes: *const u64,
+        scope_words: usize,
         first: *mut u64,
         first_cells: usize,
         second: *mut u64,
@@ -51,7 +53,13 @@ const READ: u64 = 0;
 const WRITE: u64 = 1;
 const READ_WRITE: u64 = 2;
 
-const REFUSALS: [&str; 8] = [
+const MODULE: u64 = 0;
+const FUNCTION: u64 = 1;
+
+/// What comes where no scope sheet does. The pointer of an empty slice is not null.
+const NO_SCOPES: &[u64] = &[];
+
+const REFUSALS: [&str; 9] = [
     "bench too small",
     "miscount",
     "bad item",
@@ -60,6 +68,7 @@ const REFUSALS: [&str; 8] = [
     "off the line",
     "bad name",
     "bad use",
+    "bad scope",
 ];
 
 const fn item(kind: u64, argument: u64) -> u64 {
@@ -108,7 +117,7 @@ impl Columns {
         }
     }
 
-    fn judge(&mut self, sheet: &[u64], uses: &[u64]) -> u64 {
+    fn judge(&mut self, sheet: &[u64], uses: &[u64], scopes: &[u64]) -> u64 {
         // Safe: each pointer and count are those of a slice, and no two overlap.
         unsafe {
             waldimu_judge(
@@ -116,6 +125,8 @@ impl Columns {
                 sheet.len(),
                 uses.as_ptr(),
                 uses.len(),
+                scopes.as_ptr(),
+                scopes.len(),
                 self.first.as_mut_ptr(),
                 self.first.len(),
                 self.second.as_mut_ptr(),
@@ -204,6 +215,15 @@ fn print_labels(sheet: &[u64]) {
     println!("{}", if result >> 4 & 1 == 1 { "labels fit" } else { "labels do not fit" });
 }
 
+/// A local without a value whose one read stands in a Function.
+fn print_read_in_function(columns: &mut Columns, flags: u64, scopes: &[u64]) {
+    let sheet =
+        [3, 13, item(LOCAL, 0), item(NAME, flags), PLAIN, span(0, 9), span(6, 7), span(10, 13)];
+    let uses = [1, usage(0, READ, 0), span(10, 11)];
+    let result = columns.judge(&sheet, &uses, scopes);
+    columns.print_judged(result);
+}
+
 fn main() {
     let mut columns = Columns::new();
 
@@ -214,7 +234,7 @@ fn main() {
     .concat();
     let printed_uses = [2, usage(0, WRITE, 0), usage(0, READ, 0), span(10, 11), span(20, 21)];
     println!("local x=1 x=2 print(x)");
-    let result = columns.judge(&printed, &printed_uses);
+    let result = columns.judge(&printed, &printed_uses, NO_SCOPES);
     columns.print_judged(result);
     for offset in [8, 9, 22] {
         print_offset(&printed, offset);
@@ -224,10 +244,21 @@ fn main() {
     let added = [3, 12, item(LOCAL, 0), item(NAME, 2), PLAIN, span(0, 7), span(6, 7), span(8, 12)];
     let added_uses = [1, usage(0, READ_WRITE, 0), span(8, 9)];
     println!("\nlocal x x+=1");
-    let result = columns.judge(&added, &added_uses);
+    let result = columns.judge(&added, &added_uses, NO_SCOPES);
     columns.print_judged(result);
 
     println!("\nthe printed sheet without its last word");
-    let result = columns.judge(&printed[..printed.len() - 1], &printed_uses);
+    let result = columns.judge(&printed[..printed.len() - 1], &printed_uses, NO_SCOPES);
     columns.print_judged(result);
+
+    // Kinds, parents (the Function's is scope 0), the NAME's scope, the use's.
+    let scopes = [2, MODULE, FUNCTION, 0, 0 + 1, 0, 1];
+    println!("\na captured local of a Module, read in a Function");
+    print_read_in_function(&mut columns, 4, &scopes);
+    println!("\nthe same, not marked as captured");
+    print_read_in_function(&mut columns, 0, &scopes);
+    println!("\nthe same, captured, without the scope sheet");
+    print_read_in_function(&mut columns, 4, NO_SCOPES);
+    println!("\nthe same, captured, without the scope sheet's last word");
+    print_read_in_function(&mut columns, 4, &scopes[..scopes.len() - 1]);
 }

@@ -1,10 +1,11 @@
 /* Waldimu's calls for a unit's C code. Link libwaldimu.a, which `rt staticlib waldimu` makes from proved crates for
-   x86-64. Document 01 is the authority for what a sheet is, what a call writes and why it is refused; this says it in
-   short. All words and cells have 64 bits. examples/unit.c and examples/unit.rs show the calls in use.
+   x86-64. Documents 01 and 02 are the authority for what a sheet is, what a call writes and why it is refused; this says
+   it in short. All words and cells have 64 bits. examples/unit.c and examples/unit.rs show the calls in use.
 
    WHAT A CALLER OWES. A pointer is never null, not even with count 0, is aligned to 8 bytes, and that many words lie
-   behind it. No column overlaps another one, the sheet or the use sheet. Columns may hold anything before a call. What the
-   sheets hold and how long a column is need no care: what does not fit is refused.
+   behind it. No column overlaps another one or a sheet. Columns may hold anything before a call. What the sheets hold and
+   how long a column is need no care: what does not fit is refused. Without a scope sheet pass any such pointer, say the use
+   sheet's, and 0 words.
 
    WHAT A CALL DOES. It ends on every input and writes to the columns alone. A refusal changes no cell. An accepted call
    writes the first cells of each column, as many as the result word tells; those behind them keep their content. Nothing
@@ -13,9 +14,9 @@
    THE STACK. The proofs say nothing of it. In KB of 1,000 bytes, measured by compare/stack.c, the most found last:
 
      sheet                     chart  judge    run  label check
-     1,024 PLAIN                   2     61     94           18
-     an IF with 1,022 ELSEIF       3     62     95           18
-     64 nested IF                 59    118    151           18
+     1,024 PLAIN                   2     69     94           18
+     an IF with 1,022 ELSEIF       3     70     95           18
+     64 nested IF                 59    126    151           18
 */
 #ifndef WALDIMU_H
 #define WALDIMU_H
@@ -29,9 +30,10 @@ extern "C" {
 
 /* ---- Sizes ---- */
 
-/* The most that a sheet and a use sheet hold. */
+/* The most that a sheet, a use sheet and a scope sheet hold. */
 #define WALDIMU_ITEMS 1024
 #define WALDIMU_USES 1024
+#define WALDIMU_SCOPES 512
 #define WALDIMU_DEPTH 64 /* blocks in each other */
 
 /* The fewest cells of a column. Longer columns do no harm. */
@@ -40,9 +42,10 @@ extern "C" {
 #define WALDIMU_LOCALS 1024
 #define WALDIMU_FINDINGS 3072
 
-/* How many words a sheet of n items and a use sheet of m uses have. */
+/* How many words a sheet of n items, a use sheet of m uses, and a scope sheet of s scopes for p names and m uses have. */
 #define WALDIMU_SHEET_WORDS(n) (2 * (n) + 2)
 #define WALDIMU_USE_WORDS(m) (2 * (m) + 1)
+#define WALDIMU_SCOPE_WORDS(s, p, m) (1 + 2 * (s) + (p) + (m))
 
 /* ---- The sheet ----
    word 0                 n, the number of items
@@ -80,6 +83,18 @@ enum {
    words m + 1 to 2m      the uses' spans */
 enum { WALDIMU_READ = 0, WALDIMU_WRITE = 1, WALDIMU_READ_WRITE = 2 };
 
+/* ---- The scope sheet ----
+   word 0                 s, the number of scopes
+   words 1 to s           the scopes' kinds
+   words s + 1 to 2s      their parents: a lower scope number + 1, or 0 for none
+   then                   the scope number of each NAME, in their order
+   then                   the scope number of each use, in their order
+
+   Where one comes it replaces the crossing of every use: from the use's own scope on, parent by parent, a Function met
+   before the name's scope means 1, and the name's scope met first, itself a Function or not, or neither met means 0.
+   0 words are no scope sheet, and then the crossing that the use sheet has counts. */
+enum { WALDIMU_MODULE = 0, WALDIMU_FUNCTION = 1, WALDIMU_BLOCK = 2, WALDIMU_LOOP = 3 };
+
 static inline uint64_t waldimu_span(uint32_t start, uint32_t end) { return start + ((uint64_t)end << 32); }
 static inline uint32_t waldimu_span_start(uint64_t span) { return (uint32_t)span; }
 static inline uint32_t waldimu_span_end(uint64_t span) { return (uint32_t)(span >> 32); }
@@ -105,7 +120,8 @@ static inline int waldimu_yes(uint64_t result) { return result >> 4 & 1; }
 static inline int waldimu_is_past(uint64_t result) { return result >> 32 == 0; }
 static inline uint32_t waldimu_node(uint64_t result) { return (uint32_t)(result >> 32) - 1; }
 
-/* The numbers of 01's table. The lowest that applies is given. Run and the label check never give 1, only judge gives 8. */
+/* The numbers of 01's table, and 02's. The lowest that applies is given. Run and the label check never give 1, only judge
+   gives 8 and 9. */
 enum {
     WALDIMU_BENCH_TOO_SMALL = 1, /* a column has fewer cells than the sizes above */
     WALDIMU_MISCOUNT = 2,        /* n or m too large, or not as many words as they say */
@@ -114,13 +130,14 @@ enum {
     WALDIMU_BAD_NESTING = 5,     /* openers and closers, arms, NAMEs, RETURN or CONTINUE not where they may stand */
     WALDIMU_OFF_THE_LINE = 6,    /* a code span before the previous one's end or past a scope end; REPEAT's scope end */
     WALDIMU_BAD_NAME = 7,        /* a NAME's span empty, outside its LOCAL or before the previous NAME's end */
-    WALDIMU_BAD_USE = 8          /* no such local, no such kind of use, or start past end */
+    WALDIMU_BAD_USE = 8,         /* no such local, no such kind of use, crossing above 1, or start past end */
+    WALDIMU_BAD_SCOPE = 9        /* s above 512, not as many words as it says, no such kind, parent or scope */
 };
 
 static inline const char *waldimu_refusal_word(unsigned number) {
-    static const char *const words[] = {"bench too small", "miscount",     "bad item", "too deep",
-                                        "bad nesting",     "off the line", "bad name", "bad use"};
-    return number >= 1 && number <= 8 ? words[number - 1] : "";
+    static const char *const words[] = {"bench too small", "miscount", "bad item", "too deep", "bad nesting",
+                                        "off the line",    "bad name", "bad use",  "bad scope"};
+    return number >= 1 && number <= 9 ? words[number - 1] : "";
 }
 
 /* ---- Columns ----
@@ -174,10 +191,11 @@ uint64_t waldimu_chart(
     uint64_t *name_node, size_t name_node_cells,
     uint64_t *name_end, size_t name_end_cells);
 
-/* Writes a sheet's graph, and the findings for its uses. */
+/* Writes a sheet's graph, and the findings for its uses, with crossing as the scope sheet sets it, if one comes. */
 uint64_t waldimu_judge(
     const uint64_t *sheet, size_t sheet_words,
     const uint64_t *uses, size_t use_words,
+    const uint64_t *scopes, size_t scope_words,
     uint64_t *first, size_t first_cells,
     uint64_t *second, size_t second_cells,
     uint64_t *start, size_t start_cells,

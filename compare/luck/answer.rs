@@ -45,6 +45,31 @@ pub fn flow_of(sheet: &[u64], uses: &[u64]) -> Flow {
     Script::new(sheet, uses).flow()
 }
 
+/// The same where a scope sheet that 02 admits says which uses cross: luck
+/// follows its chains itself, and the supplied bits are not looked at.
+pub fn flow_in_scopes(sheet: &[u64], uses: &[u64], scopes: &[u64]) -> Flow {
+    let items = items_of(sheet);
+    let mut tree = scope_tree(&items, uses);
+    put_scopes(&mut tree, scopes, uses[0] as usize);
+    Script::of_tree(sheet, &items, tree).flow()
+}
+
+/// luck's scopes alone, for `crosses_function_boundary` of any two.
+pub struct Chains(ScopeTree);
+
+impl Chains {
+    pub fn new(kinds: &[u64], parents: &[u64]) -> Self {
+        let mut tree = scope_tree(&[], &[0]);
+        tree.scopes = scopes_of(kinds, parents);
+        Self(tree)
+    }
+
+    pub fn crosses(&self, of_use: u64, of_name: u64) -> bool {
+        let [from, to] = [of_use, of_name].map(|scope| ScopeId::from_index(scope as usize));
+        self.0.crosses_function_boundary(from, to)
+    }
+}
+
 /// What luck has before it asks for the flow: the tree, its scopes, and the
 /// names without a value.
 pub struct Script {
@@ -56,9 +81,14 @@ pub struct Script {
 impl Script {
     pub fn new(sheet: &[u64], uses: &[u64]) -> Self {
         let items = items_of(sheet);
-        let block = TreeMaker::whole(&items, sheet[1] as u32);
+        let tree = scope_tree(&items, uses);
+        Self::of_tree(sheet, &items, tree)
+    }
+
+    fn of_tree(sheet: &[u64], items: &[Item], scope_tree: ScopeTree) -> Self {
+        let block = TreeMaker::whole(items, sheet[1] as u32);
         let semantic = SemanticAnalysis {
-            scope_tree: scope_tree(&items, uses),
+            scope_tree,
             extra_globals: FxHashSet::default(),
             version: LuaVersion,
             environment: StdlibEnvironment::Standalone,
@@ -155,6 +185,34 @@ fn scope_tree(items: &[Item], uses: &[u64]) -> ScopeTree {
     add_uses(&mut tree, uses);
     add_callees(&mut tree, items);
     tree
+}
+
+fn scopes_of(kinds: &[u64], parents: &[u64]) -> Vec<Scope> {
+    let scope = |(kind, parent): (&u64, &u64)| Scope {
+        parent: parent.checked_sub(1).map(|parent| ScopeId::from_index(parent as usize)),
+        kind: match kind {
+            0 => ScopeKind::Module,
+            1 => ScopeKind::Function,
+            2 => ScopeKind::Block,
+            _ => ScopeKind::Loop,
+        },
+    };
+    kinds.iter().zip(parents).map(scope).collect()
+}
+
+/// The scopes of the sheet in place of those for the supplied bits. A callee
+/// keeps its scope's number, which luck does not ask.
+fn put_scopes(tree: &mut ScopeTree, words: &[u64], uses: usize) {
+    let (kinds, rest) = words[1..].split_at(words[0] as usize);
+    let (parents, rest) = rest.split_at(kinds.len());
+    let (of_names, of_uses) = rest.split_at(tree.symbols.len());
+    tree.scopes = scopes_of(kinds, parents);
+    for (symbol, scope) in tree.symbols.iter_mut().zip(of_names) {
+        symbol.scope = ScopeId::from_index(*scope as usize);
+    }
+    for (reference, scope) in tree.references[..uses].iter_mut().zip(of_uses) {
+        reference.scope = ScopeId::from_index(*scope as usize);
+    }
 }
 
 /// Reference numbers are use numbers, as the uses come first.

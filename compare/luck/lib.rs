@@ -20,7 +20,7 @@ mod tree;
 mod unasked;
 
 pub(crate) use analysis::SemanticAnalysis;
-pub use answer::{Flow, Graph, Script, flow_of};
+pub use answer::{Chains, Flow, Graph, Script, flow_in_scopes, flow_of};
 pub(crate) use ast::*;
 pub(crate) use scope::*;
 pub(crate) use token::*;

@@ -2,17 +2,19 @@
 
 pub const ABSENT: u64 = 4_294_967_295;
 
-/// A sheet and a use sheet as words, and bytes left over behind them.
+/// A sheet and a use sheet as words, and bytes left over behind them. A
+/// scope sheet, if it has a word, goes to judge alone.
 #[derive(Debug, Clone, PartialEq, Eq, Default)]
 pub struct Case {
     pub sheet: Vec<u64>,
     pub uses: Vec<u64>,
+    pub scopes: Vec<u64>,
     pub spare: Vec<u8>,
 }
 
 impl Case {
     pub fn new(sheet: Vec<u64>, uses: Vec<u64>) -> Self {
-        Self { sheet, uses, spare: Vec::new() }
+        Self { sheet, uses, ..Self::default() }
     }
 
     pub fn bytes(&self) -> Vec<u8> {

@@ -1,12 +1,41 @@
 //! Which cases a run draws: admitted ones, and spoilt ones with the number
 //! that they were spoilt for.
 
+use crate::answers::Case;
 use crate::damage::{WAYS, miscount};
 use crate::draft::*;
 use crate::random::Random;
-use crate::shapes;
+use crate::{scope_sheet, shapes};
 
+/// A pair with a scope sheet beside it: none, a good one or a spoilt one.
+/// What refuses the pair still does, and else a spoilt one is 9.
 pub fn any(random: &mut Random) -> Made {
+    if random.percent(10) {
+        return shapes::closures(random);
+    }
+    let made = any_pair(random);
+    let kind = random.below(10);
+    if kind < 4 {
+        return made;
+    }
+    let draft = Draft::of_case(&made.case).unwrap_or_default();
+    let sheet = scope_sheet::good(random, draft.names() as usize, draft.uses.len());
+    if kind < 8 {
+        // Where a captured local is there, findings hang on the crossing.
+        let is_captured = |line: &Line| kind_of(*line) == 11 && argument_of(*line) & 4 != 0;
+        let findings = made.findings.filter(|_| !draft.items.iter().any(is_captured));
+        return Made { case: Case { scopes: sheet.words(), ..made.case }, findings, ..made };
+    }
+    let (what, scopes) = scope_sheet::spoilt(random, &sheet);
+    let (case, spoilt_scopes) = (Case { scopes, ..made.case }, Some(what));
+    match made.judge {
+        0 => Made { what, case, judge: 9, spoilt_scopes, ..made },
+        _ => Made { case, spoilt_scopes, ..made },
+    }
+}
+
+/// A sheet and a use sheet alone.
+pub fn any_pair(random: &mut Random) -> Made {
     let made = shapes::any(random);
     match random.below(10) {
         0..=4 => made,

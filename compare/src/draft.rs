@@ -1,6 +1,9 @@
 //! A pair of sheets while it is being made, and what its making knows.
 
+use std::ops::Range;
+
 use crate::answers::{Case, span};
+use crate::scope_sheet::Beside;
 
 pub const TOP: u64 = u32::MAX as u64;
 
@@ -56,6 +59,7 @@ pub struct Draft {
     pub outer_end: u64,
     pub items: Vec<Line>,
     pub uses: Vec<Line>,
+    pub scopes: Beside,
 }
 
 impl Draft {
@@ -66,21 +70,41 @@ impl Draft {
         let mut uses = vec![self.uses.len() as u64];
         uses.extend(self.uses.iter().map(|line| line.0));
         uses.extend(self.uses.iter().map(|line| line.1));
-        Case::new(sheet, uses)
+        Case { scopes: self.scopes.words(), ..Case::new(sheet, uses) }
     }
 
     /// The draft of words that need not fit each other.
     pub fn of_case(case: &Case) -> Option<Self> {
-        let pair = |words: &[u64]| {
+        let pair = |words: &[u64]| -> Vec<Line> {
             let (kinds, spans) = words.split_at(words.len() / 2);
             kinds.iter().copied().zip(spans.iter().copied()).collect()
         };
         let is_whole = case.sheet.len() % 2 == 0 && case.uses.len() % 2 == 1;
-        (is_whole && case.sheet.len() >= 2).then(|| Self {
-            outer_end: case.sheet[1],
-            items: pair(&case.sheet[2..]),
-            uses: pair(&case.uses[1..]),
+        (is_whole && case.sheet.len() >= 2).then(|| {
+            let (items, uses) = (pair(&case.sheet[2..]), pair(&case.uses[1..]));
+            let mut draft = Self { outer_end: case.sheet[1], items, uses, ..Self::default() };
+            let (names, uses) = (draft.names() as usize, draft.uses.len());
+            draft.scopes = Beside::of_words(&case.scopes, names, uses);
+            draft
         })
+    }
+
+    /// Takes items out, and the scopes of the names among them.
+    pub fn drop_items(&mut self, places: Range<usize>) {
+        let names = |items: &[Line]| items.iter().filter(|line| kind_of(**line) == 11).count();
+        let first = names(&self.items[..places.start]);
+        let last = first + names(&self.items[places.clone()]);
+        if let Beside::Sheet(sheet) = &mut self.scopes {
+            sheet.of_names.drain(first..last);
+        }
+        self.items.drain(places);
+    }
+
+    pub fn drop_uses(&mut self, places: Range<usize>) {
+        if let Beside::Sheet(sheet) = &mut self.scopes {
+            sheet.of_uses.drain(places.clone());
+        }
+        self.uses.drain(places);
     }
 
     pub fn names(&self) -> u64 {
@@ -122,6 +146,8 @@ pub struct Made {
     pub exits: Option<[u64; 5]>,
     pub labels: Option<bool>,
     pub findings: Option<Vec<Line>>,
+    /// The way in which the scope sheet was spoilt, if it was.
+    pub spoilt_scopes: Option<&'static str>,
 }
 
 impl Made {
@@ -130,7 +156,7 @@ impl Made {
     }
 
     pub fn refused(what: &'static str, case: Case, chart: u64, judge: u64) -> Self {
-        let (counts, exits, labels, findings) = (None, None, None, None);
-        Self { what, case, chart, judge, counts, exits, labels, findings }
+        let (counts, exits, labels, findings, spoilt_scopes) = (None, None, None, None, None);
+        Self { what, case, chart, judge, counts, exits, labels, findings, spoilt_scopes }
     }
 }

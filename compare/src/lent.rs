@@ -70,7 +70,8 @@ pub trait Lending {
     fn cell_bits(&self, column: usize) -> u32;
     fn working_bits(&self) -> u32;
     fn chart(&mut self, sheet: &[u64], lent: &mut Lent) -> Returned;
-    fn judge(&mut self, sheet: &[u64], uses: &[u64], lent: &mut Lent) -> Returned;
+    /// A scope sheet of 0 words is none.
+    fn judge(&mut self, sheet: &[u64], uses: &[u64], scopes: &[u64], lent: &mut Lent) -> Returned;
     fn run(&mut self, sheet: &[u64], offset: u32) -> Answer<Run>;
     fn label_check(&mut self, sheet: &[u64]) -> Answer<bool>;
 }
@@ -143,7 +144,7 @@ impl<L: Lending> Lender<L> {
     }
 
     fn ask(&mut self, call: Call, case: &Case, expected: &Answers) -> Option<String> {
-        let Case { sheet, uses, .. } = case;
+        let Case { sheet, uses, scopes, .. } = case;
         match call {
             Call::Chart => {
                 let wanted = expected.chart.clone().map(|chart| columns_of(&chart.columns()));
@@ -151,7 +152,9 @@ impl<L: Lending> Lender<L> {
             }
             Call::Judge => {
                 let wanted = expected.judge.clone().map(|judged| columns_of(&judged.columns()));
-                self.lent(call, case, &wanted, |library, lent| library.judge(sheet, uses, lent))
+                self.lent(call, case, &wanted, |library, lent| {
+                    library.judge(sheet, uses, scopes, lent)
+                })
             }
             Call::Run => expected.runs.iter().find_map(|(offset, want)| {
                 let have = self.library.run(sheet, *offset);

@@ -32,6 +32,8 @@ unsafe extern "C" {
         sheet_words: usize,
         uses: *const u64,
         use_words: usize,
+        scopes: *const u64,
+        scope_words: usize,
         first: *mut u64,
         first_cells: usize,
         second: *mut u64,
@@ -93,8 +95,8 @@ pub fn chart_word(sheet: &[u64], columns: &mut [Vec<u64>]) -> u64 {
     }
 }
 
-/// The word that its judge gives.
-pub fn judge_word(sheet: &[u64], uses: &[u64], columns: &mut [Vec<u64>]) -> u64 {
+/// The word that its judge gives. A scope sheet of 0 words is none.
+pub fn judge_word(sheet: &[u64], uses: &[u64], scopes: &[u64], columns: &mut [Vec<u64>]) -> u64 {
     let [a, b, c, d, e, f, g, h, i, j, k, l] = &mut columns[..] else {
         panic!("judge takes twelve columns");
     };
@@ -105,6 +107,8 @@ pub fn judge_word(sheet: &[u64], uses: &[u64], columns: &mut [Vec<u64>]) -> u64 
             sheet.len(),
             uses.as_ptr(),
             uses.len(),
+            scopes.as_ptr(),
+            scopes.len(),
             a.as_mut_ptr(),
             a.len(),
             b.as_mut_ptr(),
@@ -175,8 +179,8 @@ impl Lending for Library {
         accepted(word).map(counts)
     }
 
-    fn judge(&mut self, sheet: &[u64], uses: &[u64], lent: &mut Lent) -> Returned {
-        let word = judge_word(sheet, uses, &mut lent.written);
+    fn judge(&mut self, sheet: &[u64], uses: &[u64], scopes: &[u64], lent: &mut Lent) -> Returned {
+        let word = judge_word(sheet, uses, scopes, &mut lent.written);
         accepted(word).map(|word| [counts(word), vec![word >> 48]].concat())
     }
 

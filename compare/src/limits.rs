@@ -1,8 +1,9 @@
-//! One case on each side of each limit of 01.
+//! One case on each side of each limit of 01, and of 02's scope sheet.
 
 use crate::answers::{Case, span};
 use crate::cases::of_sheet;
 use crate::draft::*;
+use crate::scope_sheet::Beside;
 
 pub fn all() -> Vec<Made> {
     let drafts = [arguments(), spans(), names(), uses(), item_counts(), depths()].concat();
@@ -14,7 +15,7 @@ pub fn all() -> Vec<Made> {
 }
 
 fn draft(outer_end: u64, items: Vec<Line>) -> Draft {
-    Draft { outer_end, items, uses: Vec::new() }
+    Draft { outer_end, items, ..Draft::default() }
 }
 
 /// A sheet with one item of the kind, and what it needs beside it.
@@ -175,4 +176,128 @@ fn word_counts() -> Vec<Made> {
     all.push(Made::admitted("limit", &many(1024)));
     all.push(Made::refused("limit", many(1025).case(), 0, 2));
     all
+}
+
+/// Scope sheets beside an empty pair, each with its number.
+fn scopes_alone() -> Vec<(Vec<u64>, u64)> {
+    let full = |count: usize| [vec![count as u64], vec![0; 2 * count]].concat();
+    let mut all = vec![(full(512), 0), (full(513), 9)];
+    let short: [(&[u64], u64); 18] = [
+        (&[], 0),
+        (&[0], 0),
+        (&[0, 0], 9),
+        (&[1], 9),
+        (&[1, 0], 9),
+        (&[1, 0, 0], 0),
+        (&[1, 0, 0, 0], 9),
+        (&[513], 9),
+        (&[1 << 63], 9),
+        (&[u64::MAX], 9),
+        (&[u64::MAX, 0], 9),
+        (&[1, 3, 0], 0),
+        (&[1, 4, 0], 9),
+        (&[1, 0, 1], 9),
+        (&[2, 0, 0, 0, 1], 0),
+        (&[2, 0, 0, 0, 2], 9),
+        (&[2, 0, 0, 0, 3], 9),
+        (&[1, 0, u64::MAX], 9),
+    ];
+    all.extend(short.map(|(words, number)| (words.to_vec(), number)));
+    all
+}
+
+/// A local with the flags, and one use of it with the high part behind it.
+pub fn one_use(flags: u64, high: u64) -> Draft {
+    let items = vec![line(10, 0, 0, 9), line(11, flags, 6, 7), line(18, 0, 10, 13)];
+    Draft { uses: vec![(65_536 * high, span(10, 11))], ..draft(13, items) }
+}
+
+/// Whether the one use is listed as unassigned: flags, high part, words.
+fn crossings() -> Vec<Made> {
+    let cases: [(u64, u64, &[u64], bool); 11] = [
+        // A use in a Function below the name's Module.
+        (4, 0, &[2, 0, 1, 0, 1, 0, 1], false),
+        (0, 0, &[2, 0, 1, 0, 1, 0, 1], true),
+        // The name's scope is itself a Function.
+        (4, 0, &[1, 1, 0, 0, 0], true),
+        (4, 0, &[2, 1, 2, 0, 1, 0, 1], true),
+        // Nothing joins the two scopes.
+        (4, 0, &[2, 0, 1, 0, 0, 0, 1], false),
+        (4, 0, &[2, 1, 0, 0, 0, 0, 1], true),
+        // The use stands above the name.
+        (4, 0, &[2, 0, 1, 0, 1, 1, 0], true),
+        // The bit is replaced in both directions, and stands without a sheet.
+        (4, 4, &[], false),
+        (4, 4, &[1, 0, 0, 0, 0], true),
+        (4, 0, &[], true),
+        (4, 4, &[2, 0, 1, 0, 1, 0, 1], false),
+    ];
+    let made = |(flags, high, words, is_listed): (u64, u64, &[u64], bool)| {
+        listed_or_not(flags, high, words.to_vec(), is_listed)
+    };
+    cases.into_iter().map(made).chain(long_chains()).collect()
+}
+
+fn listed_or_not(flags: u64, high: u64, words: Vec<u64>, is_listed: bool) -> Made {
+    let draft = Draft { scopes: Beside::Words(words), ..one_use(flags, high) };
+    let finding = is_listed.then_some((1 << 32, span(10, 11)));
+    Made { findings: Some(finding.into_iter().collect()), ..Made::admitted("limit", &draft) }
+}
+
+/// A use in the last scope of a chain of 512, each scope the next one's
+/// parent: the only Function if there is one, the name's scope, whether the
+/// use is listed.
+fn long_chains() -> Vec<Made> {
+    let cases = [
+        (None, 0, true),
+        (Some(0), 0, true),
+        (Some(1), 0, false),
+        (Some(1), 1, true),
+        (Some(1), 2, true),
+        (Some(255), 254, false),
+        (Some(256), 255, false),
+        (Some(510), 509, false),
+        (Some(510), 511, true),
+        (Some(511), 510, false),
+        (Some(511), 511, true),
+    ];
+    let made = |(function, of_name, is_listed): (Option<u64>, u64, bool)| {
+        let kinds = (0..512).map(|scope| if function == Some(scope) { 1 } else { 2 });
+        let words = [512].into_iter().chain(kinds).chain(0..512).chain([of_name, 511]).collect();
+        listed_or_not(4, 0, words, is_listed)
+    };
+    cases.into_iter().map(made).collect()
+}
+
+/// One name and one use, or a use that is refused before its scope sheet.
+fn scopes_beside() -> Vec<Made> {
+    let cases: [(u64, &[u64], u64); 14] = [
+        (0, &[0], 9),
+        (0, &[0, 0, 0], 9),
+        (0, &[1, 0, 0, 0], 9),
+        (0, &[1, 0, 0, 0, 0], 0),
+        (0, &[1, 0, 0, 0, 0, 0], 9),
+        (0, &[1, 0, 0, 1, 0], 9),
+        (0, &[1, 0, 0, 0, 1], 9),
+        (0, &[1, 0, 0, u64::MAX, 0], 9),
+        (0, &[1 << 63, 0, 0], 9),
+        (3, &[1, 0, 0, 0, 0], 8),
+        (8, &[1, 0, 0, 0, 0], 8),
+        (1 << 47, &[1, 0, 0, 0, 0], 8),
+        (3, &[513], 8),
+        (7, &[1, 0, 0, 0, 1], 8),
+    ];
+    let made = |(high, words, number): (u64, &[u64], u64)| {
+        let draft = Draft { scopes: Beside::Words(words.to_vec()), ..one_use(4, high) };
+        Made::refused("limit", draft.case(), 0, number)
+    };
+    cases.into_iter().map(made).collect()
+}
+
+pub fn scopes() -> Vec<Made> {
+    let alone = scopes_alone().into_iter().map(|(words, number)| {
+        let case = Case { scopes: words, ..Draft::default().case() };
+        Made::refused("limit", case, 0, number)
+    });
+    alone.chain(crossings()).chain(scopes_beside()).collect()
 }

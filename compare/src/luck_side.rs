@@ -1,4 +1,4 @@
-//! luck's own Rust as a side. It is asked only what 01 admits.
+//! luck's own Rust as a side. It is asked only what 01 and 02 admit.
 
 use crate::answers::*;
 use crate::reading::{table, text};
@@ -46,7 +46,11 @@ impl Side for Luck {
     fn difference(&mut self, case: &Case, expected: &Answers) -> Option<String> {
         let chart = expected.chart.as_ref().ok()?;
         let judged = expected.judge.as_ref().ok();
-        let flow = luck::flow_of(&case.sheet, if judged.is_some() { &case.uses } else { &[0] });
+        let flow = match judged {
+            None => luck::flow_of(&case.sheet, &[0]),
+            Some(_) if case.scopes.is_empty() => luck::flow_of(&case.sheet, &case.uses),
+            Some(_) => luck::flow_in_scopes(&case.sheet, &case.uses, &case.scopes),
+        };
         let runs = expected.runs.iter().find_map(|(offset, want)| {
             let have = Ok(flow.run(*offset));
             answer_difference(&format!("run {offset}"), want, &have, plain_difference)

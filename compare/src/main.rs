@@ -5,6 +5,7 @@ mod admitted;
 mod answers;
 mod bench;
 mod cases;
+mod chains;
 mod damage;
 mod draft;
 mod flowlist;
@@ -20,6 +21,7 @@ mod random;
 mod reading;
 mod reading_lends;
 mod run;
+mod scope_sheet;
 mod shapes;
 mod short;
 mod shrink;
@@ -63,7 +65,7 @@ fn sides(options: &Options) -> Vec<Box<dyn Side>> {
 fn tell(what: &str, sides: &[Box<dyn Side>], tally: &Tally, options: &Options) {
     let names: Vec<String> = sides.iter().map(|side| side.name()).collect();
     println!("{what}: {} pairs, no difference from {}", tally.pairs, names.join(", "));
-    println!("  admitted {}, refused with 2 to 8: {:?}", tally.refused[0], &tally.refused[2..]);
+    println!("  admitted {}, refused with 2 to 9: {:?}", tally.refused[0], &tally.refused[2..]);
     println!(
         "  findings: {} unassigned, {} overwritten; label check yes: {}; most nodes, uses, findings: {:?}",
         tally.findings[0], tally.findings[1], tally.labels_fit, tally.most
@@ -73,11 +75,29 @@ fn tell(what: &str, sides: &[Box<dyn Side>], tally: &Tally, options: &Options) {
     }
 }
 
+fn tell_scopes(tally: &Tally) {
+    let scoped = &tally.scoped;
+    println!(
+        "  good scope sheets: {}, with a captured local {}; bits set {}, cleared {}, left {}; \
+         lists changed: {}",
+        scoped.pairs,
+        scoped.captured,
+        scoped.bits[0],
+        scoped.bits[1],
+        scoped.bits[2],
+        scoped.other_lists
+    );
+    let ways: Vec<String> =
+        tally.ways_into_9.iter().map(|(way, count)| format!("{way} {count}")).collect();
+    println!("  ways into 9: {}", ways.join(", "));
+    println!("  spoilt scope sheets beside 2 to 8: {:?}", &tally.before_9[2..]);
+}
+
 fn pairs(options: &Options) -> Result<(), String> {
     let mut sides = sides(options);
     let (count, seed) = (options.number("--pairs", 10_000), options.number("--seed", 1));
     let mut tally = Tally::default();
-    for made in limits::all() {
+    for made in limits::all().into_iter().chain(limits::scopes()) {
         run::check(&made, &mut sides, &mut tally)?;
     }
     let mut random = Random::new(seed);
@@ -87,6 +107,17 @@ fn pairs(options: &Options) -> Result<(), String> {
             .map_err(|what| format!("seed {seed}, pair {number}: {what}"))?;
     }
     tell(&format!("limits, and pairs of seed {seed}"), &sides, &tally, options);
+    tell_scopes(&tally);
+    tally.covers_9()
+}
+
+fn scopes(options: &Options) -> Result<(), String> {
+    let (most, sheets) = (options.number("--scopes", 5), options.number("--sheets", 200));
+    chains::check(most, sheets, options.number("--seed", 1))?;
+    let mut sides = sides(options);
+    let mut tally = Tally::default();
+    chains::every_sheet(3, &mut sides, &mut tally)?;
+    tell("every scope sheet of up to 3 scopes", &sides, &tally, options);
     Ok(())
 }
 
@@ -147,6 +178,7 @@ fn main() -> ExitCode {
         }
         "pairs" => pairs(&options),
         "short" => every_short(&options),
+        "scopes" => scopes(&options),
         "wrong" => wrong::check(count, seed),
         "luac" => luac::check(options.plain(), count, seed),
         "store" => stored::write(options.plain().as_ref()),

@@ -71,11 +71,9 @@ impl Lending for ReadingLends {
         self.put(lent, Reading::PLAIN.chart(sheet).map(|chart| columns_of(&chart.columns())))
     }
 
-    fn judge(&mut self, sheet: &[u64], uses: &[u64], lent: &mut Lent) -> Returned {
-        self.put(
-            lent,
-            Reading::PLAIN.judge(sheet, uses).map(|judged| columns_of(&judged.columns())),
-        )
+    fn judge(&mut self, sheet: &[u64], uses: &[u64], scopes: &[u64], lent: &mut Lent) -> Returned {
+        let judged = Reading::PLAIN.judge(sheet, uses, scopes);
+        self.put(lent, judged.map(|judged| columns_of(&judged.columns())))
     }
 
     fn run(&mut self, sheet: &[u64], offset: u32) -> Answer<Run> {

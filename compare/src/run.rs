@@ -2,9 +2,10 @@
 
 use std::collections::BTreeMap;
 
-use crate::answers::{Answer, Answers, Case, Side};
+use crate::answers::{Answer, Answers, Case, Judgement, Side};
 use crate::draft::*;
-use crate::reading::Reading;
+use crate::reading::{Item, Reading, Slip, items_of, scopes, uses_of};
+use crate::scope_sheet;
 use crate::shrink;
 
 /// Offsets on, before and behind some of the code, and the ends of the range.
@@ -67,11 +68,50 @@ pub fn making_differs(made: &Made, answers: &Answers) -> Option<String> {
         .then(|| "bytes that make no word, and no refusal 2".to_owned())
 }
 
+/// What good scope sheets did.
+#[derive(Default)]
+pub struct Scoped {
+    pub pairs: u64,
+    /// Pairs with a captured local.
+    pub captured: u64,
+    /// Crossing bits set, cleared and left.
+    pub bits: [u64; 3],
+    /// Pairs whose lists are other ones than by the supplied bits.
+    pub other_lists: u64,
+}
+
+impl Scoped {
+    fn count(&mut self, case: &Case, judged: &Judgement) {
+        let is_captured = |item: &Item| item.kind == 11 && item.argument & 4 != 0;
+        let has_captured = items_of(&case.sheet).iter().any(is_captured);
+        self.pairs += 1;
+        self.captured += u64::from(has_captured);
+        let crossed = scopes::crossed(&case.sheet, &case.uses, &case.scopes, Slip::None);
+        for (old, new) in uses_of(&case.uses).iter().zip(uses_of(&crossed)) {
+            let place = match (old.crosses(), new.crosses()) {
+                (false, true) => 0,
+                (true, false) => 1,
+                _ => 2,
+            };
+            self.bits[place] += 1;
+        }
+        if has_captured {
+            let supplied = Reading::PLAIN.judge(&case.sheet, &case.uses, &[]);
+            self.other_lists += u64::from(supplied.as_ref() != Ok(judged));
+        }
+    }
+}
+
 #[derive(Default)]
 pub struct Tally {
     pub pairs: u64,
     pub shapes: BTreeMap<&'static str, u64>,
-    pub refused: [u64; 9],
+    pub refused: [u64; 10],
+    /// How often each way to spoil a scope sheet gave 9.
+    pub ways_into_9: BTreeMap<&'static str, u64>,
+    /// Spoilt scope sheets beside a pair that is refused itself, by its number.
+    pub before_9: [u64; 9],
+    pub scoped: Scoped,
     pub findings: [u64; 2],
     pub labels_fit: u64,
     /// The most nodes, uses and findings of one pair.
@@ -84,7 +124,15 @@ impl Tally {
         *self.shapes.entry(made.what).or_default() += 1;
         self.refused[made.judge as usize] += 1;
         self.labels_fit += u64::from(answers.labels == Ok(true));
+        match (made.spoilt_scopes, made.judge) {
+            (Some(way), 9) => *self.ways_into_9.entry(way).or_default() += 1,
+            (Some(_), number) => self.before_9[number as usize] += 1,
+            (None, _) => {}
+        }
         if let Ok(judged) = &answers.judge {
+            if !made.case.scopes.is_empty() {
+                self.scoped.count(&made.case, judged);
+            }
             for word in &judged.finding_word {
                 self.findings[(word % 2) as usize] += 1;
             }
@@ -93,6 +141,22 @@ impl Tally {
             for (most, size) in self.most.iter_mut().zip(sizes) {
                 *most = size.max(*most);
             }
+        }
+    }
+
+    /// Every way into 9 occurred, and every number of a pair that goes before it.
+    pub fn covers_9(&self) -> Result<(), String> {
+        let missing: Vec<&str> = scope_sheet::WAYS
+            .iter()
+            .map(|(way, _)| *way)
+            .filter(|way| !self.ways_into_9.contains_key(way))
+            .collect();
+        if !missing.is_empty() {
+            return Err(format!("these ways into 9 never occurred: {}", missing.join(", ")));
+        }
+        match (2..=8).find(|number| self.before_9[*number] == 0) {
+            Some(number) => Err(format!("no pair with {number} and a spoilt scope sheet occurred")),
+            None => Ok(()),
         }
     }
 }
@@ -125,5 +189,6 @@ fn report(made: &Made, side: &mut dyn Side, what: &str) -> String {
 }
 
 pub fn words(case: &Case) -> String {
-    format!("sheet {:?}\nuses {:?}\nspare bytes {:?}", case.sheet, case.uses, case.spare)
+    let Case { sheet, uses, scopes, spare } = case;
+    format!("sheet {sheet:?}\nuses {uses:?}\nscopes {scopes:?}\nspare bytes {spare:?}")
 }

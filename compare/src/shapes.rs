@@ -1,8 +1,10 @@
 //! The families of admitted sheets that a run draws from.
 
 use crate::admitted::{Shape, admitted};
+use crate::answers::span;
 use crate::draft::*;
 use crate::random::Random;
+use crate::scope_sheet::{self, Beside, Scope, ScopeSheet};
 
 const SMALL: Shape = Shape {
     items: 14,
@@ -225,4 +227,68 @@ fn straight(random: &mut Random) -> Made {
     unassigned.extend(overwritten);
     let (findings, exits) = (Some(unassigned), Some([1, 0, 0, 0, 0]));
     Made { labels: Some(true), exits, findings, ..Made::admitted("straight", &draft) }
+}
+
+/// Functions inside functions: code without a branch whose locals no value
+/// fills, so that the findings are known from the uses and what they cross.
+pub fn closures(random: &mut Random) -> Made {
+    let (names, count) = (random.between(1, 4), random.between(1, 30));
+    let scopes = scope_sheet::tree(random, count);
+    let of_names: Vec<u64> = (0..names).map(|_| random.below(count)).collect();
+    let flags: Vec<u64> = (0..names).map(|_| random.pick(&[4, 4, 6, 0])).collect();
+    let mut draft = Draft { outer_end: 500, ..Draft::default() };
+    draft.items.push(line(10, 0, 0, 20));
+    draft.items.extend((0..names).map(|at| line(11, flags[at as usize], 2 * at, 2 * at + 1)));
+    let (mut of_uses, mut findings) = (Vec::new(), Vec::new());
+    let mut is_over = vec![false; names as usize];
+    for number in 0..random.below(12) {
+        let start = 20 + 10 * number;
+        draft.items.push(line(18, 0, start, start + 10));
+        let (local, kind) = (random.below(names), random.pick(&[0, 0, 0, 0, 1, 2]));
+        let (of_use, crosses) = scope_of_use(random, &scopes, of_names[local as usize]);
+        let place = span(start, start + 1);
+        draft.uses.push((local + 65_536 * (kind + random.pick(&[0, 4])), place));
+        of_uses.push(of_use);
+        let is_closed = crosses && flags[local as usize] != 0;
+        let is_over = &mut is_over[local as usize];
+        if !*is_over && kind != 1 && !is_closed {
+            findings.push((2 * local + ((number + 1) << 32), place));
+        }
+        *is_over |= kind != 0 || !is_closed;
+    }
+    findings.sort_by_key(|(word, _)| word % (1 << 32));
+    draft.scopes = Beside::Sheet(ScopeSheet { scopes, of_names, of_uses });
+    Made { findings: Some(findings), ..Made::admitted("closures", &draft) }
+}
+
+/// A scope for a use, and whether it crosses from there. Inside the name's
+/// scope it does when another function holds it than holds the name,
+/// elsewhere when any function holds it.
+fn scope_of_use(random: &mut Random, scopes: &[Scope], of_name: u64) -> (u64, bool) {
+    let mut function_of = Vec::new();
+    for (scope, (kind, parent)) in scopes.iter().enumerate() {
+        let outer = parent.checked_sub(1).and_then(|parent| function_of[parent as usize]);
+        function_of.push(if *kind == 1 { Some(scope) } else { outer });
+    }
+    let inside = inside(scopes, of_name);
+    let anywhere = random.below(scopes.len() as u64);
+    let of_use = if random.percent(70) { random.pick(&inside) } else { anywhere };
+    let function = function_of[of_use as usize];
+    let crosses = if inside.contains(&of_use) {
+        function != function_of[of_name as usize]
+    } else {
+        function.is_some()
+    };
+    (of_use, crosses)
+}
+
+/// A scope and those inside it.
+fn inside(scopes: &[Scope], top: u64) -> Vec<u64> {
+    let mut inside = vec![top];
+    for (scope, (_, parent)) in (0..).zip(scopes) {
+        if parent.checked_sub(1).is_some_and(|parent| inside.contains(&parent)) {
+            inside.push(scope);
+        }
+    }
+    inside
 }

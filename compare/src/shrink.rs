@@ -1,7 +1,10 @@
 //! The smallest case with a difference that dropping and lowering finds.
 
+use std::ops::Range;
+
 use crate::answers::Case;
 use crate::draft::*;
+use crate::scope_sheet::Beside;
 
 pub fn smallest(case: &Case, differs: &mut dyn FnMut(&Case) -> bool) -> Case {
     let whole = Case { spare: Vec::new(), ..case.clone() };
@@ -16,10 +19,11 @@ pub fn smallest(case: &Case, differs: &mut dyn FnMut(&Case) -> bool) -> Case {
 fn shortest(best: Case, differs: &mut dyn FnMut(&Case) -> bool) -> Case {
     let mut best = best;
     loop {
-        let mut shorter = [best.clone(), best.clone(), best.clone()];
-        let [sheet, uses, spare] = &mut shorter;
+        let mut shorter = [best.clone(), best.clone(), best.clone(), best.clone()];
+        let [sheet, uses, scopes, spare] = &mut shorter;
         sheet.sheet.pop();
         uses.uses.pop();
+        scopes.scopes.pop();
         spare.spare.pop();
         match shorter.into_iter().find(|tried| *tried != best && differs(tried)) {
             Some(tried) => best = tried,
@@ -37,9 +41,12 @@ impl Shrinker<'_> {
     fn smallest(mut self) -> Draft {
         loop {
             let before = self.best.case();
-            self.drop_lines(|draft| &mut draft.uses);
-            self.drop_lines(|draft| &mut draft.items);
+            self.plain_scopes();
+            self.drop_lines(|draft| draft.uses.len(), Draft::drop_uses);
+            self.drop_lines(|draft| draft.items.len(), Draft::drop_items);
             self.drop_pairs();
+            self.drop_scopes();
+            self.lower_scopes();
             let ranked = ranked(&self.best);
             self.keeps(ranked);
             self.lower(|draft| &mut draft.items, 256);
@@ -59,15 +66,51 @@ impl Shrinker<'_> {
         is_kept
     }
 
+    /// No scope sheet, or else the shortest that is refused.
+    fn plain_scopes(&mut self) {
+        for words in [vec![], vec![513]] {
+            let scopes = Beside::Words(words);
+            if self.keeps(Draft { scopes, ..self.best.clone() }) {
+                return;
+            }
+        }
+    }
+
+    fn drop_scopes(&mut self) {
+        let mut scope = usize::MAX;
+        while let Beside::Sheet(sheet) = &self.best.scopes {
+            scope = scope.min(sheet.scopes.len());
+            let Some(before) = scope.checked_sub(1) else { return };
+            scope = before;
+            let scopes = Beside::Sheet(sheet.without(scope));
+            self.keeps(Draft { scopes, ..self.best.clone() });
+        }
+    }
+
+    fn lower_scopes(&mut self) {
+        let (names, uses) = (self.best.names() as usize, self.best.uses.len());
+        for at in 1..self.best.scopes.words().len() {
+            let words = self.best.scopes.words();
+            for lower in [0, words[at] / 2, words[at].saturating_sub(1)] {
+                let mut tried = words.clone();
+                tried[at] = lower;
+                let scopes = Beside::of_words(&tried, names, uses);
+                if lower < words[at] && self.keeps(Draft { scopes, ..self.best.clone() }) {
+                    break;
+                }
+            }
+        }
+    }
+
     /// Long parts first, then single lines.
-    fn drop_lines(&mut self, lines: fn(&mut Draft) -> &mut Vec<Line>) {
-        let mut size = lines(&mut self.best).len();
+    fn drop_lines(&mut self, count: fn(&Draft) -> usize, drop: fn(&mut Draft, Range<usize>)) {
+        let mut size = count(&self.best);
         while size > 0 {
             let mut from = 0;
-            while from < lines(&mut self.best).len() {
+            while from < count(&self.best) {
                 let mut tried = self.best.clone();
-                let to = lines(&mut tried).len().min(from + size);
-                lines(&mut tried).drain(from..to);
+                let to = count(&tried).min(from + size);
+                drop(&mut tried, from..to);
                 if !self.keeps(tried) {
                     from += size;
                 }
@@ -156,6 +199,7 @@ fn ranked(draft: &Draft) -> Draft {
         outer_end: rank(draft.outer_end),
         items: draft.items.iter().map(item).collect(),
         uses: draft.uses.iter().map(|line| (line.0, span(line))).collect(),
+        scopes: draft.scopes.clone(),
     }
 }
 

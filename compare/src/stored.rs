@@ -30,7 +30,7 @@ fn small_cases() -> Vec<Made> {
     let mut random = Random::new(SEED);
     let mut of_number = [0; 9];
     while of_number.iter().sum::<u32>() < 480 {
-        let made = cases::any(&mut random);
+        let made = cases::any_pair(&mut random);
         let wanted = if made.judge == 0 { 200 } else { 40 };
         let is_small = made.case.sheet.len() < 140 && made.case.uses.len() < 140;
         if is_small && made.case.spare.is_empty() && of_number[made.judge as usize] < wanted {

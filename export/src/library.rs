@@ -33,6 +33,8 @@ unsafe extern "C" {
         sheet_words: usize,
         uses: *const u64,
         use_words: usize,
+        scopes: *const u64,
+        scope_words: usize,
         first: *mut u64,
         first_cells: usize,
         second: *mut u64,
@@ -84,6 +86,7 @@ impl fmt::Display for Refusal {
             6 => "off the line",
             7 => "bad name",
             8 => "bad use",
+            9 => "bad scope",
             _ => "a number that this program does not know",
         };
         write!(f, "refused {}: {word}", self.0)
@@ -162,17 +165,20 @@ impl Default for Unit {
 }
 
 impl Unit {
+    /// The uses say themselves which of them cross, so no scope sheet comes.
+    ///
     /// # Errors
     ///
     /// The number with which the library refuses.
     pub fn judge(&mut self, sheet: &[u64], uses: &[u64]) -> Result<Vec<Finding>, Refusal> {
+        let scopes: &[u64] = &[];
         let c = &mut *self.columns;
-        test_owed(&[sheet, uses], &c.lent());
+        test_owed(&[sheet, uses, scopes], &c.lent());
         // Safe: each pointer and count are those of a slice, and `test_owed` has looked at all of them.
         #[rustfmt::skip]
         let result = unsafe {
             waldimu_judge(
-                sheet.as_ptr(), sheet.len(), uses.as_ptr(), uses.len(),
+                sheet.as_ptr(), sheet.len(), uses.as_ptr(), uses.len(), scopes.as_ptr(), scopes.len(),
                 c.first.as_mut_ptr(), NODES, c.second.as_mut_ptr(), NODES,
                 c.start.as_mut_ptr(), NODES, c.reachable.as_mut_ptr(), NODES,
                 c.code_span.as_mut_ptr(), CODES, c.code_node.as_mut_ptr(), CODES,

@@ -51,6 +51,9 @@ pub const CLASSES: [Class; 6] = [
     Class::body("one local", Plan { items: 512, locals: 1, uses: 1024, ..TYPICAL }),
 ];
 
+/// The classes that are timed with scope sheets too.
+pub const SCOPED: [&str; 4] = ["tiny", "typical", "large", "one local"];
+
 const fn items(items: usize) -> Class {
     Class::body("items", Plan { items, uses: items, locals: 16, ..LARGE })
 }

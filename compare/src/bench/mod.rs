@@ -4,18 +4,21 @@
 mod bodies;
 mod classes;
 mod clock;
+mod scopes;
 
+use std::array;
 use std::hint::black_box;
 
 use crate::Options;
-use crate::answers::Side;
+use crate::answers::{Case, Side};
 use crate::draft::Made;
 use crate::lent::COLUMNS;
 #[cfg(library)]
 use crate::library;
 use crate::random::Random;
 use crate::run::{self, Tally};
-use classes::{CLASSES, Class, GROWTH};
+use classes::{CLASSES, Class, GROWTH, SCOPED};
+use scopes::Scopes;
 
 /// Stands in where no library is linked, and is not called there.
 #[cfg(not(library))]
@@ -24,7 +27,12 @@ mod library {
         unreachable!("no library is linked")
     }
 
-    pub fn judge_word(_sheet: &[u64], _uses: &[u64], _columns: &mut [Vec<u64>]) -> u64 {
+    pub fn judge_word(
+        _sheet: &[u64],
+        _uses: &[u64],
+        _scopes: &[u64],
+        _columns: &mut [Vec<u64>],
+    ) -> u64 {
         unreachable!("no library is linked")
     }
 }
@@ -54,10 +62,10 @@ impl Part {
     }
 }
 
-/// A pair of sheets, and what luck has before its time begins.
+/// A pair of sheets with a scope sheet or none, and what luck has before its
+/// time begins.
 struct Subject {
-    sheet: Vec<u64>,
-    uses: Vec<u64>,
+    case: Case,
     script: luck::Script,
     /// Items, locals, uses and nodes.
     sizes: [u64; 4],
@@ -70,8 +78,11 @@ fn call(part: Part, subject: &Subject, columns: &mut Columns) -> u64 {
     match part {
         Part::Graph => subject.script.build_graph() as u64,
         Part::Flow => subject.script.compute_flow() as u64,
-        Part::Chart => library::chart_word(&subject.sheet, &mut columns[..9]),
-        Part::Judge => library::judge_word(&subject.sheet, &subject.uses, columns),
+        Part::Chart => library::chart_word(&subject.case.sheet, &mut columns[..9]),
+        Part::Judge => {
+            let Case { sheet, uses, scopes, .. } = &subject.case;
+            library::judge_word(sheet, uses, scopes, columns)
+        }
     }
 }
 
@@ -83,23 +94,28 @@ fn calls(part: Part, subjects: &[Subject], columns: &mut Columns, times: u64) {
     }
 }
 
-/// What one class measures: sizes on the mean, and nanoseconds a call of each
-/// part in each round.
-struct Measured {
-    sizes: [u64; 4],
-    rounds: Vec<[Option<f64>; 4]>,
-}
+/// Nanoseconds a call of each that took turns, round by round.
+struct Rounds<const TURNS: usize>(Vec<[Option<f64>; TURNS]>);
 
-impl Measured {
+impl<const TURNS: usize> Rounds<TURNS> {
     /// The median over the rounds of what a round tells.
-    fn median(&self, of: impl Fn([Option<f64>; 4]) -> Option<f64>) -> Option<f64> {
-        let told: Vec<f64> = self.rounds.iter().copied().filter_map(of).collect();
+    fn median(&self, of: impl Fn([Option<f64>; TURNS]) -> Option<f64>) -> Option<f64> {
+        let told: Vec<f64> = self.0.iter().copied().filter_map(of).collect();
         (!told.is_empty()).then(|| clock::median(told))
     }
 
-    fn times(&self) -> [Option<f64>; 4] {
-        [0, 1, 2, 3].map(|at| self.median(|round| round[at]))
+    fn times(&self) -> [Option<f64>; TURNS] {
+        array::from_fn(|at| self.median(|round| round[at]))
     }
+}
+
+/// Items, locals, uses and nodes on the mean.
+fn sizes(subjects: &[Subject]) -> [u64; 4] {
+    let count = subjects.len() as u64;
+    array::from_fn(|at| {
+        let sum: u64 = subjects.iter().map(|subject| subject.sizes[at]).sum();
+        (sum + count / 2) / count
+    })
 }
 
 struct Bench {
@@ -119,38 +135,36 @@ impl Bench {
     fn subject(&mut self, made: Made) -> Result<Subject, String> {
         run::check(&made, &mut self.sides, &mut Tally::default())?;
         let [nodes, _, locals] = made.counts.expect("an admitted pair");
-        let (sheet, uses) = (made.case.sheet, made.case.uses);
-        let sizes = [sheet[0], locals, uses[0], nodes];
-        Ok(Subject { script: luck::Script::new(&sheet, &uses), sheet, uses, sizes })
+        let case = made.case;
+        let sizes = [case.sheet[0], locals, case.uses[0], nodes];
+        Ok(Subject { script: luck::Script::new(&case.sheet, &case.uses), case, sizes })
     }
 
-    fn subjects(&mut self, class: &Class) -> Result<Vec<Subject>, String> {
+    fn subjects(&mut self, class: &Class, scopes: Scopes) -> Result<Vec<Subject>, String> {
         let mut random = Random::new(self.seed);
         let sheets = self.sheets.unwrap_or_else(|| class.sheets());
-        (0..sheets).map(|_| self.subject(class.make(&mut random))).collect()
+        let mut subject = |_| {
+            let mut made = class.make(&mut random);
+            made.case.scopes = scopes.words(&made.case);
+            self.subject(made)
+        };
+        (0..sheets).map(&mut subject).collect()
     }
 
-    /// Rounds in which each part has its turn.
-    fn measure(&mut self, class: &Class) -> Result<Measured, String> {
-        let subjects = self.subjects(class)?;
-        let count = subjects.len() as u64;
-        let parts = Part::ALL.map(|part| part.is_here().then_some(part));
+    /// Rounds in which each has its turn, if its part is linked.
+    fn measure<const TURNS: usize>(&mut self, of: [(Part, &[Subject]); TURNS]) -> Rounds<TURNS> {
+        let of = of.map(|turn| turn.0.is_here().then_some(turn));
         let columns = &mut self.columns;
-        let mut sample = |part: Part, times: u64| {
-            let taken = clock::time(|| calls(part, &subjects, columns, times));
-            taken as f64 / (times * count) as f64
+        let mut sample = |(part, subjects): (Part, &[Subject]), times: u64| {
+            let taken = clock::time(|| calls(part, subjects, columns, times));
+            taken as f64 / (times * subjects.len() as u64) as f64
         };
-        let repeats = parts.map(|part| {
-            let once = part.map_or(1.0, |part| sample(part, 3));
-            (SAMPLE as f64 / (once * count as f64)) as u64 + 1
+        let repeats = of.map(|turn| {
+            let once = turn.map_or(1.0, |turn| sample(turn, 3) * turn.1.len() as f64);
+            (SAMPLE as f64 / once) as u64 + 1
         });
-        let mut turn = |at: usize| parts[at].map(|part| sample(part, repeats[at]));
-        let rounds = (0..self.rounds).map(|_| [0, 1, 2, 3].map(&mut turn)).collect();
-        let mean = |at: usize| {
-            let sum: u64 = subjects.iter().map(|subject| subject.sizes[at]).sum();
-            (sum + count / 2) / count
-        };
-        Ok(Measured { sizes: [0, 1, 2, 3].map(mean), rounds })
+        let mut turn = |at: usize| of[at].map(|turn| sample(turn, repeats[at]));
+        Rounds((0..self.rounds).map(|_| array::from_fn(&mut turn)).collect())
     }
 }
 
@@ -193,10 +207,11 @@ fn classes_table(bench: &mut Bench) -> Result<(), String> {
         "judge / (graph + flow)",
     ]);
     for class in &CLASSES {
-        let measured = bench.measure(class)?;
+        let subjects = bench.subjects(class, Scopes::None)?;
+        let measured = bench.measure(Part::ALL.map(|part| (part, &subjects[..])));
         let sum = |graph: Option<f64>, flow| graph.zip(flow).map(|(graph, flow)| graph + flow);
         let mut cells = vec![class.name.to_owned()];
-        cells.extend(measured.sizes.map(|size| size.to_string()));
+        cells.extend(sizes(&subjects).map(|size| size.to_string()));
         cells.extend(measured.times().map(whole));
         cells.extend([
             hundredths(measured.median(|[graph, _, chart, _]| ratio(chart, graph))),
@@ -214,11 +229,11 @@ fn growth_table(bench: &mut Bench, name: &str, classes: &[Class]) -> Result<(), 
     heading(&["items", "locals", "uses", "nodes", "graph", "flow", "chart", "judge", "grew by"]);
     let mut before = [None; 4];
     for class in classes {
-        let measured = bench.measure(class)?;
-        let times = measured.times();
+        let subjects = bench.subjects(class, Scopes::None)?;
+        let times = bench.measure(Part::ALL.map(|part| (part, &subjects[..]))).times();
         let grown: Vec<String> =
             times.iter().zip(before).map(|(now, old)| hundredths(ratio(*now, old))).collect();
-        let mut cells: Vec<String> = measured.sizes.iter().map(u64::to_string).collect();
+        let mut cells: Vec<String> = sizes(&subjects).iter().map(u64::to_string).collect();
         cells.extend(times.map(whole));
         cells.push(grown.join(", "));
         row(&cells);
@@ -227,12 +242,54 @@ fn growth_table(bench: &mut Bench, name: &str, classes: &[Class]) -> Result<(), 
     Ok(())
 }
 
+fn scopes_table(bench: &mut Bench) -> Result<(), String> {
+    println!(
+        "\n`judge` with a scope sheet: none, the scopes of the body itself, or a chain of 512 \
+         behind a Function with every name in the second and every use in the last. Nanoseconds a call.\n"
+    );
+    heading(&[
+        "class",
+        "locals",
+        "uses",
+        "scopes",
+        "none",
+        "own scopes",
+        "chain",
+        "own scopes / none",
+        "chain / none",
+    ]);
+    for class in CLASSES.iter().filter(|class| SCOPED.contains(&class.name)) {
+        let mut all = Vec::new();
+        for scopes in Scopes::ALL {
+            all.push(bench.subjects(class, scopes)?);
+        }
+        let measured = bench.measure([0, 1, 2].map(|at: usize| (Part::Judge, &all[at][..])));
+        let [_, locals, uses, _] = sizes(&all[0]);
+        let scopes: u64 = all[1].iter().map(|subject| subject.case.scopes[0]).sum();
+        let mut cells = vec![class.name.to_owned()];
+        cells.extend([locals, uses, scopes / all[1].len() as u64].map(|size| size.to_string()));
+        cells.extend(measured.times().map(whole));
+        cells.extend(
+            [1, 2].map(|at: usize| hundredths(measured.median(|round| ratio(round[at], round[0])))),
+        );
+        row(&cells);
+    }
+    Ok(())
+}
+
 /// One part alone on one class, for a profiler.
-fn only(bench: &mut Bench, part: &str, class: &str, times: u64) -> Result<(), String> {
+fn only(
+    bench: &mut Bench,
+    part: &str,
+    class: &str,
+    scopes: &str,
+    times: u64,
+) -> Result<(), String> {
     let part = Part::ALL.into_iter().find(|known| known.name() == part && known.is_here());
     let part = part.ok_or("no such part is linked")?;
     let class = CLASSES.iter().find(|known| known.name == class).ok_or("no such class")?;
-    let subjects = bench.subjects(class)?;
+    let scopes = Scopes::ALL.into_iter().find(|known| known.name() == scopes);
+    let subjects = bench.subjects(class, scopes.ok_or("no such scopes")?)?;
     calls(part, &subjects, &mut bench.columns, times);
     println!("{} on {} sheets of {}, {times} times each", part.name(), subjects.len(), class.name);
     Ok(())
@@ -248,7 +305,8 @@ pub fn command(options: &Options) -> Result<(), String> {
     };
     if let Some(part) = options.text("--only") {
         let class = options.text("--class").unwrap_or("tiny");
-        return only(&mut bench, part, class, options.number("--times", 1000));
+        let scopes = options.text("--scopes").unwrap_or("none");
+        return only(&mut bench, part, class, scopes, options.number("--times", 1000));
     }
     if !Part::Judge.is_here() {
         println!("No library is linked (WALDIMU_ARCHIVE): luck alone is timed.");
@@ -257,6 +315,9 @@ pub fn command(options: &Options) -> Result<(), String> {
         println!("luck is built with checks that slow it; ./bench builds it without.");
     }
     classes_table(&mut bench)?;
+    if Part::Judge.is_here() {
+        scopes_table(&mut bench)?;
+    }
     for (name, classes) in GROWTH {
         growth_table(&mut bench, name, classes)?;
     }

@@ -112,9 +112,10 @@ impl Paths<'_> {
             write.number < read.number
                 || self.slip == Slip::ReadWriteMarkedBeforeItsRead && write.number == read.number
         };
+        let asks_crossing = self.name.is_captured || self.slip == Slip::CapturedNotAsked;
         self.own.iter().find(|read| {
             read.used.is_read()
-                && !(self.name.is_captured && read.used.crosses())
+                && !(asks_crossing && read.used.crosses())
                 && !reached.iter().any(|ends| ends[read.node as usize])
                 && !writes().any(|write| is_earlier(write, read) && write.node == read.node)
         })

@@ -1,8 +1,9 @@
-//! A plain reading of document 01, beside luck and in no part taken from it.
+//! A plain reading of documents 01 and 02, beside luck and in no part taken from it.
 //! Speed does not matter here, only that each sentence can be found again.
 
 pub mod findings;
 pub mod graph;
+pub mod scopes;
 pub mod table;
 pub mod text;
 
@@ -17,6 +18,20 @@ pub enum Slip {
     ReadWriteMarkedBeforeItsRead,
     UsedNodeWalkedThrough,
     NodeUsesSortedByOffset,
+    Count513Taken,
+    CountZeroTakenForNone,
+    UseScopesBeforeNameScopes,
+    OwnParentTaken,
+    ParentMaxTakenForNone,
+    ChainFollowedFromName,
+    OwnScopeOfUseSkipped,
+    FunctionAskedFirst,
+    ModuleIsBoundary,
+    RunningOutCrosses,
+    SuppliedBitKept,
+    SuppliedBitOnlyRaised,
+    CapturedNotAsked,
+    NineBeforeEight,
 }
 
 #[derive(Debug, Clone, Copy)]
@@ -115,9 +130,11 @@ impl Reading {
         Ok((node, node.is_none_or(|node| chart.reachable[node as usize] == 1)))
     }
 
-    pub fn judge(&self, sheet: &[u64], uses: &[u64]) -> Answer<Judgement> {
-        table::of_pair(sheet, uses)?;
-        Ok(findings::judge(sheet, uses, self.slip))
+    /// A scope sheet of 0 words is none.
+    pub fn judge(&self, sheet: &[u64], uses: &[u64], scopes: &[u64]) -> Answer<Judgement> {
+        table::of_judge(sheet, uses, scopes, self.slip)?;
+        let uses = scopes::crossed(sheet, uses, scopes, self.slip);
+        Ok(findings::judge(sheet, &uses, self.slip))
     }
 
     pub fn label_check(&self, sheet: &[u64]) -> Answer<bool> {
@@ -127,7 +144,7 @@ impl Reading {
 
     pub fn answers(&self, case: &Case, offsets: &[u32]) -> Answers {
         let chart = self.chart(&case.sheet);
-        let judge = self.judge(&case.sheet, &case.uses);
+        let judge = self.judge(&case.sheet, &case.uses, &case.scopes);
         Answers {
             labels: self.label_check(&case.sheet),
             runs: offsets.iter().map(|&offset| (offset, self.run(&chart, offset))).collect(),

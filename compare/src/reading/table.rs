@@ -1,6 +1,6 @@
 //! The table "Turned back", one function a number.
 
-use super::{Item, items_of, uses_of};
+use super::{Item, Slip, items_of, scopes, uses_of};
 
 const LIMIT: u64 = 1024;
 const TWO_32: u64 = 1 << 32;
@@ -20,6 +20,16 @@ pub fn of_pair(sheet: &[u64], uses: &[u64]) -> Result<(), u64> {
     }
     numbers_3_to_7(sheet)?;
     if has_bad_use(sheet, uses) { Err(8) } else { Ok(()) }
+}
+
+/// The same with a scope sheet, whose number comes after all of the pair's.
+pub fn of_judge(sheet: &[u64], uses: &[u64], words: &[u64], slip: Slip) -> Result<(), u64> {
+    let pair = of_pair(sheet, uses);
+    let asks_scopes = match pair {
+        Ok(()) => true,
+        Err(number) => slip == Slip::NineBeforeEight && number == 8,
+    };
+    if asks_scopes && scopes::is_refused(sheet, uses, words, slip) { Err(9) } else { pair }
 }
 
 fn numbers_3_to_7(sheet: &[u64]) -> Result<(), u64> {

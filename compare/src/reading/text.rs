@@ -17,8 +17,10 @@ pub fn pair_of(bytes: &[u8]) -> Option<(Vec<u64>, Vec<u64>)> {
     spare.is_empty().then_some((sheet, uses))
 }
 
+/// No scope sheet comes with the bytes.
 pub fn printed(reading: &Reading, bytes: &[u8]) -> Vec<u8> {
-    let judged = pair_of(bytes).ok_or(2).and_then(|(sheet, uses)| reading.judge(&sheet, &uses));
+    let judged =
+        pair_of(bytes).ok_or(2).and_then(|(sheet, uses)| reading.judge(&sheet, &uses, &[]));
     lines(&judged)
 }
 

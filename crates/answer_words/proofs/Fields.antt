@@ -8,7 +8,7 @@ use Rattle.flow.specs.Answers.{Told, told}
 use Rattle.answer_words.specs.Words.{value, countsWord, runWord, labelWord, CountFields, RunFields, LabelFields}
 
 -- a refusal's word is its number, and no other bit is set
-module _ (k r : ℕ) (e : r ≡ k) (h : r ≤ 8) where
+module _ (k r : ℕ) (e : r ≡ k) (h : r ≤ 15) where
   pub refused-counts : (r ≡ countsWord (told k [])) × CountFields r (told k [])
   refused-counts = (omega arith, record { number = omega arith; nodes = omega arith; codes = omega arith; names = omega arith; findings = omega arith })
 

@@ -19,7 +19,8 @@ use lib.Seq.{take-all, getD-take, length-take-le}
 use Rattle.search.proofs.Bools.{neither, not-false-true}
 use Rattle.flow.specs.declared.Refusal.the-variants.{Miscount}
 use Rattle.flow.specs.Sheet.{countWord}
-use Rattle.flow.specs.Refusals.{number, miscount, firstApplying, pairTests, pairVerdict}
+use Rattle.flow.specs.Refusals.{number, miscount, firstApplying, pairTests}
+use Rattle.flow.specs.Scopes.{scopedTests, scopedVerdict}
 use Rattle.flow.specs.Judge.{judge}
 use Rattle.flow.specs.Listing.{refused, fileWords, printedWords, printed, sheetsPrint}
 use Rattle.flow.proofs.Tests.{counted}
@@ -60,7 +61,7 @@ never-both ws h e =
     omega (arith, length-drop (2 * countWord ws + 2) ws)
 
 too-long : (ws : List ℕ) → 4099 < length ws → printedWords ws ≡ refused (number Miscount)
-unfolding printedWords judge pairVerdict pairTests firstApplying
+unfolding printedWords judge scopedVerdict scopedTests pairTests firstApplying
 too-long ws h = rw (not-false-true (miscount 2 (take (2 * countWord ws + 2) ws) || miscount 1 (drop (2 * countWord ws + 2) ws)) (never-both ws h))
 
 -- ---- a file

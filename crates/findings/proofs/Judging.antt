@@ -33,7 +33,7 @@ module _ {S U : List ℕ} {r : Counts} {l : Lent} (v : sheetVerdict false S ≡ 
   abbrev y : Columns
   y = l .after
 
-  all-names : r .names ≡ length (locals S)
+  pub all-names : r .names ≡ length (locals S)
   all-names = names-are a h ∙ a .allNames
 
   name-nodes : Begins (length (locals S)) (graph S .names .node) (y .names .node)

@@ -1,13 +1,15 @@
 // The findings of an admitted pair of sheets, by the chart of the first.
+ghost use Rattle.flow.specs.Scopes.{useSheet};
 ghost use Rattle.flow.specs.Admitted.{AdmittedSheet, AdmittedUses};
 ghost use Rattle.search.specs.Lent.{held};
 ghost use Rattle.findings.specs.Accepted.{findingsLent, Long, Searchable, FindingsWritten};
 use flow::Counts;
 
-// The findings of a sheet whose graph stands in the columns, and a mark figure for each local. The result is the number of findings.
+// The findings of a sheet whose graph stands in the columns, with these uses, and a mark figure for each local. The result is the number of findings.
 pub fn find_all(
     sheet: &[u64],
-    uses: &[u64],
+    use_words: &[u64],
+    use_spans: &[u64],
     first: &[u64],
     second: &[u64],
     start: &[u64],
@@ -21,14 +23,12 @@ pub fn find_all(
     mark: &mut [u64],
     counts: Counts,
 ) -> usize
-    requires { ⌜ AdmittedSheet (now sheet) × AdmittedUses (now sheet) (now uses) ⌝ }
-    requires { ⌜ Searchable (now sheet) (now uses) counts (now first) (now second) (now start) (now «code_span») (now «code_node») (now «name_span») (now «name_node») (now «name_end») ⌝ }
+    requires { ⌜ AdmittedSheet (now sheet) × AdmittedUses (now sheet) (useSheet (now «use_words») (now «use_spans»)) ⌝ }
+    requires { ⌜ Searchable (now sheet) (useSheet (now «use_words») (now «use_spans»)) counts (now first) (now second) (now start) (now «code_span») (now «code_node») (now «name_span») (now «name_node») (now «name_end») ⌝ }
     requires { ⌜ Long (record { word = now «finding_word»; span = now «finding_span»; mark = now mark }) ⌝ }
-    ensures { λ r. ⌜ FindingsWritten (held sheet) (held uses) r (findingsLent «finding_word» «finding_span» mark) ⌝ }
+    ensures { λ r. ⌜ FindingsWritten (held sheet) (useSheet (held «use_words») (held «use_spans»)) r (findingsLent «finding_word» «finding_span» mark) ⌝ }
 {
     let kinds = sheet_parts::kinds(sheet);
-    let use_words = sheet_parts::use_words(uses);
-    let use_spans = sheet_parts::use_spans(uses);
     let found = local_flow::compute(
         kinds,
         first,

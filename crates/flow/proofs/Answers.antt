@@ -7,7 +7,7 @@ use Prim.Native.Nat.{ℕ}
 use lib.Dec.{eqb}
 use lib.ListN.{getD}
 use Rattle.flow.specs.declared.Refusal.{Refusal}
-use Rattle.flow.specs.declared.Refusal.the-variants.{BenchTooSmall, Miscount, BadItem, TooDeep, BadNesting, OffTheLine, BadName, BadUse}
+use Rattle.flow.specs.declared.Refusal.the-variants.{BenchTooSmall, Miscount, BadItem, TooDeep, BadNesting, OffTheLine, BadName, BadUse, BadScope}
 use Rattle.flow.specs.declared.Counts.{Counts}
 use Rattle.flow.specs.declared.Found.{Found}
 use Rattle.flow.specs.declared.Found.the-variants.{At, Nothing}
@@ -24,15 +24,15 @@ use Rattle.flow.specs.Answers.{Told, foundValues, chartTold, runTold, ju
 
 -- the refusal that has a number
 abbrev withNumber : ℕ → Refusal
-withNumber k = getD (BenchTooSmall ∷ BenchTooSmall ∷ Miscount ∷ BadItem ∷ TooDeep ∷ BadNesting ∷ OffTheLine ∷ BadName ∷ BadUse ∷ []) k BenchTooSmall
+withNumber k = getD (BenchTooSmall ∷ BenchTooSmall ∷ Miscount ∷ BadItem ∷ TooDeep ∷ BadNesting ∷ OffTheLine ∷ BadName ∷ BadUse ∷ BadScope ∷ []) k BenchTooSmall
 
 -- a refusal is read back from its number
 read-back : (r : Refusal) → withNumber (number r) ≡ r
-read-back r = elim r [ BenchTooSmall ↦ refl | Miscount ↦ refl | BadItem ↦ refl | TooDeep ↦ refl | BadNesting ↦ refl | OffTheLine ↦ refl | BadName ↦ refl | BadUse ↦ refl ]
+read-back r = elim r [ BenchTooSmall ↦ refl | Miscount ↦ refl | BadItem ↦ refl | TooDeep ↦ refl | BadNesting ↦ refl | OffTheLine ↦ refl | BadName ↦ refl | BadUse ↦ refl | BadScope ↦ refl ]
 
 -- and its number is not that of an accepted call
 pub refuses : (r : Refusal) → eqb (number r) 0 ≡ false
-refuses r = elim r [ BenchTooSmall ↦ refl | Miscount ↦ refl | BadItem ↦ refl | TooDeep ↦ refl | BadNesting ↦ refl | OffTheLine ↦ refl | BadName ↦ refl | BadUse ↦ refl ]
+refuses r = elim r [ BenchTooSmall ↦ refl | Miscount ↦ refl | BadItem ↦ refl | TooDeep ↦ refl | BadNesting ↦ refl | OffTheLine ↦ refl | BadName ↦ refl | BadUse ↦ refl | BadScope ↦ refl ]
 
 abbrev countsFrom : List ℕ → Counts
 countsFrom vs = record { nodes = getD vs 0 0; codes = getD vs 1 0; names = getD vs 2 0 }

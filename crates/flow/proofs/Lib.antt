@@ -1,4 +1,5 @@
 pub mod Members
+pub mod Scopes
 pub mod Sources
 pub mod Targets
 pub mod Builds

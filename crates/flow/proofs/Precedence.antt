@@ -1,4 +1,4 @@
--- "The lowest number that applies is returned, and no other case refuses": the tests stand in the order of their numbers, a refusal is that of the first that applies, and a call is admitted where none does. For readers: `foremost-refused`, the converse; `sheet-place`, `pair-place`, the test's place in the list; `run-number`, `label-number` beside those of chart and judge.
+-- "The lowest number that applies is returned, and no other case refuses": the tests stand in the order of their numbers, a refusal is that of the first that applies, and a call is admitted where none does. For readers: `foremost-refused`, the converse; `sheet-place`, `pair-place`, `scoped-place`, the test's place in the list; `run-number`, `label-number` beside those of chart and judge.
 -- Assumes nothing.
 use mathlib.Core.Path.{_≡_, refl, sym, ap, _∙_, subst}
 use mathlib.Core.Bool.{Bool, true, false, cond, true≢false}
@@ -10,11 +10,12 @@ use lib.ListN.{length, getD, length-append}
 use Rattle.flow.specs.declared.Refusal.{Refusal}
 use Rattle.flow.specs.declared.Verdict.{Verdict}
 use Rattle.flow.specs.declared.Verdict.the-variants.{Admitted, Refused}
-use Rattle.flow.specs.Refusals.{one, number, Test, firstApplying, itemTests, sheetTests, pairTests, sheetVerdict, pairVerdict}
+use Rattle.flow.specs.Refusals.{one, number, Test, firstApplying, itemTests, sheetTests, pairTests, sheetVerdict}
 use Rattle.flow.specs.Answers.{tells, foundValues, countValues}
 use Rattle.flow.specs.Graph.{graph}
 use Rattle.flow.specs.Reachable.{nodeAt, canRun, run, countsOf, chart}
 use Rattle.flow.specs.Findings.{findings}
+use Rattle.flow.specs.Scopes.{crossed, scopedTests, scopedVerdict}
 use Rattle.flow.specs.Judge.{judge}
 use Rattle.flow.specs.Labels.{labelsFine, labelCheck}
 use Rattle.flow.proofs.Tests.{passed-one}
@@ -32,6 +33,10 @@ sheet-numbers short S = refl
 pub pair-numbers : (short : Bool) (S U : List ℕ) → numbersOf (pairTests short S U) ≡ 1 ∷ 2 ∷ 3 ∷ 4 ∷ 5 ∷ 6 ∷ 7 ∷ 8 ∷ []
 unfolding pairTests itemTests
 pair-numbers short S U = refl
+
+pub scoped-numbers : (short : Bool) (S U C : List ℕ) → numbersOf (scopedTests short S U C) ≡ 1 ∷ 2 ∷ 3 ∷ 4 ∷ 5 ∷ 6 ∷ 7 ∷ 8 ∷ 9 ∷ []
+unfolding scopedTests pairTests itemTests
+scoped-numbers short S U C = refl
 
 -- ---- the first that applies
 
@@ -109,6 +114,10 @@ pub pair-place : (short : Bool) (S U : List ℕ) (k : ℕ) (f : Foremost (pairTe
 unfolding pairTests itemTests
 pair-place short S U = place-number 8 (pairTests short S U) (pair-numbers short S U) refl
 
+pub scoped-place : (short : Bool) (S U C : List ℕ) (k : ℕ) (f : Foremost (scopedTests short S U C) k) → k ≡ length (f .before) + 1
+unfolding scopedTests pairTests itemTests
+scoped-place short S U C = place-number 9 (scopedTests short S U C) (scoped-numbers short S U C) refl
+
 -- ---- by what a call tells: a number that is not 0 is that of the foremost test, and 0 means that none applies
 
 module _ (ts : List Test) (values : List ℕ) where
@@ -136,9 +145,9 @@ pub run-number : (S : List ℕ) (o k : ℕ) → run S o .number ≡ suc k → Fo
 unfolding run sheetVerdict
 run-number S o = number-applies (sheetTests false S) (one (canRun (graph S) (nodeAt (graph S) o)) ∷ foundValues (nodeAt (graph S) o))
 
-pub judge-number : (short : Bool) (S U : List ℕ) (k : ℕ) → judge short S U .number ≡ suc k → Foremost (pairTests short S U) (suc k)
-unfolding judge pairVerdict
-judge-number short S U = number-applies (pairTests short S U) (countValues (countsOf (graph S)) ++ (length (findings S U) ∷ []))
+pub judge-number : (short : Bool) (S U C : List ℕ) (k : ℕ) → judge short S U C .number ≡ suc k → Foremost (scopedTests short S U C) (suc k)
+unfolding judge scopedVerdict
+judge-number short S U C = number-applies (scopedTests short S U C) (countValues (countsOf (graph S)) ++ (length (findings S (crossed S U C)) ∷ []))
 
 pub label-number : (S : List ℕ) (k : ℕ) → labelCheck S .number ≡ suc k → Foremost (sheetTests false S) (suc k)
 unfolding labelCheck sheetVerdict

@@ -10,6 +10,7 @@ use Rattle.flow.specs.declared.Verdict.the-variants.{Admitted}
 use Rattle.flow.specs.Sheet.{Item, kind, countWord, outerEnd, items, kindWords, spanWords, zip, kindOf, endOf, useWords, useSpans, localOf, useKindOf}
 use Rattle.flow.specs.Kinds.{kinds, itemFits, isCode}
 use Rattle.flow.specs.Refusals.{nameCount, sheetVerdict, outnumbered, pairsUp, sideBySide, inOrder, insideScopes, namesFit}
+use Rattle.flow.specs.Scopes.{parentWords, scopeNumbers, Lower}
 use Rattle.flow.specs.Tree.{parse, tree, no-more}
 use Rattle.flow.specs.Size.{blockNodes}
 use Rattle.flow.specs.Graph.{graph}
@@ -75,6 +76,13 @@ pub record AdmittedUses (S U : List ℕ) : Type 0 where
   pub names : nameCount (items S) ≡ length (locals S)
   pub known : (u : ℕ) → u < countWord U → localOf (getD (useWords U) u 0) < nameCount (items S)
   pub kinds : (u : ℕ) → u < countWord U → useKindOf (getD (useWords U) u 0) ≤ 2
+
+-- and of a scope sheet that comes with so many names and uses
+pub record AdmittedScopes (names uses : ℕ) (C : List ℕ) : Type 0 where
+  pub few : countWord C ≤ 512
+  pub words : length C ≡ 1 + 2 * countWord C + names + uses
+  pub lower : Lower (parentWords C)
+  pub inside : (i : ℕ) → i < names + uses → getD (scopeNumbers C) i 0 < countWord C
 
 -- what the verdict of a pair shows
 pub record AdmittedPair (short : Bool) (S U : List ℕ) : Type 0 where

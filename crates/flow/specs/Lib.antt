@@ -1,6 +1,7 @@
 pub mod Sheet
 pub mod Kinds
 pub mod Refusals
+pub mod Scopes
 pub mod Answers
 pub mod Tree
 pub mod Graph

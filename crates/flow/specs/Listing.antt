@@ -75,9 +75,9 @@ unfoldable pub fileWords : ℕ → List ℕ → List Word
 fileWords zero bs = []
 fileWords (suc k) bs = littleEndian 8 bs ∷ fileWords k (drop 8 bs)
 
--- what a sheet and a use sheet print; the program's own columns are long enough, so that 1 is never printed
+-- what a sheet and a use sheet print; the program takes no scope sheet, and its own columns are long enough, so that 1 is never printed
 abbrev pub sheetsPrint : List Word → List Word → List ℕ
-sheetsPrint S U = printedFor (judge false S U) (reachable (graph S)) (findings S U)
+sheetsPrint S U = printedFor (judge false S U []) (reachable (graph S)) (findings S U)
 
 -- a sheet of 2n + 2 words, and a use sheet of all others
 unfoldable pub printedWords : List Word → List ℕ

@@ -19,6 +19,7 @@ use Rattle.flow.specs.Graph.{nodeCount, graph, newNode, connect, setCurr
 use Rattle.flow.specs.Reachable.{successors, reachable, nodeAt, canRun, nodeAmong}
 use Rattle.flow.specs.Locals.{Finding, localsFrom, locals, noValue, writesJudged, tracked, isInClosure}
 use Rattle.flow.specs.Findings.{findings, usesFrom, allFound, isAliveAt, afterWrites, liveAfterWrites, isEmptyRead, firstEmptyRead, firstAt, meetsHere, predecessors, meets, ahead, anyFlag, isOverwrittenUnread, isOverwritten, overwrittenAt, overwrittenBelow, firstUnassignedUse, initialOverwritten, writesOverwritten, usesOf, unassignedOf, overwrittenOf, ofEach}
+use Rattle.flow.specs.Scopes.{crossed, scopesWrong, scopedTests, scopedVerdict}
 use Rattle.flow.specs.Judge.{judge}
 use Rattle.flow.specs.Tree.{inFront, opened, read, parse, tree, labelsOf}
 use Rattle.flow.specs.Listing.{bytes, printedWords, digits, numbers, findingLine, findingLines, report}
@@ -170,5 +171,5 @@ slips =
     ∷ []
 
 pub pieces-hold : allHold (starred ++ slips) ≡ true
-unfolding starred slips closure argumentFits itemFits isCode literalTruth miscount all badItem outnumbered tooDeep mayStand openAfter pairsUp mayFollow sideBySide badNesting inOrder scopesAfter insideScopes offTheLine nameFits namesFit badName nameCount useFits usesFit badUse firstApplying itemTests pairTests pairVerdict inFront opened read parse tree labelsOf newNode connect setCurrent advanceTo recordCode setStart code closeInto jump declare labelNode simpleStmt newNodes withLabels entered inside inLoop startGraph outside graph buildStmt buildBlock buildArms reachable nodeAmong nodeAt canRun localsFrom locals noValue writesJudged tracked isInClosure usesFrom allFound isAliveAt afterWrites liveAfterWrites isEmptyRead firstEmptyRead firstAt meetsHere predecessors meets ahead anyFlag isOverwrittenUnread isOverwritten overwrittenAt overwrittenBelow firstUnassignedUse initialOverwritten writesOverwritten usesOf unassignedOf overwrittenOf ofEach findings judge digits numbers findingLine findingLines report printedWords
+unfolding starred slips closure argumentFits itemFits isCode literalTruth miscount all badItem outnumbered tooDeep mayStand openAfter pairsUp mayFollow sideBySide badNesting inOrder scopesAfter insideScopes offTheLine nameFits namesFit badName nameCount useFits usesFit badUse firstApplying itemTests pairTests pairVerdict scopedTests scopedVerdict scopesWrong crossed inFront opened read parse tree labelsOf newNode connect setCurrent advanceTo recordCode setStart code closeInto jump declare labelNode simpleStmt newNodes withLabels entered inside inLoop startGraph outside graph buildStmt buildBlock buildArms reachable nodeAmong nodeAt canRun localsFrom locals noValue writesJudged tracked isInClosure usesFrom allFound isAliveAt afterWrites liveAfterWrites isEmptyRead firstEmptyRead firstAt meetsHere predecessors meets ahead anyFlag isOverwrittenUnread isOverwritten overwrittenAt overwrittenBelow firstUnassignedUse initialOverwritten writesOverwritten usesOf unassignedOf overwrittenOf ofEach findings judge digits numbers findingLine findingLines report printedWords
 pieces-hold = refl

@@ -6,16 +6,16 @@ use Prim.Native.Nat.{ℕ, _+_, _*_, _/_, _^_}
 use lib.ListN.{length, getD}
 use lib.Dec.{eqb, leb, ltb}
 use Rattle.flow.specs.declared.Refusal.{Refusal}
-use Rattle.flow.specs.declared.Refusal.the-variants.{BenchTooSmall, Miscount, BadItem, TooDeep, BadNesting, OffTheLine, BadName, BadUse}
+use Rattle.flow.specs.declared.Refusal.the-variants.{BenchTooSmall, Miscount, BadItem, TooDeep, BadNesting, OffTheLine, BadName, BadUse, BadScope}
 use Rattle.flow.specs.declared.Verdict.{Verdict}
 use Rattle.flow.specs.declared.Verdict.the-variants.{Admitted, Refused}
 use Rattle.flow.specs.Sheet.{Word, Span, Item, kind, member, all, countWord, outerEnd, items, startOf, endOf, scopeEndOf, useWords, useSpans, localOf}
 use Rattle.flow.specs.Kinds.{kinds, itemFits, opens, closes, isCode}
 open record kinds using (REPEAT, IF, ELSEIF, ELSE, END, UNTIL, LOCAL, NAME, CONTINUE, RETURN)
 
--- the table's numbers
+-- the tables' numbers: 01's, and 9 of 02
 abbrev pub number : Refusal → ℕ
-number r = elim r [ BenchTooSmall ↦ 1 | Miscount ↦ 2 | BadItem ↦ 3 | TooDeep ↦ 4 | BadNesting ↦ 5 | OffTheLine ↦ 6 | BadName ↦ 7 | BadUse ↦ 8 ]
+number r = elim r [ BenchTooSmall ↦ 1 | Miscount ↦ 2 | BadItem ↦ 3 | TooDeep ↦ 4 | BadNesting ↦ 5 | OffTheLine ↦ 6 | BadName ↦ 7 | BadUse ↦ 8 | BadScope ↦ 9 ]
 
 -- 2: "fewer than 2 words (use sheet: 1), n or m above 1,024, or length not 2n + 2 (2m + 1)", where k words stand before the two arrays
 unfoldable pub miscount : ℕ → List Word → Bool
@@ -131,7 +131,7 @@ firstApplying (t ∷ ts) = cond (t .1) (Refused (t .0)) (firstApplying ts)
 unfoldable pub itemTests : List Word → List Test
 itemTests S = (BadItem, badItem S) ∷ (TooDeep, tooDeep S) ∷ (BadNesting, badNesting S) ∷ (OffTheLine, offTheLine S) ∷ (BadName, badName S) ∷ []
 
--- 1 to 7, with which every call begins: `miscounted` is 2, over all of its sheets
+-- 1 to 7, with which every call begins: `miscounted` is 2, over its sheet and its use sheet
 abbrev pub leadingTests : Bool → Bool → List Word → List Test
 leadingTests short miscounted S = (BenchTooSmall, short) ∷ (Miscount, miscounted) ∷ itemTests S
 
@@ -139,7 +139,7 @@ leadingTests short miscounted S = (BenchTooSmall, short) ∷ (Miscount, miscount
 unfoldable pub sheetTests : Bool → List Word → List Test
 sheetTests short S = leadingTests short (miscount 2 S) S
 
--- of a call that takes a sheet and a use sheet: "only judge gives 8"
+-- of a call that takes a sheet and a use sheet: "only judge gives 8". With a scope sheet besides, a test more comes behind them (`Scopes.antt`).
 unfoldable pub pairTests : Bool → List Word → List Word → List Test
 pairTests short S U = leadingTests short (miscount 2 S || miscount 1 U) S ++ ((BadUse, badUse S U) ∷ [])
 

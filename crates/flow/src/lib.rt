@@ -23,6 +23,7 @@ pub enum Refusal {
     OffTheLine,
     BadName,
     BadUse,
+    BadScope,
 }
 
 // Whether a call's input is taken.

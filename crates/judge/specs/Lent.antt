@@ -9,12 +9,12 @@ use Rattle.column_lengths.specs.Lengths.{judgeTooShort}
 use Rattle.flow.specs.declared.Verdict.{Verdict}
 use Rattle.flow.specs.declared.Verdict.the-variants.{Admitted, Refused}
 use Rattle.flow.specs.declared.JudgeAnswer.{JudgeAnswer}
-use Rattle.flow.specs.Refusals.{pairVerdict}
+use Rattle.flow.specs.Scopes.{Replaced, crossed, scopedVerdict}
 use Rattle.flow.specs.Answers.{judgeTold, findingsTold}
 use Rattle.flow.specs.Graph.{nodeCount, graph}
 use Rattle.flow.specs.Locals.{locals}
 use Rattle.flow.specs.Findings.{findings}
-use Rattle.flow.specs.Judge.{wordsOf, spansOf, judge}
+use Rattle.flow.specs.Judge.{wordsOf, spansOf, judged}
 use Rattle.flow.specs.Demand.{Demand3}
 use Rattle.search.specs.Lent.{Column}
 use Rattle.chart.specs.Lent.{overlay, Columns, Lent, chartShort, chartLeaves, Shown}
@@ -49,12 +49,18 @@ pub record MarksLeft (v : Verdict) (S old new : List ℕ) : Type 0 where
 abbrev pub foundIn : JudgeAnswer → ℕ
 foundIn r = findingsTold (judgeTold r)
 
--- judge: its number and values, every lent cell, and what the columns of an accepted call show. Demand 3 is of what it wrote: as many cells of the two finding columns as it tells.
-pub record JudgePromise (S U : List ℕ) (r : JudgeAnswer) (l : JudgeLent) : Type 0 where
-  pub told : judgeTold r ≡ judge (short l) S U
-  pub columns : l .chart .after ≡ chartLeaves (pairVerdict (short l) S U) S (l .chart .before)
-  pub shown : pairVerdict (short l) S U ≡ Admitted → Shown S (l .chart .after)
-  pub findingWords : l .found .after .word ≡ leaves (pairVerdict (short l) S U) (wordsOf (findings S U)) (l .found .before .word)
-  pub findingSpans : l .found .after .span ≡ leaves (pairVerdict (short l) S U) (spansOf (findings S U)) (l .found .before .span)
-  pub markFigures : MarksLeft (pairVerdict (short l) S U) S (l .found .before .mark) (l .found .after .mark)
-  pub demand3 : pairVerdict (short l) S U ≡ Admitted → Demand3 S U (take (foundIn r) (l .found .after .word)) (take (foundIn r) (l .found .after .span))
+-- its number and values, every lent cell, and what the columns of an accepted call show, by the verdict and the uses that are judged. Demand 3 is of what it wrote: as many cells of the two finding columns as it tells.
+pub record Judges (v : Verdict) (S U : List ℕ) (r : JudgeAnswer) (l : JudgeLent) : Type 0 where
+  pub told : judgeTold r ≡ judged v S U
+  pub columns : l .chart .after ≡ chartLeaves v S (l .chart .before)
+  pub shown : v ≡ Admitted → Shown S (l .chart .after)
+  pub findingWords : l .found .after .word ≡ leaves v (wordsOf (findings S U)) (l .found .before .word)
+  pub findingSpans : l .found .after .span ≡ leaves v (spansOf (findings S U)) (l .found .before .span)
+  pub markFigures : MarksLeft v S (l .found .before .mark) (l .found .after .mark)
+  pub demand3 : v ≡ Admitted → Demand3 S U (take (foundIn r) (l .found .after .word)) (take (foundIn r) (l .found .after .span))
+
+-- judge, of a sheet, a use sheet and a scope sheet, or [] where none comes. "Uses with a supplied bit are still taken when no scope sheet (0 words) comes. When one comes it replaces the bit, and lists are compared after that": everything is of one use sheet, `crossed`, which is the supplied one or the replaced one. So without a scope sheet it is the promise of the pair (`without-scopes` in `proofs/Promises.antt`).
+pub record JudgePromise (S U C : List ℕ) (r : JudgeAnswer) (l : JudgeLent) : Type 0 where
+  pub judges : Judges (scopedVerdict (short l) S U C) S (crossed S U C) r l
+  pub supplied : C ≡ [] → crossed S U C ≡ U
+  pub replaced : scopedVerdict (short l) S U C ≡ Admitted → (C ≡ [] → ⊥) → Replaced S U C (crossed S U C)

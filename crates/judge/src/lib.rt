@@ -5,10 +5,11 @@ ghost use Rattle.judge.specs.Lent.{JudgePromise, judgeLent};
 use flow::JudgeAnswer;
 use flow::Verdict;
 
-// The graph of a sheet and the findings of its locals, in the columns that are lent.
+// The graph of a sheet and the findings of its locals, in the columns that are lent. A scope sheet of 0 words is none.
 pub fn judge(
     sheet: &[u64],
     uses: &[u64],
+    scopes: &[u64],
     first: &mut [u64],
     second: &mut [u64],
     start: &mut [u64],
@@ -22,7 +23,7 @@ pub fn judge(
     finding_span: &mut [u64],
     mark: &mut [u64],
 ) -> JudgeAnswer
-    ensures { λ r. ⌜ JudgePromise (held sheet) (held uses) r (judgeLent (lent first second start reachable «code_span» «code_node» «name_span» «name_node» «name_end») «finding_word» «finding_span» mark) ⌝ }
+    ensures { λ r. ⌜ JudgePromise (held sheet) (held uses) (held scopes) r (judgeLent (lent first second start reachable «code_span» «code_node» «name_span» «name_node» «name_end») «finding_word» «finding_span» mark) ⌝ }
 {
     let chart_short = column_lengths::chart_short(
         first.len(),
@@ -41,13 +42,14 @@ pub fn judge(
         mark.len(),
         chart_short,
     );
-    let verdict = admission::pair_verdict(short, sheet, uses);
+    let verdict = scoped_admission::scoped_verdict(short, sheet, uses, scopes);
     if let Verdict::Refused(refusal) = verdict {
         return JudgeAnswer::Refused(refusal);
     }
     judging::of_sheets(
         sheet,
         uses,
+        scopes,
         first,
         second,
         start,

@@ -93,9 +93,10 @@ fn chart(sheet: &[u64]) -> u64 {
     ))
 }
 
-// With no uses.
+// With no uses and no scope sheet.
 fn judge(sheet: &[u64]) -> u64 {
     let uses = [0u64; 1];
+    let scopes = [0u64; 0];
     let mut first = [0u64; NODES];
     let mut second = [0u64; NODES];
     let mut start = [0u64; NODES];
@@ -111,6 +112,7 @@ fn judge(sheet: &[u64]) -> u64 {
     judge_number(judge::judge(
         sheet,
         &uses,
+        &scopes,
         &mut first,
         &mut second,
         &mut start,

@@ -1,6 +1,6 @@
 -- The sheets print what judge tells, by the columns that it writes.
 -- Assumes nothing.
-use mathlib.Core.Path.{_≡_, refl}
+use mathlib.Core.Path.{_≡_, refl, ap}
 use mathlib.Core.Bool.{Bool}
 use mathlib.Core.List.{List, _∷_, [], _++_}
 use Prim.Native.Nat.{ℕ, _≤_, zero-le}
@@ -15,10 +15,12 @@ use Rattle.flow.specs.Graph.{Graph, graph}
 use Rattle.flow.specs.Reachable.{countsOf, reachable}
 use Rattle.flow.specs.Locals.{Finding}
 use Rattle.flow.specs.Findings.{findings}
-use Rattle.flow.specs.Judge.{wordsOf, spansOf, judge}
+use Rattle.flow.specs.Scopes.{crossed}
+use Rattle.flow.specs.Judge.{wordsOf, spansOf, judged, judge}
 use Rattle.flow.specs.Listing.{report, printedFor}
 use Rattle.flow.proofs.Answers.{refuses}
 use Rattle.flow.proofs.Flags.{node-count, reachable-length}
+use Rattle.flow.proofs.Scopes.{no-scopes-verdict}
 use Rattle.lines.specs.Report.{answerLines}
 use Rattle.finding_lines.proofs.Rows.{same-findings}
 
@@ -51,13 +53,16 @@ few-by-verdict : (v : Verdict) (g : Graph) (fs : List Finding) {m : ℕ} → (v 
 few-by-verdict (Refused r) g fs h = zero-le
 few-by-verdict Admitted g fs h = h refl
 
-module _ (short : Bool) (S U : List ℕ) {t : Told} (e : t ≡ judge short S U) where
+-- the program takes no scope sheet
+unscoped : (short : Bool) (S U : List ℕ) → judge short S U [] ≡ judged (pairVerdict short S U) S U
+unfolding judge crossed
+unscoped short S U = ap (λ (v : Verdict). judged v S U) (no-scopes-verdict short S U)
+
+module _ (short : Bool) (S U : List ℕ) {t : Told} (e : t ≡ judged (pairVerdict short S U) S U) where
   pub answer-prints : (flags ws ss : List ℕ) → (pairVerdict short S U ≡ Admitted → Shown (graph S) (findings S U) flags ws ss)
-      → answerLines t flags ws ss ≡ printedFor (judge short S U) (reachable (graph S)) (findings S U)
-  unfolding judge
-  answer-prints flags ws ss h = rw e (by-verdict (pairVerdict short S U) (graph S) (findings S U) flags ws ss h)
+      → answerLines t flags ws ss ≡ printedFor (judge short S U []) (reachable (graph S)) (findings S U)
+  answer-prints flags ws ss h = rw (e, unscoped short S U) (by-verdict (pairVerdict short S U) (graph S) (findings S U) flags ws ss h)
 
   -- no more findings than the columns hold
   pub few-found : {m : ℕ} → (pairVerdict short S U ≡ Admitted → length (findings S U) ≤ m) → findingsTold t ≤ m
-  unfolding judge
   few-found h = rw e (few-by-verdict (pairVerdict short S U) (graph S) (findings S U) h)

@@ -13,7 +13,7 @@ use flow::Verdict;
 
 // The table's number of a refusal.
 pub fn number(refusal: Refusal) -> u64
-    ensures { λ r. ⌜ (r ≡ Refusals.number refusal) × (1 ≤ r) × (r ≤ 8) ⌝ }
+    ensures { λ r. ⌜ (r ≡ Refusals.number refusal) × (1 ≤ r) × (r ≤ 15) ⌝ }
 {
     match refusal {
         Refusal::BenchTooSmall => 1,
@@ -24,6 +24,7 @@ pub fn number(refusal: Refusal) -> u64
         Refusal::OffTheLine => 6,
         Refusal::BadName => 7,
         Refusal::BadUse => 8,
+        Refusal::BadScope => 9,
     }
 }
 

@@ -2,7 +2,7 @@
 -- Assumes nothing.
 use mathlib.Core.Path.{_≡_, refl, ap}
 use mathlib.Core.Bool.{false}
-use mathlib.Core.List.{List}
+use mathlib.Core.List.{List, []}
 use Prim.Native.Nat.{ℕ, _≤_}
 use native.Mathlib.Omega.{arith}
 use lib.ListN.{length, drop, replicate, length-append, length-map}
@@ -14,11 +14,12 @@ use Rattle.flow.specs.Answers.{judgeTold, findingsTold}
 use Rattle.flow.specs.Graph.{graph}
 use Rattle.flow.specs.Reachable.{reachable}
 use Rattle.flow.specs.Findings.{findings}
-use Rattle.flow.specs.Judge.{wordsOf, spansOf, judge}
+use Rattle.flow.specs.Judge.{wordsOf, spansOf, judged}
 use Rattle.column_lengths.specs.Lengths.{chartTooShort, judgeTooShort}
 use Rattle.chart.specs.Lent.{overlay, Columns, columns, chartOf, chartLeaves}
 use Rattle.findings.specs.Accepted.{FindingColumns}
-use Rattle.judge.specs.Lent.{judgeShort, leaves, JudgePromise}
+use Rattle.judge.specs.Lent.{judgeShort, leaves, Judges, JudgePromise}
+use Rattle.judge.proofs.Promises.{without-scopes}
 use Rattle.flow.specs.Listing.{sheetsPrint}
 use Rattle.lines.specs.Report.{answerLines}
 use Rattle.lines.proofs.Answer.{Shown, shown, few-found, answer-prints}
@@ -54,8 +55,11 @@ fits xs old p = omega (arith, simp length-append at (ap length p))
 
 -- ---- judge over them
 
-module _ (S U : List ℕ) {answer : JudgeAnswer} {y : Columns} {g : FindingColumns} (p : JudgePromise S U answer (record { chart = record { before = ownColumns; after = y }; found = record { before = ownFindings; after = g } })) where
-  tells : judgeTold answer ≡ judge false S U
+module _ (S U : List ℕ) {answer : JudgeAnswer} {y : Columns} {g : FindingColumns} (promised : JudgePromise S U [] answer (record { chart = record { before = ownColumns; after = y }; found = record { before = ownFindings; after = g } })) where
+  p : Judges (pairVerdict (judgeShort ownColumns ownFindings) S U) S U answer (record { chart = record { before = ownColumns; after = y }; found = record { before = ownFindings; after = g } })
+  p = without-scopes S U answer _ .0 promised
+
+  tells : judgeTold answer ≡ judged (pairVerdict false S U) S U
   tells = rw own at (p .told)
 
   words-are : pairVerdict false S U ≡ Admitted → g .word ≡ overlay (wordsOf (findings S U)) (zeros 3072)

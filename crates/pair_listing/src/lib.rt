@@ -14,6 +14,8 @@ pub fn of_sheets(sheet: &[u64], uses: &[u64], output: &mut [u8]) -> usize
     requires { ⌜ roomForAll ≤ length (now output) ⌝ }
     ensures { λ r. ⌜ Printed (sheetsPrint (now (sheet .entry)) (now (uses .entry))) (now (output .entry)) (now (output .exit)) r ⌝ }
 {
+    // The program takes no scope sheet.
+    let scopes = [0u64; 0];
     let mut first = [0u64; NODES];
     let mut second = [0u64; NODES];
     let mut start = [0u64; NODES];
@@ -29,6 +31,7 @@ pub fn of_sheets(sheet: &[u64], uses: &[u64], output: &mut [u8]) -> usize
     let answer = judge::judge(
         sheet,
         uses,
+        &scopes,
         &mut first,
         &mut second,
         &mut start,

@@ -65,8 +65,9 @@ fn findings_hold(
     finding_end(span, words, span_from, n) == words.len()
 }
 
-// Whether judge answers and writes what is stored: the chart's cells, and the findings'.
+// Whether judge answers and writes what is stored: the chart's cells, and the findings'. What is stored has no scope sheet.
 pub fn judge_agrees(sheet: &[u64], uses: &[u64], stored: Stored, words: &[u64]) -> bool {
+    let scopes = [OLD; 0];
     let mut first = [OLD; NODES];
     let mut second = [OLD; NODES];
     let mut start = [OLD; NODES];
@@ -82,6 +83,7 @@ pub fn judge_agrees(sheet: &[u64], uses: &[u64], stored: Stored, words: &[u64]) 
     let answer = judge::judge(
         sheet,
         uses,
+        &scopes,
         &mut first,
         &mut second,
         &mut start,

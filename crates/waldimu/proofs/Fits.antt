@@ -5,22 +5,24 @@ use mathlib.Core.Bool.{Bool, false}
 use mathlib.Core.List.{List, [], _∷_, _++_}
 use Prim.Native.Nat.{ℕ, _≤_, _^_, _<_}
 use native.Mathlib.Omega.{arith}
-use lib.ListN.{length, getD}
+use lib.ListN.{getD}
 use Rattle.flow.specs.declared.Found.{Found}
 use Rattle.flow.specs.declared.Found.the-variants.{At, Nothing}
 use Rattle.flow.specs.declared.Verdict.{Verdict}
 use Rattle.flow.specs.declared.Verdict.the-variants.{Admitted, Refused}
 use Rattle.flow.specs.Sheet.{spanWords}
-use Rattle.flow.specs.Refusals.{one, number, sheetVerdict, pairVerdict}
+use Rattle.flow.specs.Refusals.{one, number, sheetVerdict}
+use Rattle.flow.specs.Scopes.{crossed, scopedVerdict}
 use Rattle.flow.specs.Answers.{told, tells, foundValues, countValues}
 use Rattle.flow.specs.Graph.{nodeCount, graph}
 use Rattle.flow.specs.Reachable.{nodeAt, canRun, run, countsOf, chart}
 use Rattle.flow.specs.Findings.{findings}
-use Rattle.flow.specs.Judge.{judge}
+use Rattle.flow.specs.Judge.{judged, judge}
 use Rattle.flow.proofs.NodeCount.{graph-count}
 use Rattle.flow.proofs.CodeNodes.{code-node}
 use Rattle.flow.proofs.Admission.{admitted, of-sheet, of-pair}
 use Rattle.flow.proofs.Few.{findings-few}
+use Rattle.flow.proofs.Scopes.{crossed-admitted, scoped-pair}
 use Rattle.answer_words.specs.Words.{orNone, runNode, CountsFit}
 
 -- a refusal has no values
@@ -54,16 +56,17 @@ chart-fits short S = go (sheetVerdict short S) refl
     go (Refused r) e = refused-fits (number r)
     go Admitted e = counts-fit S (of-sheet short S e .1) [] (omega arith)
 
-pub judge-fits : (short : Bool) (S U : List ℕ) → CountsFit (judge short S U)
+pub judge-fits : (short : Bool) (S U C : List ℕ) → CountsFit (judge short S U C)
 unfolding judge
-judge-fits short S U = go (pairVerdict short S U) refl
+judge-fits short S U C = go (scopedVerdict short S U C) refl
   where
-    go : (v : Verdict) → pairVerdict short S U ≡ v → CountsFit (tells v (countValues (countsOf (graph S)) ++ (length (findings S U) ∷ [])))
+    go : (v : Verdict) → scopedVerdict short S U C ≡ v → CountsFit (judged v S (crossed S U C))
     go (Refused r) e = refused-fits (number r)
     go Admitted e =
-        let j = of-pair short S U e in
+        let j = of-pair short S U (scoped-pair short S U C e) in
         let a = admitted S (j .sheet) in
-        counts-fit S (j .sheet) _ (omega (arith, findings-few S U (omega (arith, a .allNames, a .fewNames)) (omega (arith, j .uses .uses, j .uses .few))))
+        let u = crossed-admitted S U C (j .uses) in
+        counts-fit S (j .sheet) _ (omega (arith, findings-few S (crossed S U C) (omega (arith, a .allNames, a .fewNames)) (omega (arith, u .uses, u .few))))
 
 pub run-fits : (S : List ℕ) (o : ℕ) → runNode (run S o) < 2 ^ 32
 unfolding run

@@ -21,11 +21,11 @@ pub record ChartForC (S : List ℕ) (r : ℕ) (l : Lent) : Type 0 where
   pub answer : ChartAnswer
   pub promise : ChartPromise S answer l
 
-pub record JudgeForC (S U : List ℕ) (r : ℕ) (l : JudgeLent) : Type 0 where
-  pub word : r ≡ countsWord (judge (short l) S U)
-  pub fields : CountFields r (judge (short l) S U)
+pub record JudgeForC (S U C : List ℕ) (r : ℕ) (l : JudgeLent) : Type 0 where
+  pub word : r ≡ countsWord (judge (short l) S U C)
+  pub fields : CountFields r (judge (short l) S U C)
   pub answer : JudgeAnswer
-  pub promise : JudgePromise S U answer l
+  pub promise : JudgePromise S U C answer l
 
 pub record RunForC (S : List ℕ) (o r : ℕ) : Type 0 where
   pub word : r ≡ runWord (run S o)

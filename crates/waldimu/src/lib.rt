@@ -41,6 +41,7 @@ pub extern "C" fn waldimu_chart(
 pub extern "C" fn waldimu_judge(
     sheet: &[u64],
     uses: &[u64],
+    scopes: &[u64],
     first: &mut [u64],
     second: &mut [u64],
     start: &mut [u64],
@@ -54,11 +55,12 @@ pub extern "C" fn waldimu_judge(
     finding_span: &mut [u64],
     mark: &mut [u64],
 ) -> u64
-    ensures { λ r. ⌜ JudgeForC (held sheet) (held uses) r (judgeLent (lent first second start reachable «code_span» «code_node» «name_span» «name_node» «name_end») «finding_word» «finding_span» mark) ⌝ }
+    ensures { λ r. ⌜ JudgeForC (held sheet) (held uses) (held scopes) r (judgeLent (lent first second start reachable «code_span» «code_node» «name_span» «name_node» «name_end») «finding_word» «finding_span» mark) ⌝ }
 {
     judge_word(judge::judge(
         sheet,
         uses,
+        scopes,
         first,
         second,
         start,

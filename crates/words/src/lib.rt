@@ -3,6 +3,7 @@ pub mod exit;
 pub mod finding;
 pub mod kind;
 pub mod limit;
+pub mod scope_kind;
 pub mod use_kind;
 
 // In a file a word has eight bytes,

@@ -4,5 +4,8 @@ pub const ITEMS: usize = 1024;
 // the most openers that are not closed yet,
 pub const DEPTH: usize = 64;
 
-// and the most nodes of its graph.
+// the most nodes of its graph,
 pub const NODES: usize = 1600;
+
+// and the most scopes of a scope sheet.
+pub const SCOPES: usize = 512;

@@ -1,11 +1,17 @@
--- `findings::find_all` meets its contract: the parts of both sheets are what the search for findings asks, and the words that it lists tell the spans.
+-- `findings::find_all` meets its contract: the parts of the sheet and the uses are what the search for findings asks, and the words that it lists tell the spans.
 -- Assumes nothing.
+use mathlib.Core.Path.{_≡_, sym}
+use mathlib.Core.List.{List}
+use Prim.Native.Nat.{ℕ}
 use native.Mathlib.Omega.{arith}
 use denote.Ref.{now}
-use lib.ListN.{length, length-map}
+use lib.ListN.{length, length-map, length-append}
+use Rattle.flow.specs.Sheet.{useSpans}
+use Rattle.flow.specs.Scopes.{useSheet}
 use Rattle.flow.specs.Locals.{locals}
 use Rattle.flow.specs.Findings.{findings}
 use Rattle.flow.specs.Judge.{wordsOf}
+use Rattle.flow.proofs.Scopes.{sheet-words, sheet-spans}
 use Rattle.locals.specs.Entries.{Added}
 use Rattle.unassigned.specs.Pass.{Figures}
 use Rattle.local_flow.specs.Sheets.{Sheets}
@@ -16,48 +22,58 @@ use Rattle.findings.proofs.find_all.Tie as tie
 
 -- ---- where the parts are taken
 
-module _ (c : tie.After-use-spans) where
+module _ (c : tie.After-kinds) where
   abbrev begun : tie.Start
-  begun = let k = c .before .before .before .before .before in k .before .before .before .before .before .before .before .before .before .before .before
+  begun = let k = c .before .before .before .before .before .before .before .before in k .before .before .before .before .before .before .before
+
+  abbrev S : List ℕ
+  S = now (begun .args .sheet)
+
+  abbrev ws : List ℕ
+  ws = now (begun .args .use-words)
+
+  abbrev ss : List ℕ
+  ss = now (begun .args .use-spans)
+
+  -- the use sheet of these two arrays
+  abbrev U : List ℕ
+  U = useSheet ws ss
+
+  spans-are : ss ≡ useSpans U
+  spans-are = sym (sheet-spans ws ss (omega (arith, begun .pre .0 .1 .words, length-append ws ss)))
 
   parts :
       let a = begun .args in
-      Sheets (now (a .sheet)) (now (a .uses)) (a .counts .nodes) (a .counts .codes) (now (c .before .before .kinds .result)) (now (a .first)) (now (a .second)) (now (a .start)) (now (a .code-span)) (now (a .code-node)) (now (a .name-node)) (now (a .name-end)) (now (c .before .use-words .result)) (now (c .use-spans .result))
-  parts = in-parts (begun .args .counts) (now (begun .args .name-span)) (c .before .before .kinds .ensures) (c .before .use-words .ensures) (c .use-spans .ensures) (begun .pre .1 .0)
+      Sheets S U (a .counts .nodes) (a .counts .codes) (now (c .kinds .result)) (now (a .first)) (now (a .second)) (now (a .start)) (now (a .code-span)) (now (a .code-node)) (now (a .name-node)) (now (a .name-end)) ws ss
+  parts = in-parts (begun .args .counts) (now (begun .args .name-span)) (c .kinds .ensures) (sym (sheet-words ws ss)) spans-are (begun .pre .1 .0)
 
 -- ---- where the words are listed
 
 module _ (c : tie.After-compute) where
-  abbrev taken : tie.After-use-spans
+  abbrev taken : tie.After-kinds
   taken = c .before .before .before
 
   listed :
       let a = begun taken .args in
       let l = c .compute .last .1 .1 .1 .1 .1 .1 .1 .1 .1 .1 in
-      Added (wordsOf (findings (now (a .sheet)) (now (a .uses)))) 0 (now (a .finding-word)) (c .compute .result) (l .0) × Figures (now (a .sheet)) (now (a .uses)) (length (locals (now (a .sheet)))) (now (a .mark)) (l .1 .0)
-  listed = c .compute .ensures (now (begun taken .args .sheet)) (now (begun taken .args .uses)) (parts taken)
+      Added (wordsOf (findings (S taken) (U taken))) 0 (now (a .finding-word)) (c .compute .result) (l .0) × Figures (S taken) (U taken) (length (locals (S taken))) (now (a .mark)) (l .1 .0)
+  listed = c .compute .ensures (S taken) (U taken) (parts taken)
 
 kinds-requires : tie.Need-kinds-requires
 kinds-requires c κs = search needs
-
-use-words-requires : tie.Need-use-words-requires
-use-words-requires c κs = search needs
-
-use-spans-requires : tie.Need-use-spans-requires
-use-spans-requires c κs = search needs
 
 compute-requires : tie.Need-compute-requires
 compute-requires c κs =
     let d = c .before .before in
     let l = begun d .pre .1 .1 in
-    ((now (begun d .args .sheet), now (begun d .args .uses), parts d), (omega (arith, l .0, l .1), l .2))
+    ((S d, U d, parts d), (omega (arith, l .0, l .1), l .2))
 
 write-spans-requires : tie.Need-write-spans-requires
 write-spans-requires c κs =
     let k : tie.After-compute = c .before .before .before .before .before .before in
     let d = taken k in
     let p = begun d .pre in
-    (known (p .0 .0) (p .0 .1) (begun d .args .counts) (now (begun d .args .name-span)) (p .1 .0) (listed k .0) (d .use-spans .ensures), omega (arith, listed k .0 .counted, length-map (findings (now (begun d .args .sheet)) (now (begun d .args .uses))) (λ f. f .word), all-few (p .0 .0) (p .0 .1), p .1 .1 .1))
+    (known (p .0 .0) (p .0 .1) (begun d .args .counts) (now (begun d .args .name-span)) (p .1 .0) (listed k .0) (spans-are d), omega (arith, listed k .0 .counted, length-map (findings (S d) (U d)) (λ f. f .word), all-few (p .0 .0) (p .0 .1), p .1 .1 .1))
 
 same-length : tie.Need-same-length
 same-length c = search needs
@@ -74,15 +90,13 @@ returns c =
     let k : tie.After-compute = w .before .before .before .before .before .before .before in
     let d = taken k in
     let p = begun d .pre in
-    found (p .0 .0) (p .0 .1) (begun d .args .counts) (now (begun d .args .name-span)) (p .1 .0) (listed k .0) (d .use-spans .ensures) (w .write-spans .ensures) (listed k .1)
+    found (p .0 .0) (p .0 .1) (begun d .args .counts) (now (begun d .args .name-span)) (p .1 .0) (listed k .0) (spans-are d) (w .write-spans .ensures) (listed k .1)
 
 pub find-all-spec : {M : Type 1} → statement M
 find-all-spec =
     tie.close
     (tie.spec
     kinds-requires
-    use-words-requires
-    use-spans-requires
     compute-requires
     write-spans-requires
     same-length

@@ -8,8 +8,9 @@ use Prim.Native.Nat.{ℕ}
 use denote.Ref.{now}
 use lib.ListN.{length}
 use Rattle.column_lengths.specs.Lengths.{judgeTooShort}
-use Rattle.flow.specs.Refusals.{pairVerdict}
+use Rattle.flow.specs.Scopes.{scopedVerdict}
 use Rattle.flow.proofs.Admission.{admitted}
+use Rattle.flow.proofs.Scopes.{scoped-fits}
 use Rattle.chart.specs.Lent.{Columns, columns}
 use Rattle.findings.specs.Accepted.{FindingColumns}
 use Rattle.judge.specs.Lent.{judgeShort}
@@ -19,15 +20,18 @@ use Rattle.judge.proofs.judge.Tie as tie
 
 -- ---- where the verdict is known
 
-module _ (c : tie.After-pair-verdict) where
+module _ (c : tie.After-scoped-verdict) where
   abbrev begun : tie.Start
-  begun = let k = c .before .before .before .before .before .before .before .before .before in k .before .before .before .before .before .before .before .before
+  begun = let k = c .before .before .before .before .before .before .before .before .before in k .before .before .before .before .before .before .before .before .before
 
   abbrev S : List ℕ
   S = now (begun .args .sheet)
 
   abbrev U : List ℕ
   U = now (begun .args .uses)
+
+  abbrev C : List ℕ
+  C = now (begun .args .scopes)
 
   abbrev x : Columns
   x =
@@ -37,10 +41,10 @@ module _ (c : tie.After-pair-verdict) where
   abbrev f : FindingColumns
   f = let a = begun .args in record { word = now (a .finding-word); span = now (a .finding-span); mark = now (a .mark) }
 
-  verdict-is : pairVerdict (judgeShort x f) S U ≡ c .pair-verdict .result
+  verdict-is : scopedVerdict (judgeShort x f) S U C ≡ c .scoped-verdict .result
   verdict-is =
       let measured = c .before .judge-short .ensures ∙ ap (judgeTooShort (length (f .word) ∷ length (f .span) ∷ []) (length (f .mark) ∷ [])) (c .before .before .chart-short .ensures) in
-      sym (c .pair-verdict .ensures ∙ ap (λ (b : Bool). pairVerdict b S U) measured)
+      sym (c .scoped-verdict .ensures ∙ ap (λ (b : Bool). scopedVerdict b S U C) measured)
 
 chart-short-requires : tie.Need-chart-short-requires
 chart-short-requires c κs = search needs
@@ -48,14 +52,14 @@ chart-short-requires c κs = search needs
 judge-short-requires : tie.Need-judge-short-requires
 judge-short-requires c κs = search needs
 
-pair-verdict-requires : tie.Need-pair-verdict-requires
-pair-verdict-requires c κs = search needs
+scoped-verdict-requires : tie.Need-scoped-verdict-requires
+scoped-verdict-requires c κs = search needs
 
 enum-known-verdict : tie.Need-enum-known-verdict
 enum-known-verdict c = search needs
 
 returns : tie.Need-returns
-returns c = let d = c .before .before .before in judge-refused (S d) (U d) (x d) (f d) (verdict-is d ∙ c .before .verdict .given .1)
+returns c = let d = c .before .before .before in judge-refused (S d) (U d) (C d) (x d) (f d) (verdict-is d ∙ c .before .verdict .given .1)
 
 enum-told : tie.Need-enum-told
 enum-told c = search needs
@@ -65,8 +69,8 @@ of-sheets-requires c κs =
     let t = c .before .before .before .before .before .before .before .before .before .before .before .before in
     let d = t .before .before in
     let e = verdict-is d ∙ t .enum-told .given .1 in
-    let k = ok (S d) (U d) (x d) (f d) e in
-    ((admitted (S d) (k .sheet), k .uses, k .sheet), wide-enough (S d) (U d) (x d) (f d) e)
+    let k = ok (S d) (U d) (C d) (x d) (f d) e in
+    ((admitted (S d) (k .sheet), k .uses, scoped-fits _ (S d) (U d) (C d) e, k .sheet), wide-enough (S d) (U d) (C d) (x d) (f d) e)
 
 same-length : tie.Need-same-length
 same-length c = search needs
@@ -111,7 +115,7 @@ returns-2 c =
     let i = o .before .before .before .before .before .before .before .before .before .before .before .before in
     let t = i .before in
     let d = t .before .before in
-    judge-accepted (S d) (U d) (x d) (f d) (verdict-is d ∙ t .enum-told .given .1) (o .of-sheets .ensures)
+    judge-accepted (S d) (U d) (C d) (x d) (f d) (verdict-is d ∙ t .enum-told .given .1) (o .of-sheets .ensures)
 
 pub judge-spec : {M : Type 1} → statement M
 judge-spec =
@@ -119,7 +123,7 @@ judge-spec =
     (tie.spec
     chart-short-requires
     judge-short-requires
-    pair-verdict-requires
+    scoped-verdict-requires
     enum-known-verdict
     returns
     enum-told

@@ -1,25 +1,34 @@
 -- `judging::of_sheets` meets its contract: a chart's columns are what the search for findings asks.
 -- Assumes nothing.
 use borrow.Author.Needs.{needs}
-use Rattle.findings.proofs.Judging.{sheets, accepted}
+use mathlib.Core.Path.{sym, _∙_}
+use denote.Ref.{now}
+use Rattle.flow.proofs.Scopes.{crossed-admitted}
+use Rattle.findings.proofs.Judging.{all-names, sheets, accepted}
 use Rattle.judging.proofs.of_sheets.Statement.{statement}
 use Rattle.judging.proofs.of_sheets.Tie as tie
 
 -- ---- where the chart is written
 
 abbrev begun : tie.After-of-sheet → tie.Start
-begun c = let k = c .before .before .before .before .before .before .before .before .before .before .before .before in k .before .before .before .before .before .before .before .before .before .before .before .before
+begun c =
+    let k = c .before .before .before .before .before .before .before .before .before .before in
+    let l = k .before .before .before .before .before .before .before .before in
+    l .before .before .before .before .before .before .before
 
 of-sheet-requires : tie.Need-of-sheet-requires
 of-sheet-requires c κs = search needs
 
-find-all-requires : tie.Need-find-all-requires
-find-all-requires c κs =
+find-scoped-requires : tie.Need-find-scoped-requires
+find-scoped-requires c κs =
     let k = c .before .before .before .before .before .before .before .before .before .before .before .before in
     let l = k .before .before .before .before .before .before .before .before .before .before .before .before in
     let d = l .before .before .before .before .before in
     let p = begun d .pre in
-    ((p .0 .0, p .0 .1), (sheets (p .0 .2) (p .0 .0) (p .0 .1) (d .of-sheet .ensures), p .1 .1))
+    let a = begun d .args in
+    let h = d .of-sheet .ensures in
+    let u = crossed-admitted (now (a .sheet)) (now (a .uses)) (now (a .scopes)) (p .0 .1) in
+    ((p .0 .0, p .0 .1, p .0 .2, all-names (p .0 .3) (p .0 .0) u h ∙ sym (p .0 .1 .names)), (sheets (p .0 .3) (p .0 .0) u h, p .1 .1))
 
 same-length : tie.Need-same-length
 same-length c = search needs
@@ -63,14 +72,14 @@ returns c =
     let k = f .before .before .before .before .before .before .before .before .before .before .before .before in
     let l = k .before .before .before .before .before .before .before .before .before .before .before .before in
     let d = l .before .before .before .before .before .before in
-    accepted (begun d .pre .0 .0) (d .of-sheet .ensures) (f .find-all .ensures)
+    accepted (begun d .pre .0 .0) (d .of-sheet .ensures) (f .find-scoped .ensures)
 
 pub of-sheets-spec : {M : Type 1} → statement M
 of-sheets-spec =
     tie.close
     (tie.spec
     of-sheet-requires
-    find-all-requires
+    find-scoped-requires
     same-length
     same-length-2
     same-length-3

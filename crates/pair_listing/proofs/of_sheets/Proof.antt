@@ -17,7 +17,7 @@ use Rattle.pair_listing.proofs.of_sheets.Tie as tie
 
 -- the function's start, past the listing's own columns
 abbrev start : tie.After-judge → tie.Start
-start c = let f : tie.After-first = c .before .before .before .before .before .before .before .before .before .before .before .before in f .before .before .before .before
+start c = let f : tie.After-first = c .before .before .before .before .before .before .before .before .before .before .before .before in f .before .before .before .before .before
 
 abbrev sheet : tie.After-judge → List ℕ
 sheet c = start c .args .sheet .now
@@ -26,22 +26,22 @@ abbrev uses : tie.After-judge → List ℕ
 uses c = start c .args .uses .now
 
 abbrev flags : tie.After-judge → List ℕ
-flags c = c .judge .last .1 .1 .1 .1 .1 .0
+flags c = c .judge .last .1 .1 .1 .1 .1 .1 .0
 
 abbrev words : tie.After-judge → List ℕ
-words c = let l = c .judge .last .1 .1 .1 .1 .1 in l .1 .1 .1 .1 .1 .1 .0
+words c = let l = c .judge .last .1 .1 .1 .1 .1 .1 in l .1 .1 .1 .1 .1 .1 .0
 
 abbrev spans : tie.After-judge → List ℕ
-spans c = let l = c .judge .last .1 .1 .1 .1 .1 in l .1 .1 .1 .1 .1 .1 .1 .0
+spans c = let l = c .judge .last .1 .1 .1 .1 .1 .1 in l .1 .1 .1 .1 .1 .1 .1 .0
 
 flags-long : (c : tie.After-judge) → length (flags c) ≡ 1600
-flags-long c = c .judge .kept .1 .1 .1 .1 .1 .0
+flags-long c = c .judge .kept .1 .1 .1 .1 .1 .1 .0
 
 words-long : (c : tie.After-judge) → length (words c) ≡ 3072
-words-long c = let k = c .judge .kept .1 .1 .1 .1 .1 in k .1 .1 .1 .1 .1 .1 .0
+words-long c = let k = c .judge .kept .1 .1 .1 .1 .1 .1 in k .1 .1 .1 .1 .1 .1 .0
 
 spans-long : (c : tie.After-judge) → length (spans c) ≡ 3072
-spans-long c = let k = c .judge .kept .1 .1 .1 .1 .1 in k .1 .1 .1 .1 .1 .1 .1 .0
+spans-long c = let k = c .judge .kept .1 .1 .1 .1 .1 .1 in k .1 .1 .1 .1 .1 .1 .1 .0
 
 few : (c : tie.After-judge) → findingsTold (judgeTold (c .judge .result)) ≤ 3072
 few c = held (sheet c) (uses c) (c .judge .ensures) (words-long c)
@@ -84,6 +84,9 @@ slice-aggregate-judge-11 c = search needs
 
 slice-aggregate-judge-12 : tie.Need-slice-aggregate-judge-12
 slice-aggregate-judge-12 c = search needs
+
+slice-aggregate-judge-13 : tie.Need-slice-aggregate-judge-13
+slice-aggregate-judge-13 c = search needs
 
 judge-requires : tie.Need-judge-requires
 judge-requires c κs = search needs
@@ -129,6 +132,7 @@ of-sheets-spec =
     slice-aggregate-judge-10
     slice-aggregate-judge-11
     slice-aggregate-judge-12
+    slice-aggregate-judge-13
     judge-requires
     slice-aggregate-answered
     slice-aggregate-answered-2

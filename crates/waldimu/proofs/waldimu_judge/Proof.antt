@@ -2,6 +2,7 @@
 use borrow.Author.Needs.{needs}
 use mathlib.Core.Path.{sym, ap, _∙_, subst}
 use Rattle.answer_words.specs.Words.{CountsFit, CountFields, countsWord}
+use Rattle.judge.proofs.Promises.{told}
 use Rattle.waldimu.proofs.Fits.{judge-fits}
 use Rattle.waldimu.proofs.waldimu_judge.Statement.{statement}
 use Rattle.waldimu.proofs.waldimu_judge.Tie as tie
@@ -17,7 +18,7 @@ judge-requires : tie.Need-judge-requires
 judge-requires c κs = search needs
 
 judge-word-requires : tie.Need-judge-word-requires
-judge-word-requires c κs = subst CountsFit (sym (called c .judge .ensures .told)) (judge-fits _ _ _)
+judge-word-requires c κs = subst CountsFit (sym (told (called c .judge .ensures))) (judge-fits _ _ _ _)
 
 same-length : tie.Need-same-length
 same-length c = search needs
@@ -58,7 +59,7 @@ same-length-12 c = search needs
 returns : tie.Need-returns
 returns c =
     let p = called (c .before) .judge .ensures in
-    record { word = c .judge-word .ensures .0 ∙ ap countsWord (p .told); fields = subst (CountFields (c .judge-word .result)) (p .told) (c .judge-word .ensures .1); answer = _; promise = p }
+    record { word = c .judge-word .ensures .0 ∙ ap countsWord (told p); fields = subst (CountFields (c .judge-word .result)) (told p) (c .judge-word .ensures .1); answer = _; promise = p }
 
 pub waldimu-judge-spec : {M : Type 1} → statement M
 waldimu-judge-spec =

@@ -1,0 +1,3 @@
+pub mod Notes
+pub mod Tables
+pub mod Word
