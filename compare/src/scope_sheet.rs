@@ -172,6 +172,9 @@ pub const WAYS: &[(&str, Way)] = &[
     ("parent word past 32 bits", |random, sheet| {
         rescope(random, sheet, 0, |scope, _| scope.1 += 1 << 32)
     }),
+    ("parent word past 2^63", |random, sheet| {
+        rescope(random, sheet, 0, |scope, _| scope.1 += 1 << 63)
+    }),
     ("name's scope not in it", |random, sheet| {
         let mut spoilt = sheet.clone();
         move_out(random, &mut spoilt.of_names, sheet.scopes.len()).then(|| spoilt.words())
