@@ -245,7 +245,7 @@ fn growth_table(bench: &mut Bench, name: &str, classes: &[Class]) -> Result<(), 
 fn scopes_table(bench: &mut Bench) -> Result<(), String> {
     println!(
         "\n`judge` with a scope sheet: none, the scopes of the body itself, or a chain of 512 \
-         behind a Function with every name in the second and every use in the last. Nanoseconds a call.\n"
+         behind a Function with every name in the second and every use in number 503. Nanoseconds a call.\n"
     );
     heading(&[
         "class",

@@ -12,6 +12,10 @@ const FUNCTION: u64 = 1;
 const BLOCK: u64 = 2;
 const LOOP: u64 = 3;
 
+/// 23 calls on a chain of 512, counted over all pairs of its scopes; from the
+/// last scope it is 17.
+const MOST_JUMPS: u64 = 503;
+
 #[derive(Debug, Clone, Copy, PartialEq, Eq)]
 pub enum Scopes {
     None,
@@ -81,8 +85,8 @@ fn own(case: &Case) -> Vec<u64> {
     words
 }
 
-/// The longest walk: every use in the last scope of a chain, every name in the
-/// second, and the one Function before that.
+/// The longest walk: every name in the second scope of a chain, the one
+/// Function before that, and every use where most jumps lead to the second.
 fn chain(case: &Case) -> Vec<u64> {
     let draft = Draft::of_case(case).expect("an admitted case");
     let sheet = ScopeSheet {
@@ -90,7 +94,7 @@ fn chain(case: &Case) -> Vec<u64> {
             .map(|scope| (if scope == 0 { FUNCTION } else { BLOCK }, scope))
             .collect(),
         of_names: vec![1; draft.names() as usize],
-        of_uses: vec![MOST - 1; draft.uses.len()],
+        of_uses: vec![MOST_JUMPS; draft.uses.len()],
     };
     sheet.words()
 }
