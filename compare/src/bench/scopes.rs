@@ -90,9 +90,7 @@ fn own(case: &Case) -> Vec<u64> {
 fn chain(case: &Case) -> Vec<u64> {
     let draft = Draft::of_case(case).expect("an admitted case");
     let sheet = ScopeSheet {
-        scopes: (0..MOST)
-            .map(|scope| (if scope == 0 { FUNCTION } else { BLOCK }, scope))
-            .collect(),
+        scopes: (0..MOST).map(|scope| (if scope == 0 { FUNCTION } else { BLOCK }, scope)).collect(),
         of_names: vec![1; draft.names() as usize],
         of_uses: vec![MOST_JUMPS; draft.uses.len()],
     };
