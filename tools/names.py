@@ -32,7 +32,7 @@ def files(root):
 def in_snake_case(name):
     if name in OTHER:
         return OTHER[name]
-    return re.sub(r"(?<=[a-z0-9])[A-Z]", lambda m: "_" + m[0].lower(), name).replace("-", "_")
+    return re.sub(r"(?<=[A-Za-z0-9])[A-Z](?=[a-z]|[A-Z][a-z])|(?<=[a-z0-9])[A-Z]", lambda m: "_" + m[0].lower(), name).replace("-", "_")
 
 
 def turns(name):

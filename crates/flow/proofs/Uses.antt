@@ -19,7 +19,7 @@ use Rattle.flow.specs.Sheet.{all, start_of, use_words, use_spans, local_of, use_
 use Rattle.flow.specs.Graph.{graph}
 use Rattle.flow.specs.Reachable.{node_at}
 use Rattle.flow.specs.Locals.{local_at, is_in_closure, only_if}
-use Rattle.flow.specs.Findings.{Use, node_of, uses_from, uses_of, all_found, Meeting, no_use, a_read, a_pure_write, meeting, first_at, is_no_use, is_aRead, is_aPure_write, is_read, is_write, or_else}
+use Rattle.flow.specs.Findings.{Use, node_of, uses_from, uses_of, all_found_law, Meeting, no_use, a_read, a_pure_write, meeting, first_at, is_no_use, is_a_read, is_a_pure_write, is_read, is_write, or_else}
 use Rattle.flow.specs.Demand.{use_word, use_span, Own, OwnAt, AtNode, AllFound, PureWrite, IsRead, IsWrite}
 use Rattle.flow.proofs.Laws.{found_law, Next, next_split, next_unique, next_here, next_skip, next_past, and_law, or_map, eqb_law, mem_append, mem_one, mem_only}
 
@@ -74,14 +74,14 @@ module _ (S U : List ℕ) (ℓ : ℕ) where
 
   -- ---- "whose uses all find a node"
 
-  found_from : {k : ℕ} {us : List Use} → From S U ℓ k us → (all_found us ≡ true) ↔ ((u : ℕ) → k ≤ u → Own U ℓ u → (v : ℕ) × AtNode S U u v)
-  unfolding all_found all
+  found_from : {k : ℕ} {us : List Use} → From S U ℓ k us → (all_found_law us ≡ true) ↔ ((u : ℕ) → k ≤ u → Own U ℓ u → (v : ℕ) × AtNode S U u v)
+  unfolding all_found_law all
   found_from (end h) = (λ e u l o. absurd (h u l o), λ q. refl)
   found_from {k} (one {u = u} {us = us} n r) =
       let both = and_law (found_law (node_at (graph S) (start_of (use_span U u)))) (found_from r) in
       (λ e x l o. ⊎_elim (λ (q : x ≡ u). subst (λ y. (v : ℕ) × AtNode S U y v) (sym q) (both.0 e).0) (λ h. (both.0 e).1 x h o) (next_split n x l o), λ q. both.1 (q u n.from n.here, λ x l o. q x (omega (arith, n.from)) o))
 
-  pub all_found_law : (all_found (uses_of S U ℓ) ≡ true) ↔ AllFound S U ℓ
+  pub all_found_law : (all_found_law (uses_of S U ℓ) ≡ true) ↔ AllFound S U ℓ
   all_found_law = let f = found_from from_all in (λ e u o. f.0 e u (omega arith) o, λ q. f.1 (λ u l o. q u o))
 
 -- what the first own use at v from k on is, as `first_at` says it
@@ -118,7 +118,7 @@ is_use : (b : Bool) → is_no_use (cond b a_read a_pure_write) ≡ false
 is_use true = refl
 is_use false = refl
 
-is_lost : (b c : Bool) → or_else (cond b a_read a_pure_write) c ≡ is_aPure_write (cond b a_read a_pure_write)
+is_lost : (b c : Bool) → or_else (cond b a_read a_pure_write) c ≡ is_a_pure_write (cond b a_read a_pure_write)
 is_lost true c = refl
 is_lost false c = refl
 
@@ -136,9 +136,9 @@ module _ {S U : List ℕ} {ℓ v k : ℕ} {r : Meeting} where
   first_some (none h e) = (λ q. absurd (true≢false (sym (ap is_no_use e) ∙ q)), λ q. absurd (h q.0 q.1 q.2))
 
   -- the next is such, or there is none and B
-  pub first_lost : {P : ℕ → Type 0} → Tells S U ℓ is_aPure_write P → FirstIs S U ℓ v k r → {b : Bool} {B : Type 0} → (b ≡ true) ↔ B → (or_else r b ≡ true) ↔ (((u : ℕ) × Next (λ w. OwnAt S U ℓ w v) k u × P u) ⊎ (((u : ℕ) → Next (λ w. OwnAt S U ℓ w v) k u → ⊥) × B))
+  pub first_lost : {P : ℕ → Type 0} → Tells S U ℓ is_a_pure_write P → FirstIs S U ℓ v k r → {b : Bool} {B : Type 0} → (b ≡ true) ↔ B → (or_else r b ≡ true) ↔ (((u : ℕ) × Next (λ w. OwnAt S U ℓ w v) k u × P u) ⊎ (((u : ℕ) → Next (λ w. OwnAt S U ℓ w v) k u → ⊥) × B))
   first_lost t (is u n e) {b} f =
-      let same : or_else r b ≡ is_aPure_write r = ap (λ x. or_else x b) e ∙ is_lost (is_read (entry S U ℓ u)) b ∙ sym (ap is_aPure_write e) in
+      let same : or_else r b ≡ is_a_pure_write r = ap (λ x. or_else x b) e ∙ is_lost (is_read (entry S U ℓ u)) b ∙ sym (ap is_a_pure_write e) in
       let told = first_tells t (is u n e) in
       (λ q. inl (told.0 (sym same ∙ q)), λ q. ⊎_elim (λ x. same ∙ told.1 x) (λ x. absurd (x.0 u n)) q)
   first_lost t (none h e) {b} f =
@@ -158,11 +158,11 @@ write_kind (suc zero) h = (λ e. inl refl, λ q. refl)
 write_kind (suc (suc zero)) h = (λ e. inr refl, λ q. refl)
 write_kind (suc (suc (suc k))) h = absurd (omega arith)
 
-met_read : (b : Bool) {A : Type 0} → (b ≡ true) ↔ A → (is_aRead (cond b a_read a_pure_write) ≡ true) ↔ A
+met_read : (b : Bool) {A : Type 0} → (b ≡ true) ↔ A → (is_a_read (cond b a_read a_pure_write) ≡ true) ↔ A
 met_read true f = f
 met_read false f = f
 
-met_write : (b : Bool) {A : Type 0} → (b ≡ true) ↔ A → (is_aPure_write (cond (not b) a_read a_pure_write) ≡ true) ↔ A
+met_write : (b : Bool) {A : Type 0} → (b ≡ true) ↔ A → (is_a_pure_write (cond (not b) a_read a_pure_write) ≡ true) ↔ A
 met_write true f = f
 met_write false f = f
 
@@ -177,10 +177,10 @@ module _ (S U : List ℕ) (ℓ : ℕ) (kinds : Kinds U) where
   pub write_law : (u : ℕ) → Own U ℓ u → (is_write (entry S U ℓ u) ≡ true) ↔ IsWrite U u
   write_law u o = write_kind _ (kinds u o.below)
 
-  pub reads_tell : Tells S U ℓ is_aRead (IsRead U)
+  pub reads_tell : Tells S U ℓ is_a_read (IsRead U)
   reads_tell = record { no_use_law = refl; a_use = λ u o. met_read _ (read_law u o) }
 
-  pub writes_tell : Tells S U ℓ is_aPure_write (PureWrite U)
+  pub writes_tell : Tells S U ℓ is_a_pure_write (PureWrite U)
   writes_tell = record { no_use_law = refl; a_use = λ u o. met_write _ (eqb_law (use_kind_of (use_word U u)) 1) }
 
 -- ---- what the list holds

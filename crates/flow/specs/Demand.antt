@@ -84,7 +84,7 @@ pub record EmptyRead (S U : List Word) (ℓ : LocalNumber) (u : UseNumber) : Typ
 -- "for every tracked local whose uses all find a node"
 pub record Judgeable (S U : List Word) (ℓ : LocalNumber) : Type 0 where
   pub is_tracked : tracked (local_at S ℓ) ≡ true
-  pub all_found : AllFound S U ℓ
+  pub all_found_law : AllFound S U ℓ
 
 -- "The local is listed unassigned, with a use, exactly when it has no value and that use is the first of the reads .."
 pub record Unassigned (S U : List Word) (ℓ : LocalNumber) (u : UseNumber) : Type 0 where

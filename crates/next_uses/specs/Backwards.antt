@@ -6,7 +6,7 @@ use Rattle.search.specs.Worklist.{State}
 use Rattle.search.specs.Stamps.{flags_of, Unmarked, stamp_when}
 use Rattle.search.specs.Lent.{Column, held, left}
 use Rattle.flow.specs.Locals.{Declaration}
-use Rattle.flow.specs.Findings.{Meeting, meeting, is_aRead, is_aPure_write, Ahead, ahead}
+use Rattle.flow.specs.Findings.{Meeting, meeting, is_a_read, is_a_pure_write, Ahead, ahead}
 use Rattle.use_words.specs.Words.{node_in, use_of, uses_in}
 use Rattle.live_steps.specs.Walk.{chart, alive_in}
 use Rattle.predecessors.specs.Predecessors.{preds_of, Linked, passes}
@@ -14,8 +14,8 @@ use Rattle.uses_by_node.specs.Uses.{opens_node}
 
 -- the two sorts of a next use: a pure write, or a read
 abbrev pub sort_of : Bool → Meeting → Bool
-sort_of true = is_aPure_write
-sort_of false = is_aRead
+sort_of true = is_a_pure_write
+sort_of false = is_a_read
 
 -- the search starts at the node of place i: its first use is of the sort, and it is alive
 unfoldable pub starts_here : List ℕ → Declaration → List ℕ → Bool → ℕ → Bool

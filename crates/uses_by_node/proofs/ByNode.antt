@@ -16,7 +16,7 @@ use Rattle.flow.specs.Sheet.{member}
 use Rattle.flow.specs.Graph.{Graph, node_count}
 use Rattle.flow.specs.Reachable.{successors}
 use Rattle.flow.specs.Locals.{only_if, Declaration}
-use Rattle.flow.specs.Findings.{Use, node, is_read, is_write, is_alive_at, Meeting, no_use, a_read, a_pure_write, meeting, first_at, is_no_use, is_aRead, is_aPure_write, range, meets_here, predecessors, meets, or_else, Ahead, ahead, is_overwritten, is_overwritten_unread, overwritten_at, overwritten_below}
+use Rattle.flow.specs.Findings.{Use, node, is_read, is_write, is_alive_at, Meeting, no_use, a_read, a_pure_write, meeting, first_at, is_no_use, is_a_read, is_a_pure_write, range, meets_here, predecessors, meets, or_else, Ahead, ahead, is_overwritten, is_overwritten_unread, overwritten_at, overwritten_below}
 use Rattle.flow.proofs.Laws.{mem_append}
 use Rattle.flow.proofs.Members.{in_range}
 use Rattle.flow.proofs.OwnUses.{renumbered_overwritten}
@@ -171,7 +171,7 @@ module _ (g : Graph) (d : Declaration) (us vs : List Use) (same : (v : ℕ) → 
 
   pub ahead_alike : ahead g d us ≡ ahead g d vs
   unfolding ahead
-  ahead_alike = ap₂ (λ (r w : List ℕ). record { reads = r; writes = w }) (meets_alike is_aRead) (meets_alike is_aPure_write)
+  ahead_alike = ap₂ (λ (r w : List ℕ). record { reads = r; writes = w }) (meets_alike is_a_read) (meets_alike is_a_pure_write)
 
 pub ahead_by : (g : Graph) (d : Declaration) (n : ℕ) (us : List Use) → node_count g ≡ n → ahead g d (by_node n us) ≡ ahead g d us
 ahead_by g d n us e = ahead_alike g d (by_node n us) us (λ v h. first_by v n us (omega arith))
