@@ -16,8 +16,8 @@ WORD = r"[^\s(){}.;,@\"«»⌜⌝]+"
 # Names that would fall together with another, and what they are called instead: the definition with a parameter of a function of that name, and lemmas with
 # the definition that they are about, to which main() adds each dashed name whose words are those of another name.
 OTHER = {"nameNode": "node_of_name"}
-# Lemmas in snake case already that would so: the folder of files where they are turned, and what they are called instead.
-LEMMAS = {"all_found": (("flow", "tables"), "all_found_law"), "in_order": (("flow",), "in_order_law")}
+# Lemmas in snake case already that would so: the crates where they are turned, the definition that they would meet, and what they are called instead.
+LEMMAS = {"all_found": (("flow", "tables"), "allFound", "all_found_law"), "in_order": (("flow",), "inOrder", "in_order_law")}
 OWN = re.compile(r"Rattle\.(?!std\b|core\b|std_)\w+\b")
 
 
@@ -54,7 +54,7 @@ def foreign(text):
 
 
 def is_answer(path):
-    return os.path.basename(path) in ("Proof.antt", "Answers.antt", "Invariants.antt")
+    return os.path.basename(path) == "Proof.antt"
 
 
 def declared(path, text):
@@ -108,8 +108,8 @@ def turned(path, text, own):
 
     def word(m):
         w, before = m[0], m.string[max(0, m.start() - 5) : m.start()]
-        if w in LEMMAS and path.endswith(".antt") and crate in LEMMAS[w][0]:
-            return LEMMAS[w][1]
+        if w in LEMMAS and path.endswith(".antt") and crate in LEMMAS[w][0] and LEMMAS[w][1] in own:
+            return LEMMAS[w][2]
         if w not in here or w in keep:
             return w
         if before.endswith(("tie.", "goal.")):

@@ -1,7 +1,7 @@
 // The word in which an answer crosses to C.
 ghost use Rattle.std.specs.Prelude.{◌≡◌, ◌≤◌, ◌<◌, ◌^◌};
 ghost use Rattle.flow.specs.Refusals.{one};
-ghost use Rattle.flow.specs.Answers.{foundValues, chartTold, judgeTold, runTold, labelTold};
+ghost use Rattle.flow.specs.Answers.{found_values, chart_told, judge_told, run_told, label_told};
 ghost use Rattle.answer_words.specs.Words.{or_none, run_node, counts_word, run_word, label_word, CountsFit, CountFields, RunFields, LabelFields};
 
 use flow::{ChartAnswer, Counts, Found, JudgeAnswer, LabelAnswer, RunAnswer};
@@ -27,8 +27,8 @@ const YES: u64 = 0x10;
 const NODE: u64 = HALF;
 
 fn counts_word(counts: Counts, findings: usize) -> u64
-    requires { CountsFit (judgeTold (JudgeAnswer.Judged counts findings)) }
-    ensures { (result ≡ counts_word (judgeTold (JudgeAnswer.Judged counts findings))) × CountFields result (judgeTold (JudgeAnswer.Judged counts findings)) }
+    requires { CountsFit (judge_told (JudgeAnswer.Judged counts findings)) }
+    ensures { (result ≡ counts_word (judge_told (JudgeAnswer.Judged counts findings))) × CountFields result (judge_told (JudgeAnswer.Judged counts findings)) }
 {
     NODES * counts.nodes as u64
         + CODES * counts.codes as u64
@@ -37,8 +37,8 @@ fn counts_word(counts: Counts, findings: usize) -> u64
 }
 
 pub fn chart_word(answer: ChartAnswer) -> u64
-    requires { CountsFit (chartTold answer) }
-    ensures { (result ≡ counts_word (chartTold answer)) × CountFields result (chartTold answer) }
+    requires { CountsFit (chart_told answer) }
+    ensures { (result ≡ counts_word (chart_told answer)) × CountFields result (chart_told answer) }
 {
     match answer {
         ChartAnswer::Refused(refusal) => number(refusal),
@@ -47,8 +47,8 @@ pub fn chart_word(answer: ChartAnswer) -> u64
 }
 
 pub fn judge_word(answer: JudgeAnswer) -> u64
-    requires { CountsFit (judgeTold answer) }
-    ensures { (result ≡ counts_word (judgeTold answer)) × CountFields result (judgeTold answer) }
+    requires { CountsFit (judge_told answer) }
+    ensures { (result ≡ counts_word (judge_told answer)) × CountFields result (judge_told answer) }
 {
     match answer {
         JudgeAnswer::Refused(refusal) => number(refusal),
@@ -58,8 +58,8 @@ pub fn judge_word(answer: JudgeAnswer) -> u64
 
 // A node + 1, or 0 for none.
 fn node_word(found: Found) -> u64
-    requires { or_none (foundValues found) < 2 ^ 32 }
-    ensures { (result ≡ or_none (foundValues found)) × (result < 2 ^ 32) }
+    requires { or_none (found_values found) < 2 ^ 32 }
+    ensures { (result ≡ or_none (found_values found)) × (result < 2 ^ 32) }
 {
     match found {
         Found::At(node) => node as u64 + 1,
@@ -74,8 +74,8 @@ fn yes_bit(yes: bool) -> u64
 }
 
 pub fn run_word(answer: RunAnswer) -> u64
-    requires { run_node (runTold answer) < 2 ^ 32 }
-    ensures { (result ≡ run_word (runTold answer)) × RunFields result (runTold answer) }
+    requires { run_node (run_told answer) < 2 ^ 32 }
+    ensures { (result ≡ run_word (run_told answer)) × RunFields result (run_told answer) }
 {
     match answer {
         RunAnswer::Refused(refusal) => number(refusal),
@@ -84,7 +84,7 @@ pub fn run_word(answer: RunAnswer) -> u64
 }
 
 pub fn label_word(answer: LabelAnswer) -> u64
-    ensures { (result ≡ label_word (labelTold answer)) × LabelFields result (labelTold answer) }
+    ensures { (result ≡ label_word (label_told answer)) × LabelFields result (label_told answer) }
 {
     match answer {
         LabelAnswer::Refused(refusal) => number(refusal),

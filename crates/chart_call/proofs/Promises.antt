@@ -9,7 +9,7 @@ use Rattle.flow.specs.declared.Refusal.{Refusal}
 use Rattle.flow.specs.declared.Verdict.TheVariants.{Admitted, Refused}
 use Rattle.flow.specs.declared.ChartAnswer.TheVariants.{Charted as Answered, Refused as ChartRefused}
 use Rattle.flow.specs.Refusals.{sheet_verdict}
-use Rattle.flow.specs.Answers.{told, countValues}
+use Rattle.flow.specs.Answers.{told, count_values}
 use Rattle.flow.specs.Reachable.{chart}
 use Rattle.flow.specs.Admitted.{AdmittedSheet}
 use Rattle.flow.proofs.Admission.{admitted, of_sheet}
@@ -32,7 +32,7 @@ chart_refused x S e = record { told = rw e; columns = rw e; shown = λ q. let z 
 pub chart_accepted : (x : Columns) (S : List ℕ) {r : Counts} {y : Columns} → sheet_verdict (chart_short x) S ≡ Admitted → Charted S r (record { before = x; after = y }) → ChartPromise S (Answered r) (record { before = x; after = y })
 unfolding chart
 chart_accepted x S e h = record {
-  told = rw e (ap (λ (c : Counts). told 0 (countValues c)) h.counts);
+  told = rw e (ap (λ (c : Counts). told 0 (count_values c)) h.counts);
   columns = rw e h.written;
   shown = λ q. shown (sheet_admitted x S e) h;
 }

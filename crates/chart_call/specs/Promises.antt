@@ -4,12 +4,12 @@ use Rattle.std.specs.Prelude.{◌≡◌, List, ℕ}
 use Rattle.flow.specs.declared.Verdict.TheVariants.{Admitted}
 use Rattle.flow.specs.declared.ChartAnswer.{ChartAnswer}
 use Rattle.flow.specs.Refusals.{sheet_verdict}
-use Rattle.flow.specs.Answers.{chartTold}
+use Rattle.flow.specs.Answers.{chart_told}
 use Rattle.flow.specs.Reachable.{chart}
 use Rattle.chart.specs.Lent.{Lent, chart_short, chart_leaves, Shown}
 
 -- chart: its number and values, every lent cell, and what the columns of an accepted call show
 pub record ChartPromise (S : List ℕ) (r : ChartAnswer) (l : Lent) : Type 0 where
-  pub told : chartTold r ≡ chart (chart_short l.before) S
+  pub told : chart_told r ≡ chart (chart_short l.before) S
   pub columns : l.after ≡ chart_leaves (sheet_verdict (chart_short l.before) S) S l.before
   pub shown : sheet_verdict (chart_short l.before) S ≡ Admitted → Shown S l.after

@@ -59,7 +59,7 @@ module _ (S : List ℕ) (e : sheet_verdict false S ≡ Admitted) where
         shallow = passes.shallow;
         pairs = passes.pairs;
         beside = passes.beside;
-        in_order_law = passes.in_order_law;
+        in_order = passes.in_order;
         inside_scopes = passes.inside_scopes;
         names_inside = passes.named;
         tidy = tidy (kind_words S) (span_words S) as_many passes.pairs;
@@ -68,7 +68,7 @@ module _ (S : List ℕ) (e : sheet_verdict false S ≡ Admitted) where
         codes = codes;
         code_nodes = rw (graph_columns S).code_spans (graph_columns S).code_nodes;
         few_codes = rw codes (few_items _ (few_spans is_code (items S)));
-        ends = rw codes (ends_rise (items S) passes.fits passes.in_order_law);
+        ends = rw codes (ends_rise (items S) passes.fits passes.in_order);
         names = names;
         name_nodes = rw (graph_columns S).name_spans (graph_columns S).name_nodes;
         name_ends = rw (graph_columns S).name_spans (graph_columns S).name_ends;

@@ -1,4 +1,4 @@
--- Number and values tell the answer: a promise of what an answer tells is one of the answer itself. For readers: `chart_told`, `run_told`, `judge_told` and `label_told` say it of each call.
+-- Number and values tell the answer: a promise of what an answer tells is one of the answer itself. For readers: `chart_told_law`, `run_told_law`, `judge_told_law` and `label_told_law` say it of each call.
 -- Assumes nothing.
 use mathlib.Core.Path.{◌≡◌, refl, sym, ap, ◌∙◌}
 use mathlib.Core.Bool.{Bool, true, false, cond}
@@ -20,7 +20,7 @@ use Rattle.flow.specs.declared.JudgeAnswer.TheVariants.{Judged, Refused as Judge
 use Rattle.flow.specs.declared.LabelAnswer.{LabelAnswer}
 use Rattle.flow.specs.declared.LabelAnswer.TheVariants.{Yes, No, Refused as LabelRefused}
 use Rattle.flow.specs.Refusals.{number, one}
-use Rattle.flow.specs.Answers.{Told, foundValues, chartTold, runTold, judgeTold, labelTold}
+use Rattle.flow.specs.Answers.{Told, found_values, chart_told, run_told, judge_told, label_told}
 
 -- the refusal that has a number
 abbrev with_number : ℕ → Refusal
@@ -41,7 +41,7 @@ abbrev found_from : List ℕ → Found
 found_from [] = Nothing
 found_from (v ∷ vs) = At v
 
-found_back : (f : Found) → found_from (foundValues f) ≡ f
+found_back : (f : Found) → found_from (found_values f) ≡ f
 found_back (At v) = refl
 found_back Nothing = refl
 
@@ -63,33 +63,33 @@ judge_from t = cond (eqb t.number 0) (Judged (counts_from t.values) (get_or t.va
 abbrev label_from : Told → LabelAnswer
 label_from t = cond (eqb t.number 0) (cond (eqb (get_or t.values 0 0) 1) Yes No) (LabelRefused (with_number t.number))
 
-chart_back : (a : ChartAnswer) → chart_from (chartTold a) ≡ a
+chart_back : (a : ChartAnswer) → chart_from (chart_told a) ≡ a
 chart_back (ChartRefused r) = rw (refuses r, read_back r)
 chart_back (Charted c) = refl
 
-run_back : (a : RunAnswer) → run_from (runTold a) ≡ a
+run_back : (a : RunAnswer) → run_from (run_told a) ≡ a
 run_back (RunRefused r) = rw (refuses r, read_back r)
 run_back (Ran f can) = rw (found_back f, yes_back can)
 
-judge_back : (a : JudgeAnswer) → judge_from (judgeTold a) ≡ a
+judge_back : (a : JudgeAnswer) → judge_from (judge_told a) ≡ a
 judge_back (JudgeRefused r) = rw (refuses r, read_back r)
 judge_back (Judged c n) = refl
 
-label_back : (a : LabelAnswer) → label_from (labelTold a) ≡ a
+label_back : (a : LabelAnswer) → label_from (label_told a) ≡ a
 label_back (LabelRefused r) = rw (refuses r, read_back r)
 label_back Yes = refl
 label_back No = refl
 
 -- two answers that tell the same are the same
 
-pub chart_told : (a b : ChartAnswer) → chartTold a ≡ chartTold b → a ≡ b
-chart_told a b e = sym (chart_back a) ∙ ap chart_from e ∙ chart_back b
+pub chart_told_law : (a b : ChartAnswer) → chart_told a ≡ chart_told b → a ≡ b
+chart_told_law a b e = sym (chart_back a) ∙ ap chart_from e ∙ chart_back b
 
-pub run_told : (a b : RunAnswer) → runTold a ≡ runTold b → a ≡ b
-run_told a b e = sym (run_back a) ∙ ap run_from e ∙ run_back b
+pub run_told_law : (a b : RunAnswer) → run_told a ≡ run_told b → a ≡ b
+run_told_law a b e = sym (run_back a) ∙ ap run_from e ∙ run_back b
 
-pub judge_told : (a b : JudgeAnswer) → judgeTold a ≡ judgeTold b → a ≡ b
-judge_told a b e = sym (judge_back a) ∙ ap judge_from e ∙ judge_back b
+pub judge_told_law : (a b : JudgeAnswer) → judge_told a ≡ judge_told b → a ≡ b
+judge_told_law a b e = sym (judge_back a) ∙ ap judge_from e ∙ judge_back b
 
-pub label_told : (a b : LabelAnswer) → labelTold a ≡ labelTold b → a ≡ b
-label_told a b e = sym (label_back a) ∙ ap label_from e ∙ label_back b
+pub label_told_law : (a b : LabelAnswer) → label_told a ≡ label_told b → a ≡ b
+label_told_law a b e = sym (label_back a) ∙ ap label_from e ∙ label_back b

@@ -11,7 +11,7 @@ use native.Mathlib.Numerals.{add-one}
 use lib.ListN.{get_or}
 use Rattle.flow.specs.Graph.{Graph, graph, node_count}
 use Rattle.flow.specs.Locals.{Declaration, declaration, local_at, tracked, no_value, writes_judged, Finding, finding_word}
-use Rattle.flow.specs.Findings.{Use, live_after_writes, of_use, of_initial, uses_of, all_found_law, ahead, first_unassigned_use, initial_overwritten, writes_overwritten, unassigned_of, overwritten_of, overwritten_at, overwritten_below, is_empty_read, first_empty_read}
+use Rattle.flow.specs.Findings.{Use, live_after_writes, of_use, of_initial, uses_of, all_found, ahead, first_unassigned_use, initial_overwritten, writes_overwritten, unassigned_of, overwritten_of, overwritten_at, overwritten_below, is_empty_read, first_empty_read}
 use Rattle.flow.specs.Demand.{use_span, AllFound, Judgeable, Unassigned, Overwritten, OverwrittenInitial, Before}
 use Rattle.flow.proofs.Laws.{either, and_then, and_law, not_law, or_map, mem_append, mem_one, mem_only, mem_map}
 use Rattle.flow.proofs.Uses.{entry, all_found_law, From, end, one, from_all, Kinds, Is, Among}
@@ -49,8 +49,8 @@ module _ (S U : List ℕ) (kinds : Kinds U) (ℓ : ℕ) where
   us = uses_of S U ℓ
 
   -- the tests before each list
-  judged : {c : Bool} {C : Type 0} → (AllFound S U ℓ → (c ≡ true) ↔ C) → (tracked (local_at S ℓ) && all_found_law us && c ≡ true) ↔ (Judgeable S U ℓ × C)
-  judged f = and_then (Iff.trans (and_law Iff.rfl (all_found_law S U ℓ)) (λ q. record { is_tracked = q.0; all_found_law = q.1 }, λ j. (j.is_tracked, j.all_found_law))) (λ j. f j.all_found_law)
+  judged : {c : Bool} {C : Type 0} → (AllFound S U ℓ → (c ≡ true) ↔ C) → (tracked (local_at S ℓ) && all_found us && c ≡ true) ↔ (Judgeable S U ℓ × C)
+  judged f = and_then (Iff.trans (and_law Iff.rfl (all_found_law S U ℓ)) (λ q. record { is_tracked = q.0; all_found = q.1 }, λ j. (j.is_tracked, j.all_found))) (λ j. f j.all_found)
 
   of_use_law : (list u : ℕ) → of_use list ℓ (entry S U ℓ u) ≡ finding S U list ℓ (suc u)
   of_use_law list u = rw add-one
@@ -71,7 +71,7 @@ module _ (S U : List ℕ) (kinds : Kinds U) (ℓ : ℕ) where
 
   unassigned_use : (x : Use) → Memᴰ x (first_unassigned_use g (local_at S ℓ) d us) ↔ Is S U ℓ (Unassigned S U ℓ) x
   unfolding first_unassigned_use
-  unassigned_use x = Iff.trans (mem_only (judged (λ a. Iff.rfl)) (λ j. empty_read_law S U ℓ kinds j.0.all_found_law x)) (
+  unassigned_use x = Iff.trans (mem_only (judged (λ a. Iff.rfl)) (λ j. empty_read_law S U ℓ kinds j.0.all_found x)) (
     λ q. let n = q.1.2 in (q.1.0, q.1.1, record { judgeable = q.0.0; valueless = q.0.1; empty = n.here; first = λ y l e. n.first y (omega arith) l e }),
     λ q. let w = q.2 in ((w.judgeable, w.valueless), (q.0, q.1, record { here = w.empty; from = omega arith; first = λ y h l e. w.first y l e })),
   )
@@ -87,7 +87,7 @@ module _ (S U : List ℕ) (kinds : Kinds U) (ℓ : ℕ) where
 
   lost_use : (x : Use) → Memᴰ x (writes_overwritten g (local_at S ℓ) d us) ↔ Is S U ℓ (Overwritten S U ℓ) x
   unfolding writes_overwritten
-  lost_use x = Iff.trans (mem_only (judged (λ a. Iff.rfl)) (λ j. at_nodes j.0.all_found_law)) (there, back)
+  lost_use x = Iff.trans (mem_only (judged (λ a. Iff.rfl)) (λ j. at_nodes j.0.all_found)) (there, back)
     where
       AtNodes : Type 0
       AtNodes = (v : ℕ) × (v < node_count g) × Among S U ℓ (LostWrite S U ℓ v) 0 x
@@ -112,7 +112,7 @@ module _ (S U : List ℕ) (kinds : Kinds U) (ℓ : ℕ) where
   initial_law : (initial_overwritten g (local_at S ℓ) d us ≡ true) ↔ OverwrittenInitial S U ℓ
   unfolding initial_overwritten
   initial_law =
-      Iff.trans (and_then (judged (λ a. not_law Iff.rfl)) (λ j. unread_law S U ℓ kinds j.0.all_found_law d.node))
+      Iff.trans (and_then (judged (λ a. not_law Iff.rfl)) (λ j. unread_law S U ℓ kinds j.0.all_found d.node))
       (λ q. record { judgeable = q.0.0; valued = q.0.1; lost = q.1 }, λ o. ((o.judgeable, o.valued), o.lost))
 
   of_initial_law : of_initial ℓ (get_or (graph S).names.span ℓ 0) ≡ finding S U 1 ℓ 0
@@ -166,5 +166,5 @@ module _ (S U : List ℕ) (kinds : Kinds U) (ℓ : ℕ) where
     pub overwritten_rising : Rising (Prior S U) (overwritten_of S U ℓ)
     unfolding overwritten_of writes_overwritten
     overwritten_rising =
-        rising_append _ _ (rising_only initial_law (λ o. rising_one _)) (rising_map (Prior S U) (of_use 1 ℓ) (rising_only (judged {c = writes_judged (local_at S ℓ)} (λ a. Iff.rfl)) (λ j. lost_rising j.0.all_found_law)))
+        rising_append _ _ (rising_only initial_law (λ o. rising_one _)) (rising_map (Prior S U) (of_use 1 ℓ) (rising_only (judged {c = writes_judged (local_at S ℓ)} (λ a. Iff.rfl)) (λ j. lost_rising j.0.all_found)))
         (λ x y m k. let p = (mem_only initial_law (λ o. mem_one _)).0 m in let q = (told_uses 1 lost_use y).0 k in prior_by S U (coded 0 (p.1 ∙ of_initial_law)) (coded (suc q.0) q.1) (inr (refl, inr (refl, inl (omega arith)))))

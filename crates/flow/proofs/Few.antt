@@ -13,7 +13,7 @@ use Rattle.flow.specs.Sheet.{use_words, use_spans, local_of}
 use Rattle.flow.specs.Refusals.{one}
 use Rattle.flow.specs.Graph.{Graph, node_count, graph}
 use Rattle.flow.specs.Locals.{Local, Declaration, Finding, only_if, tracked, no_value, writes_judged, declaration, locals, local_at}
-use Rattle.flow.specs.Findings.{Use, Ahead, node, is_write, is_empty_read, first_empty_read, live_after_writes, is_overwritten, overwritten_at, overwritten_below, all_found_law, ahead, uses_from, uses_of, first_unassigned_use, initial_overwritten, writes_overwritten, of_use, of_initial, unassigned_of, overwritten_of, of_each, findings}
+use Rattle.flow.specs.Findings.{Use, Ahead, node, is_write, is_empty_read, first_empty_read, live_after_writes, is_overwritten, overwritten_at, overwritten_below, all_found, ahead, uses_from, uses_of, first_unassigned_use, initial_overwritten, writes_overwritten, of_use, of_initial, unassigned_of, overwritten_of, of_each, findings}
 
 -- ---- how often each key stands in a list, and in all
 
@@ -80,7 +80,7 @@ unassigned_few S U ℓ =
     let g : Graph = graph S in
     let us : List Use = uses_of S U ℓ in
     let live : List ℕ = live_after_writes g (declaration g ℓ) us in
-    omega (arith, length-map (first_unassigned_use g (local_at S ℓ) (declaration g ℓ) us) (of_use 0 ℓ), only_few (tracked (local_at S ℓ) && all_found_law us && no_value (local_at S ℓ)) (first_empty_read live [] us), first_few live [] us)
+    omega (arith, length-map (first_unassigned_use g (local_at S ℓ) (declaration g ℓ) us) (of_use 0 ℓ), only_few (tracked (local_at S ℓ) && all_found us && no_value (local_at S ℓ)) (first_empty_read live [] us), first_few live [] us)
 
 each_few : (f : ℕ → List Finding) → ((ℓ : ℕ) → length (f ℓ) ≤ 1) → (k : ℕ) → length (of_each f k) ≤ k
 unfolding of_each
@@ -123,7 +123,7 @@ module _ (S U : List ℕ) where
       let d : Declaration = declaration g ℓ in
       let first : List Finding = of_initial ℓ (get_or g.names.span ℓ 0) ∷ [] in
       let rest : List Use = overwritten_below g (ahead g d us) (node_count g) us in
-      omega (arith, length-append (only_if (initial_overwritten g l d us) first) (map (of_use 1 ℓ) (writes_overwritten g l d us)), length-map (writes_overwritten g l d us) (of_use 1 ℓ), only_few (initial_overwritten g l d us) first, only_few (tracked l && all_found_law us && writes_judged l) rest, below_few g (ahead g d us) (node_count g) us, all_keys node us (node_count g), uses_few g l ℓ 0 (use_words U) (use_spans U))
+      omega (arith, length-append (only_if (initial_overwritten g l d us) first) (map (of_use 1 ℓ) (writes_overwritten g l d us)), length-map (writes_overwritten g l d us) (of_use 1 ℓ), only_few (initial_overwritten g l d us) first, only_few (tracked l && all_found us && writes_judged l) rest, below_few g (ahead g d us) (node_count g) us, all_keys node us (node_count g), uses_few g l ℓ 0 (use_words U) (use_spans U))
 
   each_local : (n : ℕ) → length (of_each (overwritten_of S U) n) ≤ n + total (λ ℓ. often local_of ℓ (use_words U)) n
   unfolding of_each

@@ -13,7 +13,7 @@ use lib.ListN.{length, get_or}
 use Rattle.flow.specs.Locals.{Finding, finding_word, only_if}
 use Rattle.flow.specs.Findings.{Use, Ahead, of_each, overwritten_at, overwritten_below}
 use Rattle.flow.specs.Sheet.{start_of}
-use Rattle.flow.specs.Answers.{foundValues}
+use Rattle.flow.specs.Answers.{found_values}
 use Rattle.flow.specs.Graph.{Graph, graph}
 use Rattle.flow.specs.Reachable.{node_at}
 use Rattle.flow.specs.Demand.{use_span, order, Before}
@@ -88,7 +88,7 @@ rising_map R f (cons {x = x} {l = l} a r) = cons (λ y m. let q = (mem_map f l).
 
 -- the node of a use, if it finds one
 abbrev nodes_for : List ℕ → List ℕ → ℕ → List ℕ
-nodes_for S U u = foundValues (node_at (graph S) (start_of (use_span U u)))
+nodes_for S U u = found_values (node_at (graph S) (start_of (use_span U u)))
 
 -- what such a word is ordered by
 abbrev pub key : List ℕ → List ℕ → ℕ → List ℕ

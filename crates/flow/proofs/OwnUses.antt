@@ -14,7 +14,7 @@ use Rattle.flow.specs.Refusals.{one}
 use Rattle.flow.specs.Graph.{Graph, Nodes, node_count, graph}
 use Rattle.flow.specs.Reachable.{successors}
 use Rattle.flow.specs.Locals.{only_if, Local, no_value, writes_judged, tracked, Declaration, declaration, local_at, Finding, finding_word}
-use Rattle.flow.specs.Findings.{Use, is_found, node, is_write, uses_from, uses_of, all_found_law, is_alive_at, live_successors, after_writes, live_after_writes, is_empty_read, first_empty_read, Meeting, a_read, a_pure_write, first_at, is_a_read, is_a_pure_write, is_no_use, range, meets_here, predecessors, meets, Ahead, ahead, is_overwritten_unread, or_else, is_overwritten, overwritten_at, overwritten_below, first_unassigned_use, initial_overwritten, writes_overwritten, of_use, of_initial, unassigned_of, overwritten_of}
+use Rattle.flow.specs.Findings.{Use, is_found, node, is_write, uses_from, uses_of, all_found, is_alive_at, live_successors, after_writes, live_after_writes, is_empty_read, first_empty_read, Meeting, a_read, a_pure_write, first_at, is_a_read, is_a_pure_write, is_no_use, range, meets_here, predecessors, meets, Ahead, ahead, is_overwritten_unread, or_else, is_overwritten, overwritten_at, overwritten_below, first_unassigned_use, initial_overwritten, writes_overwritten, of_use, of_initial, unassigned_of, overwritten_of}
 use Rattle.flow.specs.Demand.{use_word}
 
 -- ---- by the nodes of the graph alone
@@ -131,8 +131,8 @@ module _ {f : Use → Use} (k : Renumbers f) where
 
   -- ---- the findings of one local
 
-  pub renumbered_found : ((u : Use) → is_found (f u).found ≡ is_found u.found) → (us : List Use) → all_found_law (map f us) ≡ all_found_law us
-  unfolding all_found_law all
+  pub renumbered_found : ((u : Use) → is_found (f u).found ≡ is_found u.found) → (us : List Use) → all_found (map f us) ≡ all_found us
+  unfolding all_found all
   renumbered_found h [] = refl
   renumbered_found h (u ∷ us) = λ i. h u i && renumbered_found h us i
 
@@ -142,8 +142,8 @@ module _ {f : Use → Use} (k : Renumbers f) where
     renumbered_unassigned =
         let live : List ℕ = live_after_writes g d us in
         (λ i. only_if (tracked l && renumbered_found h us i && no_value l) (first_empty_read (renumbered_live g d us i) [] (map f us)))
-        ∙ ap (λ (x : List Use). only_if (tracked l && all_found_law us && no_value l) x) (renumbered_first live [] us)
-        ∙ sym (map_only f (tracked l && all_found_law us && no_value l) (first_empty_read live [] us))
+        ∙ ap (λ (x : List Use). only_if (tracked l && all_found us && no_value l) x) (renumbered_first live [] us)
+        ∙ sym (map_only f (tracked l && all_found us && no_value l) (first_empty_read live [] us))
 
     pub renumbered_initial : initial_overwritten g l d (map f us) ≡ initial_overwritten g l d us
     unfolding initial_overwritten
@@ -153,7 +153,7 @@ module _ {f : Use → Use} (k : Renumbers f) where
     unfolding writes_overwritten
     renumbered_writes =
         let a : Ahead = ahead g d us in
-        let b : Bool = tracked l && all_found_law us && writes_judged l in
+        let b : Bool = tracked l && all_found us && writes_judged l in
         (λ i. only_if (tracked l && renumbered_found h us i && writes_judged l) (overwritten_below g (renumbered_ahead g d us i) (node_count g) (map f us)))
         ∙ ap (λ (x : List Use). only_if b x) (renumbered_below g a (node_count g) us)
         ∙ sym (map_only f b (overwritten_below g a (node_count g) us))

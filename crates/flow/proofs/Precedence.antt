@@ -11,7 +11,7 @@ use Rattle.flow.specs.declared.Refusal.{Refusal}
 use Rattle.flow.specs.declared.Verdict.{Verdict}
 use Rattle.flow.specs.declared.Verdict.TheVariants.{Admitted, Refused}
 use Rattle.flow.specs.Refusals.{one, number, Test, first_applying, item_tests, sheet_tests, pair_tests, sheet_verdict}
-use Rattle.flow.specs.Answers.{tells, foundValues, countValues}
+use Rattle.flow.specs.Answers.{tells, found_values, count_values}
 use Rattle.flow.specs.Graph.{graph}
 use Rattle.flow.specs.Reachable.{node_at, can_run, run, counts_of, chart}
 use Rattle.flow.specs.Findings.{findings}
@@ -139,15 +139,15 @@ module _ (ts : List Test) (values : List ℕ) where
 
 pub chart_number_law : (short : Bool) (S : List ℕ) (k : ℕ) → (chart short S).number ≡ suc k → Foremost (sheet_tests short S) (suc k)
 unfolding chart sheet_verdict
-chart_number_law short S = number_applies (sheet_tests short S) (countValues (counts_of (graph S)))
+chart_number_law short S = number_applies (sheet_tests short S) (count_values (counts_of (graph S)))
 
 pub run_number : (S : List ℕ) (o k : ℕ) → (run S o).number ≡ suc k → Foremost (sheet_tests false S) (suc k)
 unfolding run sheet_verdict
-run_number S o = number_applies (sheet_tests false S) (one (can_run (graph S) (node_at (graph S) o)) ∷ foundValues (node_at (graph S) o))
+run_number S o = number_applies (sheet_tests false S) (one (can_run (graph S) (node_at (graph S) o)) ∷ found_values (node_at (graph S) o))
 
 pub judge_number_law : (short : Bool) (S U C : List ℕ) (k : ℕ) → (judge short S U C).number ≡ suc k → Foremost (scoped_tests short S U C) (suc k)
 unfolding judge scoped_verdict
-judge_number_law short S U C = number_applies (scoped_tests short S U C) (countValues (counts_of (graph S)) ++ (length (findings S (crossed S U C)) ∷ []))
+judge_number_law short S U C = number_applies (scoped_tests short S U C) (count_values (counts_of (graph S)) ++ (length (findings S (crossed S U C)) ∷ []))
 
 pub label_number : (S : List ℕ) (k : ℕ) → (label_check S).number ≡ suc k → Foremost (sheet_tests false S) (suc k)
 unfolding label_check sheet_verdict

@@ -13,7 +13,7 @@ use Rattle.search.proofs.Bools.{and_both}
 use Rattle.search.specs.Search.{filter}
 use Rattle.flow.specs.Sheet.{Item, items, kind, argument_of, member, all, start_of, end_of}
 use Rattle.flow.specs.Kinds.{kinds, item_fits, is_code}
-use Rattle.flow.specs.Refusals.{one, pairs_up, in_order_law, name_count}
+use Rattle.flow.specs.Refusals.{one, pairs_up, in_order, name_count}
 use Rattle.flow.specs.Tree.{Stmt, Frame, Open, outer, in_front, opened, simple, tree}
 use Rattle.flow.specs.Locals.{only_if, locals_from, locals}
 use Rattle.flow.specs.Findings.{range}
@@ -159,12 +159,12 @@ rise_on : (b : Bool) (p : ℕ) (i : Item) (ss : List ℕ) → Fitting i → (not
 rise_on true p i ss f e r = (le_trans (leb-true p _ e) f.order, r)
 rise_on false p i ss f e r = r
 
-in_order_law : (p : ℕ) (is : List Item) → all item_fits is ≡ true → in_order_law p is ≡ true → Rising p (spans_where is_code is)
-unfolding all in_order_law spans_where
+in_order_law : (p : ℕ) (is : List Item) → all item_fits is ≡ true → in_order p is ≡ true → Rising p (spans_where is_code is)
+unfolding all in_order spans_where
 in_order_law p [] a e = tt
 in_order_law p (i ∷ is) a e =
     let f = and_both (item_fits i) (all item_fits is) a in
-    let l = and_both (not (is_code i) || leb p (start_of i.span)) (in_order_law (cond (is_code i) (end_of i.span) p) is) e in
+    let l = and_both (not (is_code i) || leb p (start_of i.span)) (in_order (cond (is_code i) (end_of i.span) p) is) e in
     rise_on (is_code i) p i (spans_where is_code is) (fitting i f.0) l.0 (in_order_law (cond (is_code i) (end_of i.span) p) is f.1 l.1)
 
 risen : (p : ℕ) (ss : List ℕ) → Rising p ss → (j : ℕ) → j < length ss → p ≤ end_of (get_or ss j 0)
@@ -178,6 +178,6 @@ rises p (s ∷ ss) r i zero h l = absurd (omega arith)
 rises p (s ∷ ss) r zero (suc j) h l = risen (end_of s) ss r.1 j (omega arith)
 rises p (s ∷ ss) r (suc i) (suc j) h l = rises (end_of s) ss r.1 i j (omega arith) (omega arith)
 
-pub ends_rise : (is : List Item) → all item_fits is ≡ true → in_order_law 0 is ≡ true
+pub ends_rise : (is : List Item) → all item_fits is ≡ true → in_order 0 is ≡ true
     → (i j : ℕ) → i < j → j < length (spans_where is_code is) → end_of (get_or (spans_where is_code is) i 0) ≤ end_of (get_or (spans_where is_code is) j 0)
 ends_rise is a e = rises 0 (spans_where is_code is) (in_order_law 0 is a e)

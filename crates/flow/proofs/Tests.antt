@@ -15,7 +15,7 @@ use Rattle.flow.specs.declared.Verdict.{Verdict}
 use Rattle.flow.specs.declared.Verdict.TheVariants.{Admitted, Refused}
 use Rattle.flow.specs.Sheet.{Item, all, kind, count_word, outer_end, items, start_of, end_of, argument_of}
 use Rattle.flow.specs.Kinds.{argument_fits, item_fits}
-use Rattle.flow.specs.Refusals.{number, Test, first_applying, miscount, bad_item, pairs_up, bad_nesting, in_order_law, off_the_line, item_tests, sheet_tests, sheet_verdict, outnumbered, too_deep, side_by_side, inside_scopes, names_fit, bad_name}
+use Rattle.flow.specs.Refusals.{number, Test, first_applying, miscount, bad_item, pairs_up, bad_nesting, in_order, off_the_line, item_tests, sheet_tests, sheet_verdict, outnumbered, too_deep, side_by_side, inside_scopes, names_fit, bad_name}
 use Rattle.flow.specs.Admitted.{an_item}
 use Rattle.search.proofs.Worklist.{filter_in}
 
@@ -64,7 +64,7 @@ pub record Passed (ws : List ℕ) : Type 0 where
   pub outer_end : outer_end ws < 2 ^ 32
   pub fits : all item_fits (items ws) ≡ true
   pub pairs : pairs_up [] (items ws) ≡ true
-  pub in_order_law : in_order_law 0 (items ws) ≡ true
+  pub in_order : in_order 0 (items ws) ≡ true
   pub shallow : outnumbered 0 0 (items ws) ≡ false
   pub beside : side_by_side 0 (items ws) ≡ true
   pub inside_scopes : inside_scopes (Rattle.flow.specs.Sheet.outer_end ws ∷ []) (items ws) ≡ true
@@ -77,14 +77,14 @@ sheet_passed short ws e =
     let c = counted 2 ws (p 2) in
     let i = and_both (ltb (outer_end ws) (2 ^ 32)) _ (not-false _ (p 3)) in
     let nests = and_both (pairs_up [] (items ws)) _ (not-false _ (p 5)) in
-    let lies = and_both (in_order_law 0 (items ws)) _ (not-false _ (p 6)) in
+    let lies = and_both (in_order 0 (items ws)) _ (not-false _ (p 6)) in
     record {
       words = c.0;
       few = c.1;
       outer_end = ltb-true _ _ i.0;
       fits = i.1;
       pairs = nests.0;
-      in_order_law = lies.0;
+      in_order = lies.0;
       shallow = p 4;
       beside = nests.1;
       inside_scopes = lies.1;

@@ -19,7 +19,7 @@ use Rattle.flow.specs.Sheet.{all, start_of, use_words, use_spans, local_of, use_
 use Rattle.flow.specs.Graph.{graph}
 use Rattle.flow.specs.Reachable.{node_at}
 use Rattle.flow.specs.Locals.{local_at, is_in_closure, only_if}
-use Rattle.flow.specs.Findings.{Use, node_of, uses_from, uses_of, all_found_law, Meeting, no_use, a_read, a_pure_write, meeting, first_at, is_no_use, is_a_read, is_a_pure_write, is_read, is_write, or_else}
+use Rattle.flow.specs.Findings.{Use, node_of, uses_from, uses_of, all_found, Meeting, no_use, a_read, a_pure_write, meeting, first_at, is_no_use, is_a_read, is_a_pure_write, is_read, is_write, or_else}
 use Rattle.flow.specs.Demand.{use_word, use_span, Own, OwnAt, AtNode, AllFound, PureWrite, IsRead, IsWrite}
 use Rattle.flow.proofs.Laws.{found_law, Next, next_split, next_unique, next_here, next_skip, next_past, and_law, or_map, eqb_law, mem_append, mem_one, mem_only}
 
@@ -74,14 +74,14 @@ module _ (S U : List ℕ) (ℓ : ℕ) where
 
   -- ---- "whose uses all find a node"
 
-  found_from : {k : ℕ} {us : List Use} → From S U ℓ k us → (all_found_law us ≡ true) ↔ ((u : ℕ) → k ≤ u → Own U ℓ u → (v : ℕ) × AtNode S U u v)
-  unfolding all_found_law all
+  found_from : {k : ℕ} {us : List Use} → From S U ℓ k us → (all_found us ≡ true) ↔ ((u : ℕ) → k ≤ u → Own U ℓ u → (v : ℕ) × AtNode S U u v)
+  unfolding all_found all
   found_from (end h) = (λ e u l o. absurd (h u l o), λ q. refl)
   found_from {k} (one {u = u} {us = us} n r) =
       let both = and_law (found_law (node_at (graph S) (start_of (use_span U u)))) (found_from r) in
       (λ e x l o. ⊎_elim (λ (q : x ≡ u). subst (λ y. (v : ℕ) × AtNode S U y v) (sym q) (both.0 e).0) (λ h. (both.0 e).1 x h o) (next_split n x l o), λ q. both.1 (q u n.from n.here, λ x l o. q x (omega (arith, n.from)) o))
 
-  pub all_found_law : (all_found_law (uses_of S U ℓ) ≡ true) ↔ AllFound S U ℓ
+  pub all_found_law : (all_found (uses_of S U ℓ) ≡ true) ↔ AllFound S U ℓ
   all_found_law = let f = found_from from_all in (λ e u o. f.0 e u (omega arith) o, λ q. f.1 (λ u l o. q u o))
 
 -- what the first own use at v from k on is, as `first_at` says it

@@ -4,7 +4,7 @@ use Rattle.std.specs.Prelude.{◌≡◌, Bool, true, false, List, [], ◌∷◌,
 use Rattle.flow.specs.declared.Verdict.TheVariants.{Admitted}
 use Rattle.flow.specs.Sheet.{Item, kind, count_word, outer_end, items, kind_words, span_words, zip, kind_of, end_of, use_words, use_spans, local_of, use_kind_of}
 use Rattle.flow.specs.Kinds.{kinds, item_fits, is_code}
-use Rattle.flow.specs.Refusals.{name_count, sheet_verdict, outnumbered, pairs_up, side_by_side, in_order_law, inside_scopes, names_fit}
+use Rattle.flow.specs.Refusals.{name_count, sheet_verdict, outnumbered, pairs_up, side_by_side, in_order, inside_scopes, names_fit}
 use Rattle.flow.specs.Scopes.{parent_words, scope_numbers, Lower}
 use Rattle.flow.specs.Tree.{parse, tree, no_more}
 use Rattle.flow.specs.Size.{block_nodes}
@@ -46,7 +46,7 @@ pub record AdmittedSheet (S : List ℕ) : Type 0 where
   pub shallow : outnumbered 0 0 (items S) ≡ false
   pub pairs : pairs_up [] (items S) ≡ true
   pub beside : side_by_side 0 (items S) ≡ true
-  pub in_order_law : in_order_law 0 (items S) ≡ true
+  pub in_order : in_order 0 (items S) ≡ true
   pub inside_scopes : inside_scopes (Rattle.flow.specs.Sheet.outer_end S ∷ []) (items S) ≡ true
   pub names_inside : names_fit 0 0 (items S) ≡ true
   pub tidy : Tidy (kind_words S)

@@ -3,7 +3,7 @@
 use Rattle.std.specs.Prelude.{◌≡◌, ◌⊎◌, ◌↔◌, true, List, [], ◌∷◌, ◌++◌, ℕ, ◌+◌, ◌-◌, ◌/◌, ◌%◌, ◌^◌, ◌<◌, min, length, get_or}
 use Rattle.flow.specs.declared.Found.TheVariants.{At}
 use Rattle.flow.specs.Sheet.{Word, Span, Node, LocalNumber, UseNumber, use_words, use_spans, local_of, use_kind_of, start_of}
-use Rattle.flow.specs.Answers.{foundValues}
+use Rattle.flow.specs.Answers.{found_values}
 use Rattle.flow.specs.Graph.{graph}
 use Rattle.flow.specs.Reachable.{node_at}
 use Rattle.flow.specs.Locals.{declaration, locals, local_at, tracked, no_value, writes_judged, is_in_closure, finding_word}
@@ -84,7 +84,7 @@ pub record EmptyRead (S U : List Word) (ℓ : LocalNumber) (u : UseNumber) : Typ
 -- "for every tracked local whose uses all find a node"
 pub record Judgeable (S U : List Word) (ℓ : LocalNumber) : Type 0 where
   pub is_tracked : tracked (local_at S ℓ) ≡ true
-  pub all_found_law : AllFound S U ℓ
+  pub all_found : AllFound S U ℓ
 
 -- "The local is listed unassigned, with a use, exactly when it has no value and that use is the first of the reads .."
 pub record Unassigned (S U : List Word) (ℓ : LocalNumber) (u : UseNumber) : Type 0 where
@@ -124,7 +124,7 @@ pub record Listed (words : List Word) (spans : List Span) (word : Word) (span : 
 -- "Unassigned come first, in local order; overwritten follow per local: initial value, then writes by node, use order within a node": what a word is ordered by, the node being that of its use
 abbrev pub order : List Word → List Word → Word → List ℕ
 order S U word =
-    word % 2 ∷ word / 2 % 2 ^ 31 ∷ min 1 (word / 2 ^ 32) ∷ foundValues (node_at (graph S) (start_of (use_span U (word / 2 ^ 32 - 1)))) ++ (word / 2 ^ 32 ∷ [])
+    word % 2 ∷ word / 2 % 2 ^ 31 ∷ min 1 (word / 2 ^ 32) ∷ found_values (node_at (graph S) (start_of (use_span U (word / 2 ^ 32 - 1)))) ++ (word / 2 ^ 32 ∷ [])
 
 -- by the first number that differs
 abbrev pub Before : List ℕ → List ℕ → Type 0

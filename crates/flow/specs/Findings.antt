@@ -40,8 +40,8 @@ uses_from g l ℓ k (w ∷ ws) ss =
     ++ uses_from g l ℓ (k + 1) ws (tail ss)
 
 -- "A local with a use that finds no node yields nothing."
-unfoldable pub all_found_law : List Use → Bool
-all_found_law us = all (λ u. is_found u.found) us
+unfoldable pub all_found : List Use → Bool
+all_found us = all (λ u. is_found u.found) us
 
 -- "none the LOCAL's node, none with code start at or past the scope end"
 unfoldable pub is_alive_at : Graph → Declaration → Node → Bool
@@ -143,13 +143,13 @@ overwritten_below g a (suc k) us = overwritten_below g a k us ++ overwritten_at 
 
 -- The findings of one local, from the graph, its declaration and its own uses in order.
 unfoldable pub first_unassigned_use : Graph → Local → Declaration → List Use → List Use
-first_unassigned_use g l d us = only_if (tracked l && all_found_law us && no_value l) (first_empty_read (live_after_writes g d us) [] us)
+first_unassigned_use g l d us = only_if (tracked l && all_found us && no_value l) (first_empty_read (live_after_writes g d us) [] us)
 
 unfoldable pub initial_overwritten : Graph → Local → Declaration → List Use → Bool
-initial_overwritten g l d us = tracked l && all_found_law us && not (no_value l) && is_overwritten_unread g (ahead g d us) d.node
+initial_overwritten g l d us = tracked l && all_found us && not (no_value l) && is_overwritten_unread g (ahead g d us) d.node
 
 unfoldable pub writes_overwritten : Graph → Local → Declaration → List Use → List Use
-writes_overwritten g l d us = only_if (tracked l && all_found_law us && writes_judged l) (overwritten_below g (ahead g d us) (node_count g) us)
+writes_overwritten g l d us = only_if (tracked l && all_found us && writes_judged l) (overwritten_below g (ahead g d us) (node_count g) us)
 
 abbrev pub of_use : ℕ → LocalNumber → Use → Finding
 of_use list ℓ u = record { word = finding_word list ℓ (u.number + 1); span = u.span }

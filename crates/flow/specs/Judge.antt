@@ -5,7 +5,7 @@ use Rattle.std.specs.Prelude.{Bool, List, [], ◌∷◌, ◌++◌, map, length}
 use Rattle.flow.specs.declared.Verdict.{Verdict}
 use Rattle.flow.specs.Sheet.{Word, Span}
 use Rattle.flow.specs.Scopes.{crossed, scoped_verdict}
-use Rattle.flow.specs.Answers.{Told, tells, countValues}
+use Rattle.flow.specs.Answers.{Told, tells, count_values}
 use Rattle.flow.specs.Graph.{graph}
 use Rattle.flow.specs.Reachable.{counts_of}
 use Rattle.flow.specs.Locals.{Finding}
@@ -20,7 +20,7 @@ spans_of = map (λ f. f.span)
 
 -- "Judge writes and returns the same, then the findings and their count": its number and values, of a verdict and of the uses that are judged
 abbrev pub judged : Verdict → List Word → List Word → Told
-judged verdict S U = tells verdict (countValues (counts_of (graph S)) ++ (length (findings S U) ∷ []))
+judged verdict S U = tells verdict (count_values (counts_of (graph S)) ++ (length (findings S U) ∷ []))
 
 -- judge, where `short` says whether a lent column is too short, and C is a scope sheet, or [] where none comes
 unfoldable pub judge : Bool → List Word → List Word → List Word → Told

@@ -9,11 +9,11 @@ use Rattle.flow.specs.declared.Verdict.TheVariants.{Admitted, Refused}
 use Rattle.search.specs.Search.{closure}
 use Rattle.flow.specs.Sheet.{all, Item}
 use Rattle.flow.specs.Kinds.{kinds, argument_fits, item_fits, is_code, literal_truth}
-use Rattle.flow.specs.Refusals.{pair_verdict, miscount, bad_item, outnumbered, too_deep, may_stand, open_after, pairs_up, may_follow, side_by_side, bad_nesting, in_order_law, scopes_after, inside_scopes, off_the_line, name_fits, names_fit, bad_name, name_count, use_fits, uses_fit, bad_use, first_applying, item_tests, pair_tests}
+use Rattle.flow.specs.Refusals.{pair_verdict, miscount, bad_item, outnumbered, too_deep, may_stand, open_after, pairs_up, may_follow, side_by_side, bad_nesting, in_order, scopes_after, inside_scopes, off_the_line, name_fits, names_fit, bad_name, name_count, use_fits, uses_fit, bad_use, first_applying, item_tests, pair_tests}
 use Rattle.flow.specs.Graph.{node_count, graph, new_node, connect, set_current, advance_to, record_code, set_start, code, close_into, jump, declare, label_node, simple_stmt, new_nodes, with_labels, entered, inside, in_loop, start_graph, outside, build_stmt, build_block, build_arms}
 use Rattle.flow.specs.Reachable.{successors, reachable, node_at, can_run, node_among}
 use Rattle.flow.specs.Locals.{Finding, locals_from, locals, no_value, writes_judged, tracked, is_in_closure}
-use Rattle.flow.specs.Findings.{findings, uses_from, all_found_law, is_alive_at, after_writes, live_after_writes, is_empty_read, first_empty_read, first_at, meets_here, predecessors, meets, ahead, any_flag, is_overwritten_unread, is_overwritten, overwritten_at, overwritten_below, first_unassigned_use, initial_overwritten, writes_overwritten, uses_of, unassigned_of, overwritten_of, of_each}
+use Rattle.flow.specs.Findings.{findings, uses_from, all_found, is_alive_at, after_writes, live_after_writes, is_empty_read, first_empty_read, first_at, meets_here, predecessors, meets, ahead, any_flag, is_overwritten_unread, is_overwritten, overwritten_at, overwritten_below, first_unassigned_use, initial_overwritten, writes_overwritten, uses_of, unassigned_of, overwritten_of, of_each}
 use Rattle.flow.specs.Scopes.{crossed, scopes_wrong, scoped_tests, scoped_verdict}
 use Rattle.flow.specs.Judge.{judge}
 use Rattle.flow.specs.Tree.{in_front, opened, read, parse, tree, labels_of}
@@ -166,5 +166,5 @@ slips =
     ∷ []
 
 pub pieces_hold : all_hold (starred ++ slips) ≡ true
-unfolding starred slips closure argument_fits item_fits is_code literal_truth miscount all bad_item outnumbered too_deep may_stand open_after pairs_up may_follow side_by_side bad_nesting in_order_law scopes_after inside_scopes off_the_line name_fits names_fit bad_name name_count use_fits uses_fit bad_use first_applying item_tests pair_tests pair_verdict scoped_tests scoped_verdict scopes_wrong crossed in_front opened read parse tree labels_of new_node connect set_current advance_to record_code set_start code close_into jump declare label_node simple_stmt new_nodes with_labels entered inside in_loop start_graph outside graph build_stmt build_block build_arms reachable node_among node_at can_run locals_from locals no_value writes_judged tracked is_in_closure uses_from all_found_law is_alive_at after_writes live_after_writes is_empty_read first_empty_read first_at meets_here predecessors meets ahead any_flag is_overwritten_unread is_overwritten overwritten_at overwritten_below first_unassigned_use initial_overwritten writes_overwritten uses_of unassigned_of overwritten_of of_each findings judge digits numbers finding_line finding_lines report printed_words
+unfolding starred slips closure argument_fits item_fits is_code literal_truth miscount all bad_item outnumbered too_deep may_stand open_after pairs_up may_follow side_by_side bad_nesting in_order scopes_after inside_scopes off_the_line name_fits names_fit bad_name name_count use_fits uses_fit bad_use first_applying item_tests pair_tests pair_verdict scoped_tests scoped_verdict scopes_wrong crossed in_front opened read parse tree labels_of new_node connect set_current advance_to record_code set_start code close_into jump declare label_node simple_stmt new_nodes with_labels entered inside in_loop start_graph outside graph build_stmt build_block build_arms reachable node_among node_at can_run locals_from locals no_value writes_judged tracked is_in_closure uses_from all_found is_alive_at after_writes live_after_writes is_empty_read first_empty_read first_at meets_here predecessors meets ahead any_flag is_overwritten_unread is_overwritten overwritten_at overwritten_below first_unassigned_use initial_overwritten writes_overwritten uses_of unassigned_of overwritten_of of_each findings judge digits numbers finding_line finding_lines report printed_words
 pieces_hold = refl

@@ -7,7 +7,7 @@ use Rattle.flow.specs.declared.Found.TheVariants.{At, Nothing}
 use Rattle.flow.specs.declared.Counts.{Counts}
 use Rattle.flow.specs.Sheet.{Word, Span, Node, end_of}
 use Rattle.flow.specs.Refusals.{one, sheet_verdict}
-use Rattle.flow.specs.Answers.{Told, tells, foundValues, countValues}
+use Rattle.flow.specs.Answers.{Told, tells, found_values, count_values}
 use Rattle.flow.specs.Graph.{Graph, node_count, absent, entry_node, graph}
 
 -- the edges of a node: its successors that are nodes, which `absent` is not. A number that is no node has none
@@ -45,7 +45,7 @@ can_run g f = elim f [ At v ↦ eqb (get_or (reachable g) v 0) 1 | Nothing ↦ t
 
 -- "Run takes a 32-bit offset and gives that node or none, and yes": its number and values
 unfoldable pub run : List Word → ℕ → Told
-run S o = tells (sheet_verdict false S) (one (can_run (graph S) (node_at (graph S) o)) ∷ foundValues (node_at (graph S) o))
+run S o = tells (sheet_verdict false S) (one (can_run (graph S) (node_at (graph S) o)) ∷ found_values (node_at (graph S) o))
 
 -- "and returns the three counts"
 abbrev pub counts_of : Graph → Counts
@@ -53,7 +53,7 @@ counts_of g = record { nodes = node_count g; codes = length g.codes.span; names 
 
 -- chart's number and values, where `short` says whether a lent column is too short
 unfoldable pub chart : Bool → List Word → Told
-chart short S = tells (sheet_verdict short S) (countValues (counts_of (graph S)))
+chart short S = tells (sheet_verdict short S) (count_values (counts_of (graph S)))
 
 -- the parallel columns of a chart: those of one count are equally long
 pub record Parallel (g : Graph) : Type 0 where

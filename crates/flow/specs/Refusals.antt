@@ -68,9 +68,9 @@ unfoldable pub bad_nesting : List Word → Bool
 bad_nesting S = not (pairs_up [] (items S) && side_by_side 0 (items S))
 
 -- 6: "a code span starts before the previous one ends"
-unfoldable pub in_order_law : ℕ → List Item → Bool
-in_order_law p [] = true
-in_order_law p (i ∷ is) = (not (is_code i) || leb p (start_of i.span)) && in_order_law (cond (is_code i) (end_of i.span) p) is
+unfoldable pub in_order : ℕ → List Item → Bool
+in_order p [] = true
+in_order p (i ∷ is) = (not (is_code i) || leb p (start_of i.span)) && in_order (cond (is_code i) (end_of i.span) p) is
 
 -- the scope ends of the blocks around, the innermost first, after an item of kind k with scope end e
 unfoldable pub scopes_after : ℕ → ℕ → List ℕ → List ℕ
@@ -84,7 +84,7 @@ inside_scopes es (i ∷ is) =
     && (not (eqb (kind i) UNTIL) || eqb (end_of i.span) (get_or es 0 0)) && inside_scopes (scopes_after (kind i) (scope_end_of i.word) es) is
 
 unfoldable pub off_the_line : List Word → Bool
-off_the_line S = not (in_order_law 0 (items S) && inside_scopes (outer_end S ∷ []) (items S))
+off_the_line S = not (in_order 0 (items S) && inside_scopes (outer_end S ∷ []) (items S))
 
 -- 7: "a NAME span empty, outside its LOCAL, or starting before the previous NAME of that LOCAL ends": in the LOCAL's span, after a NAME that ends at p
 unfoldable pub name_fits : Span → ℕ → Span → Bool

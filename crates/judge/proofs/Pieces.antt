@@ -11,7 +11,7 @@ use Rattle.flow.specs.Sheet.{all}
 use Rattle.flow.specs.Kinds.{kinds, argument_fits, item_fits, is_code, literal_truth}
 use Rattle.flow.specs.Refusals.{miscount, bad_item, outnumbered, too_deep, may_stand, open_after, pairs_up, may_follow, side_by_side, bad_nesting, in_order, scopes_after, inside_scopes, off_the_line, name_fits, names_fit, bad_name, name_count, use_fits, uses_fit, bad_use, first_applying, item_tests, pair_tests}
 use Rattle.flow.specs.Scopes.{crosses, crossed_from, crossed, parents_lower, scopes_fit, scopes_wrong, scoped_tests, scoped_verdict}
-use Rattle.flow.specs.Answers.{findingsTold}
+use Rattle.flow.specs.Answers.{findings_told}
 use Rattle.flow.specs.Tree.{in_front, opened, read, parse, tree, labels_of}
 use Rattle.flow.specs.Graph.{graph, new_node, connect, set_current, advance_to, record_code, set_start, code, close_into, jump, declare, label_node, simple_stmt, new_nodes, with_labels, entered, inside, in_loop, start_graph, outside, build_stmt, build_block, build_arms}
 use Rattle.flow.specs.Reachable.{reachable, node_among, node_at, can_run}
@@ -25,7 +25,7 @@ open kinds use {LOCAL, NAME, PLAIN}
 -- what is listed, in columns that held words and spans before
 abbrev pub listed : List ℕ → List ℕ → List ℕ → List ℕ → List ℕ → List Finding → Bool
 listed words spans S U C fs =
-    let n : ℕ = findingsTold (judge false S U C) in
+    let n : ℕ = findings_told (judge false S U C) in
     eqb (judge false S U C).number 0 && eqb n (length fs) && same_list (take n (leaves (scoped_verdict false S U C) (words_of (findings S (crossed S U C))) words)) (map (λ f. f.word) fs)
     && same_list (take n (leaves (scoped_verdict false S U C) (spans_of (findings S (crossed S U C))) spans)) (map (λ f. f.span) fs)
 

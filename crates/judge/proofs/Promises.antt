@@ -16,7 +16,7 @@ use Rattle.flow.specs.declared.JudgeAnswer.{JudgeAnswer}
 use Rattle.flow.specs.declared.JudgeAnswer.TheVariants.{Refused as JudgeRefused}
 use Rattle.flow.specs.Refusals.{first_applying, item_tests, pair_tests, pair_verdict}
 use Rattle.flow.specs.Scopes.{crossed, scopes_wrong, scoped_tests, scoped_verdict}
-use Rattle.flow.specs.Answers.{judgeTold}
+use Rattle.flow.specs.Answers.{judge_told}
 use Rattle.flow.specs.Locals.{Finding}
 use Rattle.flow.specs.Findings.{findings}
 use Rattle.flow.specs.Judge.{judge}
@@ -80,7 +80,7 @@ module _ (S U C : List ℕ) (x : Columns) (f : FindingColumns) where
       pub judge_accepted : JudgePromise S U C r (record { chart = record { before = x; after = y }; found = record { before = f; after = g } })
       judge_accepted = record {
         judges = record {
-          told = rw e (ap judgeTold a.answer);
+          told = rw e (ap judge_told a.answer);
           columns = rw e a.columns;
           shown = λ q. a.shown;
           finding_words = rw e a.found.words;
@@ -105,6 +105,6 @@ unfolding scoped_verdict scoped_tests scopes_wrong pair_verdict pair_tests item_
 without_scopes S U r l = (λ p. p.judges, λ j. record { judges = j; supplied = λ q. refl; replaced = λ q n. absurd (n refl) })
 
 -- its number and values are those of `judge`
-pub told : {S U C : List ℕ} {r : JudgeAnswer} {l : JudgeLent} → JudgePromise S U C r l → judgeTold r ≡ judge (short l) S U C
+pub told : {S U C : List ℕ} {r : JudgeAnswer} {l : JudgeLent} → JudgePromise S U C r l → judge_told r ≡ judge (short l) S U C
 unfolding judge
 told p = p.judges.told

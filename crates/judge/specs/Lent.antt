@@ -6,7 +6,7 @@ use Rattle.flow.specs.declared.Verdict.{Verdict}
 use Rattle.flow.specs.declared.Verdict.TheVariants.{Admitted, Refused}
 use Rattle.flow.specs.declared.JudgeAnswer.{JudgeAnswer}
 use Rattle.flow.specs.Scopes.{Replaced, crossed, scoped_verdict}
-use Rattle.flow.specs.Answers.{judgeTold, findingsTold}
+use Rattle.flow.specs.Answers.{judge_told, findings_told}
 use Rattle.flow.specs.Graph.{node_count, graph}
 use Rattle.flow.specs.Locals.{locals}
 use Rattle.flow.specs.Findings.{findings}
@@ -43,11 +43,11 @@ pub record MarksLeft (v : Verdict) (S old new : List ℕ) : Type 0 where
 
 -- how many findings an answer of judge tells
 abbrev pub found_in : JudgeAnswer → ℕ
-found_in r = findingsTold (judgeTold r)
+found_in r = findings_told (judge_told r)
 
 -- its number and values, every lent cell, and what the columns of an accepted call show, by the verdict and the uses that are judged. Demand 3 is of what it wrote: as many cells of the two finding columns as it tells.
 pub record Judges (v : Verdict) (S U : List ℕ) (r : JudgeAnswer) (l : JudgeLent) : Type 0 where
-  pub told : judgeTold r ≡ judged v S U
+  pub told : judge_told r ≡ judged v S U
   pub columns : l.chart.after ≡ chart_leaves v S l.chart.before
   pub shown : v ≡ Admitted → Shown S l.chart.after
   pub finding_words : l.found.after.word ≡ leaves v (words_of (findings S U)) l.found.before.word

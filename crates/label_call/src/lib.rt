@@ -1,13 +1,13 @@
 // The label check of document 01, as a call: it takes any sheet, and answers as its definition does.
 ghost use Rattle.std.specs.Prelude.{◌≡◌};
-ghost use Rattle.flow.specs.Answers.{labelTold};
+ghost use Rattle.flow.specs.Answers.{label_told};
 ghost use Rattle.flow.specs.Labels.{label_check};
 
 use flow::{LabelAnswer, Verdict};
 
 // Whether no label is repeated in its block and every GOTO finds one.
 pub fn label_check(sheet: &[u64]) -> LabelAnswer
-    ensures { labelTold result ≡ label_check sheet.now }
+    ensures { label_told result ≡ label_check sheet.now }
 {
     let verdict = admission::sheet_verdict(false, sheet);
     if let Verdict::Refused(refusal) = verdict {

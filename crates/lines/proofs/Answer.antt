@@ -10,7 +10,7 @@ use lib.Seq.{take_at, take-append-le}
 use Rattle.flow.specs.declared.Verdict.{Verdict}
 use Rattle.flow.specs.declared.Verdict.TheVariants.{Admitted, Refused}
 use Rattle.flow.specs.Refusals.{pair_verdict}
-use Rattle.flow.specs.Answers.{Told, tells, countValues, findingsTold}
+use Rattle.flow.specs.Answers.{Told, tells, count_values, findings_told}
 use Rattle.flow.specs.Graph.{Graph, graph}
 use Rattle.flow.specs.Reachable.{counts_of, reachable}
 use Rattle.flow.specs.Locals.{Finding}
@@ -41,7 +41,7 @@ shown S fs r₁ r₂ r₃ e p q = record {
 
 -- what judge tells, by its verdict
 abbrev tells_of : Verdict → Graph → List Finding → Told
-tells_of v g fs = tells v (countValues (counts_of g) ++ (length fs ∷ []))
+tells_of v g fs = tells v (count_values (counts_of g) ++ (length fs ∷ []))
 
 by_verdict : (v : Verdict) (g : Graph) (fs : List Finding) (flags ws ss : List ℕ) → (v ≡ Admitted → Shown g fs flags ws ss)
     → answer_lines (tells_of v g fs) flags ws ss ≡ printed_for (tells_of v g fs) (reachable g) fs
@@ -49,7 +49,7 @@ unfolding report
 by_verdict (Refused r) g fs flags ws ss h = rw (refuses r)
 by_verdict Admitted g fs flags ws ss h = rw ((h refl).exits, (h refl).words, (h refl).spans, same_findings)
 
-few_by_verdict : (v : Verdict) (g : Graph) (fs : List Finding) {m : ℕ} → (v ≡ Admitted → length fs ≤ m) → findingsTold (tells_of v g fs) ≤ m
+few_by_verdict : (v : Verdict) (g : Graph) (fs : List Finding) {m : ℕ} → (v ≡ Admitted → length fs ≤ m) → findings_told (tells_of v g fs) ≤ m
 few_by_verdict (Refused r) g fs h = zero-le
 few_by_verdict Admitted g fs h = h refl
 
@@ -64,5 +64,5 @@ module _ (short : Bool) (S U : List ℕ) {t : Told} (e : t ≡ judged (pair_verd
   answer_prints flags ws ss h = rw (e, unscoped short S U) (by_verdict (pair_verdict short S U) (graph S) (findings S U) flags ws ss h)
 
   -- no more findings than the columns hold
-  pub few_found : {m : ℕ} → (pair_verdict short S U ≡ Admitted → length (findings S U) ≤ m) → findingsTold t ≤ m
+  pub few_found : {m : ℕ} → (pair_verdict short S U ≡ Admitted → length (findings S U) ≤ m) → findings_told t ≤ m
   few_found h = rw e (few_by_verdict (pair_verdict short S U) (graph S) (findings S U) h)

@@ -1,7 +1,7 @@
 // The lines that flowlist prints, written into a lent output.
 ghost use Rattle.std.specs.Prelude.{[], ◌≤◌, length};
 ghost use Rattle.flow.specs.Refusals;
-ghost use Rattle.flow.specs.Answers.{countValues, judgeTold, findingsTold};
+ghost use Rattle.flow.specs.Answers.{count_values, judge_told, findings_told};
 ghost use Rattle.flow.specs.Listing;
 ghost use Rattle.line_writer.specs.Output.{Appended, Printed};
 ghost use Rattle.finding_lines.specs.Findings.{first_findings};
@@ -28,7 +28,7 @@ pub fn refused(output: &mut [u8], refusal: Refusal) -> usize
 fn head_lines(output: &mut [u8], counts: Counts, reachable: &[u64]) -> usize
     requires in_bounds { 5 ≤ length reachable.now }
     requires room_for_all_in_bounds { room_for_all ≤ length output.old }
-    ensures { Appended (Listing.report (countValues counts) reachable.now []) 0 output.old output.new result }
+    ensures { Appended (Listing.report (count_values counts) reachable.now []) 0 output.old output.new result }
 {
     let values = [
         counts.nodes as u64,
@@ -50,7 +50,7 @@ fn report(
 ) -> usize
     requires in_bounds { (5 ≤ length reachable.now) × (n ≤ length words.now) × (n ≤ length spans.now) }
     requires n_bound { (n ≤ 3072) × (room_for_all ≤ length output.old) }
-    ensures { Printed (Listing.report (countValues counts) reachable.now (first_findings n words.now spans.now)) output.old output.new result }
+    ensures { Printed (Listing.report (count_values counts) reachable.now (first_findings n words.now spans.now)) output.old output.new result }
 {
     let next = head_lines(output, counts, reachable);
     finding_lines(output, next, words, spans, n)
@@ -64,9 +64,9 @@ pub fn answered(
     words: &[u64],
     spans: &[u64],
 ) -> usize
-    requires in_bounds { (5 ≤ length reachable.now) × (findingsTold (judgeTold answer) ≤ length words.now) × (findingsTold (judgeTold answer) ≤ length spans.now) }
-    requires answer_bound { (findingsTold (judgeTold answer) ≤ 3072) × (room_for_all ≤ length output.old) }
-    ensures { Printed (answer_lines (judgeTold answer) reachable.now words.now spans.now) output.old output.new result }
+    requires in_bounds { (5 ≤ length reachable.now) × (findings_told (judge_told answer) ≤ length words.now) × (findings_told (judge_told answer) ≤ length spans.now) }
+    requires answer_bound { (findings_told (judge_told answer) ≤ 3072) × (room_for_all ≤ length output.old) }
+    ensures { Printed (answer_lines (judge_told answer) reachable.now words.now spans.now) output.old output.new result }
 {
     match answer {
         JudgeAnswer::Refused(refusal) => refused(output, refusal),

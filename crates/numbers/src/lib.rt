@@ -1,7 +1,7 @@
 // The number of a refusal, and of each answer, as code.
 ghost use Rattle.std.specs.Prelude.{◌≡◌, [], ◌≤◌};
 ghost use Rattle.flow.specs.Refusals;
-ghost use Rattle.flow.specs.Answers.{tells, chartTold, runTold, judgeTold, labelTold};
+ghost use Rattle.flow.specs.Answers.{tells, chart_told, run_told, judge_told, label_told};
 
 use flow::{ChartAnswer, JudgeAnswer, LabelAnswer, Refusal, RunAnswer, Verdict};
 
@@ -33,7 +33,7 @@ pub fn verdict_number(verdict: Verdict) -> u64
 }
 
 pub fn chart_number(answer: ChartAnswer) -> u64
-    ensures { result ≡ (chartTold answer).number }
+    ensures { result ≡ (chart_told answer).number }
 {
     match answer {
         ChartAnswer::Refused(refusal) => number(refusal),
@@ -42,7 +42,7 @@ pub fn chart_number(answer: ChartAnswer) -> u64
 }
 
 pub fn run_number(answer: RunAnswer) -> u64
-    ensures { result ≡ (runTold answer).number }
+    ensures { result ≡ (run_told answer).number }
 {
     match answer {
         RunAnswer::Refused(refusal) => number(refusal),
@@ -51,7 +51,7 @@ pub fn run_number(answer: RunAnswer) -> u64
 }
 
 pub fn judge_number(answer: JudgeAnswer) -> u64
-    ensures { result ≡ (judgeTold answer).number }
+    ensures { result ≡ (judge_told answer).number }
 {
     match answer {
         JudgeAnswer::Refused(refusal) => number(refusal),
@@ -60,7 +60,7 @@ pub fn judge_number(answer: JudgeAnswer) -> u64
 }
 
 pub fn label_number(answer: LabelAnswer) -> u64
-    ensures { result ≡ (labelTold answer).number }
+    ensures { result ≡ (label_told answer).number }
 {
     match answer {
         LabelAnswer::Refused(refusal) => number(refusal),

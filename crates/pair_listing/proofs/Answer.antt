@@ -10,7 +10,7 @@ use Rattle.flow.specs.declared.JudgeAnswer.{JudgeAnswer}
 use Rattle.flow.specs.declared.Verdict.{Verdict}
 use Rattle.flow.specs.declared.Verdict.TheVariants.{Admitted}
 use Rattle.flow.specs.Refusals.{pair_verdict}
-use Rattle.flow.specs.Answers.{judgeTold, findingsTold}
+use Rattle.flow.specs.Answers.{judge_told, findings_told}
 use Rattle.flow.specs.Graph.{graph}
 use Rattle.flow.specs.Reachable.{reachable}
 use Rattle.flow.specs.Findings.{findings}
@@ -59,7 +59,7 @@ module _ (S U : List ℕ) {answer : JudgeAnswer} {y : Columns} {g : FindingColum
   p : Judges (pair_verdict (judge_short own_columns own_findings) S U) S U answer (record { chart = record { before = own_columns; after = y }; found = record { before = own_findings; after = g } })
   p = (without_scopes S U answer _).0 promised
 
-  tells : judgeTold answer ≡ judged (pair_verdict false S U) S U
+  tells : judge_told answer ≡ judged (pair_verdict false S U) S U
   tells = rw own at p.told
 
   words_are : pair_verdict false S U ≡ Admitted → g.word ≡ overlay (words_of (findings S U)) (zeros 3072)
@@ -71,7 +71,7 @@ module _ (S U : List ℕ) {answer : JudgeAnswer} {y : Columns} {g : FindingColum
   flags_are : pair_verdict false S U ≡ Admitted → y.nodes.reachable ≡ overlay (reachable (graph S)) (zeros 1600)
   flags_are a = chart_admits S own_columns a (rw own at p.columns)
 
-  pub held : length g.word ≡ 3072 → findingsTold (judgeTold answer) ≤ 3072
+  pub held : length g.word ≡ 3072 → findings_told (judge_told answer) ≤ 3072
   held l = few_found false S U tells (λ a. omega (arith, fits (words_of (findings S U)) (zeros 3072) (words_are a), length-map (findings S U) (λ f. f.word)))
 
   shows : pair_verdict false S U ≡ Admitted → Shown (graph S) (findings S U) y.nodes.reachable g.word g.span
@@ -79,5 +79,5 @@ module _ (S U : List ℕ) {answer : JudgeAnswer} {y : Columns} {g : FindingColum
       let fs = findings S U in
       shown S fs (drop (length (reachable (graph S))) (zeros 1600)) (drop (length (words_of fs)) (zeros 3072)) (drop (length (spans_of fs)) (zeros 3072)) (flags_are a) (words_are a) (spans_are a)
 
-  pub prints : answer_lines (judgeTold answer) y.nodes.reachable g.word g.span ≡ sheets_print S U
+  pub prints : answer_lines (judge_told answer) y.nodes.reachable g.word g.span ≡ sheets_print S U
   prints = answer_prints false S U tells y.nodes.reachable g.word g.span shows

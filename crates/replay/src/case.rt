@@ -1,6 +1,6 @@
 // One case of the stored answers, against what the calls and crates/admission answer.
 ghost use Rattle.std.specs.Prelude.{◌≡◌, ◌+◌, ◌≤◌, length, get_or};
-ghost use Rattle.flow.specs.Answers.{labelTold};
+ghost use Rattle.flow.specs.Answers.{label_told};
 
 use crate::chart::chart_agrees;
 use crate::findings::judge_agrees;
@@ -23,7 +23,7 @@ pub enum Outcome {
 
 // The word that a case holds for the label check: the refusal's number, else its value.
 fn label_word(answer: LabelAnswer) -> u64
-    ensures { result ≡ (labelTold answer).number + get_or (labelTold answer).values 0 0 }
+    ensures { result ≡ (label_told answer).number + get_or (label_told answer).values 0 0 }
 {
     let number = label_number(answer);
     match answer {

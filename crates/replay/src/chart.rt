@@ -1,6 +1,6 @@
 // The stored chart of a case, against what chart_call::chart writes and answers.
 ghost use Rattle.std.specs.Prelude.{◌≡◌, true, [], ◌∷◌};
-ghost use Rattle.flow.specs.Answers.{countValues, chartTold};
+ghost use Rattle.flow.specs.Answers.{count_values, chart_told};
 ghost use Rattle.replay.specs.Words.{stored_told};
 
 use crate::stored::Stored;
@@ -63,7 +63,7 @@ pub fn finding_end(column: [u64; FINDINGS], words: &[u64], from: usize, n: usize
 
 // Whether the values that counts tell are the stored ones.
 pub fn counts_are(counts: Counts, stored: Stored) -> bool
-    ensures { result ≡ true → countValues counts ≡ stored.nodes ∷ stored.codes ∷ stored.names ∷ [] }
+    ensures { result ≡ true → count_values counts ≡ stored.nodes ∷ stored.codes ∷ stored.names ∷ [] }
 {
     if counts.nodes != stored.nodes as usize {
         return false;
@@ -76,7 +76,7 @@ pub fn counts_are(counts: Counts, stored: Stored) -> bool
 
 // Whether an answer tells the stored number, and where that is 0 the stored counts.
 fn answer_is(answer: ChartAnswer, stored: Stored) -> bool
-    ensures { result ≡ true → chartTold answer ≡ stored_told stored.number (stored.nodes ∷ stored.codes ∷ stored.names ∷ []) }
+    ensures { result ≡ true → chart_told answer ≡ stored_told stored.number (stored.nodes ∷ stored.codes ∷ stored.names ∷ []) }
 {
     if chart_number(answer) != stored.number {
         return false;

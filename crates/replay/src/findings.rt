@@ -1,6 +1,6 @@
 // The stored findings of a case, with its chart, against what judge writes and answers.
 ghost use Rattle.std.specs.Prelude.{◌≡◌, true, [], ◌∷◌};
-ghost use Rattle.flow.specs.Answers.{judgeTold};
+ghost use Rattle.flow.specs.Answers.{judge_told};
 ghost use Rattle.replay.specs.Words.{stored_told};
 
 use crate::chart::{OLD, cells_hold, counts_are, finding_end};
@@ -11,7 +11,7 @@ use numbers::judge_number;
 
 // Whether an answer tells the stored number, and where that is 0 the stored counts and the number of findings.
 fn answer_is(answer: JudgeAnswer, stored: Stored) -> bool
-    ensures { result ≡ true → judgeTold answer ≡ stored_told stored.number (stored.nodes ∷ stored.codes ∷ stored.names ∷ stored.findings ∷ []) }
+    ensures { result ≡ true → judge_told answer ≡ stored_told stored.number (stored.nodes ∷ stored.codes ∷ stored.names ∷ stored.findings ∷ []) }
 {
     if judge_number(answer) != stored.number {
         return false;

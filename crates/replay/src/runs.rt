@@ -1,7 +1,7 @@
 // The stored runs of a case, against what run::run answers.
 ghost use Rattle.std.specs.Prelude.{◌≡◌, true, ◌∷◌, ◌≤◌};
 ghost use Rattle.flow.specs.Refusals.{one};
-ghost use Rattle.flow.specs.Answers.{foundValues, runTold};
+ghost use Rattle.flow.specs.Answers.{found_values, run_told};
 ghost use Rattle.replay.specs.Words.{stored_told, stored_node};
 
 use crate::stored::{NONE, Stored, cells_end, count, word_at};
@@ -9,7 +9,7 @@ use flow::{Found, RunAnswer};
 
 // Whether the values that a node or nothing tells are the stored ones: NONE where there is no node.
 fn node_is(found: Found, node: u64) -> bool
-    ensures { result ≡ true → foundValues found ≡ stored_node node }
+    ensures { result ≡ true → found_values found ≡ stored_node node }
 {
     match found {
         Found::At(v) => {
@@ -31,7 +31,7 @@ fn yes_is(yes: bool, can: u64) -> bool
 
 // Whether an answer is accepted and tells the stored values.
 fn answer_is(answer: RunAnswer, node: u64, can: u64) -> bool
-    ensures { result ≡ true → runTold answer ≡ stored_told 0 (can ∷ stored_node node) }
+    ensures { result ≡ true → run_told answer ≡ stored_told 0 (can ∷ stored_node node) }
 {
     match answer {
         RunAnswer::Refused(_) => false,

@@ -13,7 +13,7 @@ use Rattle.flow.specs.declared.Verdict.TheVariants.{Admitted, Refused}
 use Rattle.flow.specs.Sheet.{span_words}
 use Rattle.flow.specs.Refusals.{one, number, sheet_verdict}
 use Rattle.flow.specs.Scopes.{crossed, scoped_verdict}
-use Rattle.flow.specs.Answers.{told, tells, foundValues, countValues}
+use Rattle.flow.specs.Answers.{told, tells, found_values, count_values}
 use Rattle.flow.specs.Graph.{node_count, graph}
 use Rattle.flow.specs.Reachable.{node_at, can_run, run, counts_of, chart}
 use Rattle.flow.specs.Findings.{findings}
@@ -36,15 +36,15 @@ module _ (S : List ℕ) (e : sheet_verdict false S ≡ Admitted) where
       omega (arith, graph_count S, a.room (span_words S) (a.spans ∙ sym a.kinds))
 
   -- the three counts, then the findings' count if there is one
-  counts_fit : (more : List ℕ) → get_or more 0 0 < 2 ^ 16 → CountsFit (told 0 (countValues (counts_of (graph S)) ++ more))
+  counts_fit : (more : List ℕ) → get_or more 0 0 < 2 ^ 16 → CountsFit (told 0 (count_values (counts_of (graph S)) ++ more))
   counts_fit more h =
       let a = admitted S e in
       record { nodes = omega (arith, few_nodes); codes = omega (arith, a.few_codes); names = omega (arith, a.few_names); findings = h }
 
-  node_fits : (o : ℕ) → or_none (foundValues (node_at (graph S) o)) < 2 ^ 32
+  node_fits : (o : ℕ) → or_none (found_values (node_at (graph S) o)) < 2 ^ 32
   node_fits o = go (node_at (graph S) o) refl
     where
-      go : (f : Found) → node_at (graph S) o ≡ f → or_none (foundValues f) < 2 ^ 32
+      go : (f : Found) → node_at (graph S) o ≡ f → or_none (found_values f) < 2 ^ 32
       go (At v) q = omega (arith, few_nodes, code_node_law S o v q)
       go Nothing q = omega arith
 
@@ -52,7 +52,7 @@ pub chart_fits : (short : Bool) (S : List ℕ) → CountsFit (chart short S)
 unfolding chart
 chart_fits short S = go (sheet_verdict short S) refl
   where
-    go : (v : Verdict) → sheet_verdict short S ≡ v → CountsFit (tells v (countValues (counts_of (graph S))))
+    go : (v : Verdict) → sheet_verdict short S ≡ v → CountsFit (tells v (count_values (counts_of (graph S))))
     go (Refused r) e = refused_fits (number r)
     go Admitted e = counts_fit S (of_sheet short S e).1 [] (omega arith)
 
@@ -72,6 +72,6 @@ pub run_fits : (S : List ℕ) (o : ℕ) → run_node (run S o) < 2 ^ 32
 unfolding run
 run_fits S o = go (sheet_verdict false S) refl
   where
-    go : (v : Verdict) → sheet_verdict false S ≡ v → run_node (tells v (one (can_run (graph S) (node_at (graph S) o)) ∷ foundValues (node_at (graph S) o))) < 2 ^ 32
+    go : (v : Verdict) → sheet_verdict false S ≡ v → run_node (tells v (one (can_run (graph S) (node_at (graph S) o)) ∷ found_values (node_at (graph S) o))) < 2 ^ 32
     go (Refused r) e = omega arith
     go Admitted e = node_fits S e o

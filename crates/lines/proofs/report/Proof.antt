@@ -5,7 +5,7 @@ use mathlib.Core.List.{List, [], ◌++◌}
 use Prim.Native.Nat.{ℕ}
 use native.Mathlib.Omega.{arith}
 use lib.ListN.{length-append}
-use Rattle.flow.specs.Answers.{countValues}
+use Rattle.flow.specs.Answers.{count_values}
 use Rattle.flow.specs.Listing.{finding_lines, report as reportLines}
 use Rattle.line_writer.specs.Output.{Room}
 use Rattle.line_writer.proofs.Appended.{first_room, then_room, both, printed}
@@ -16,7 +16,7 @@ use Rattle.lines.proofs.report.Statement.{statement}
 use Rattle.lines.proofs.report.Tie as tie
 
 abbrev first : tie.Start → List ℕ
-first c = reportLines (countValues c.args.counts) c.args.reachable.now []
+first c = reportLines (count_values c.args.counts) c.args.reachable.now []
 
 abbrev rest : tie.Start → List ℕ
 rest c = finding_lines (first_findings c.args.n c.args.words.now c.args.spans.now)
@@ -29,7 +29,7 @@ start c = c.before.before.before.before
 all_room : (c : tie.After-shared-slice-known3) → Room (first (start c) ++ rest (start c)) 0 (start c).args.output.now
 all_room c =
     let s = start c in
-    let h = head_long (countValues s.args.counts) s.args.reachable.now in
+    let h = head_long (count_values s.args.counts) s.args.reachable.now in
     let t = findings_long s.args.n s.args.words.now s.args.spans.now (λ i. (c.before.shared-slice-known2.given i).fits) (λ i. (c.shared-slice-known3.given i).fits) in
     from_start (first s ++ rest s) (rw length-append (omega arith)) s.pre.1.1
 

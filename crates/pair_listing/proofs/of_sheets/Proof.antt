@@ -6,7 +6,7 @@ use mathlib.Core.List.{List}
 use Prim.Native.Nat.{ℕ, ◌≤◌}
 use native.Mathlib.Omega.{arith}
 use lib.ListN.{length}
-use Rattle.flow.specs.Answers.{judgeTold, findingsTold}
+use Rattle.flow.specs.Answers.{judge_told, findings_told}
 use Rattle.flow.specs.Listing.{sheets_print}
 use Rattle.lines.specs.Report.{answer_lines}
 use Rattle.pair_listing.proofs.Answer.{held, prints}
@@ -43,10 +43,10 @@ words_long c = let k = c.judge.auto.1.1.1.1.1.1 in k.1.1.1.1.1.1.0
 spans_long : (c : tie.After-judge) → length (spans c) ≡ 3072
 spans_long c = let k = c.judge.auto.1.1.1.1.1.1 in k.1.1.1.1.1.1.1.0
 
-few : (c : tie.After-judge) → findingsTold (judgeTold c.judge.result) ≤ 3072
+few : (c : tie.After-judge) → findings_told (judge_told c.judge.result) ≤ 3072
 few c = held (sheet c) (uses c) c.judge.ensures (words_long c)
 
-as_the_sheets : (c : tie.After-judge) → answer_lines (judgeTold c.judge.result) (flags c) (words c) (spans c) ≡ sheets_print (sheet c) (uses c)
+as_the_sheets : (c : tie.After-judge) → answer_lines (judge_told c.judge.result) (flags c) (words c) (spans c) ≡ sheets_print (sheet c) (uses c)
 as_the_sheets c = prints (sheet c) (uses c) c.judge.ensures
 
 slice-aggregate-judge : tie.Need-slice-aggregate-judge
