@@ -3,7 +3,7 @@
 ghost use Rattle.std.specs.Prelude.{◌≡◌};
 ghost use Rattle.block_settings.specs.Settings.{scope_settings, loop_settings};
 
-#[derive(Drop)]
+#[derive(Clone, Copy)]
 pub struct BlockSettings {
     // How many labels are in force.
     pub labels: usize,

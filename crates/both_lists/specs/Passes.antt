@@ -23,9 +23,9 @@ AnyPair n names first second start node_of_name name_end facts starts byLocal by
     (S : List ℕ) × (U : List ℕ) × Pair S U n names first.now second.now start.now node_of_name.now name_end.now facts.now starts.now byLocal.now by_node.now
 
 -- a call lists the findings of the pair that its columns are of, r of them, and a mark figure for each local
-abbrev pub Finds : (n names : ℕ) (first second start node_of_name name_end facts starts byLocal by_node finding_word mark : Column) (r : ℕ) → Type 0
+abbrev pub Finds : (n names : ℕ) (first second start node_of_name name_end facts starts byLocal by_node : List ℕ) (finding_word mark : Column) (r : ℕ) → Type 0
 Finds n names first second start node_of_name name_end facts starts byLocal by_node finding_word mark r =
-    (S U : List ℕ) → Pair S U n names (held first) (held second) (held start) (held node_of_name) (held name_end) (held facts) (held starts) (held byLocal) (held by_node)
+    (S U : List ℕ) → Pair S U n names first second start node_of_name name_end facts starts byLocal by_node
     → Adds (words_of (findings S U)) 0 finding_word r × Figures S U names (held mark) (left mark)
 
 -- memory for the walks in a graph of n nodes: there is room in it, and its marks are 0

@@ -31,7 +31,7 @@ pub fn list_findings(
     requires any_pair { AnyPair n names first second start name_node name_end facts starts by_local by_node }
     requires walks { Walks n visited.old stack.old chain.old used.old reads.old writes.old }
     requires room { Room (names + (names + 1024)) 0 finding_word.old × (names ≤ length mark.old) }
-    ensures { Finds n names first second start name_node name_end facts starts by_local by_node finding_word mark result }
+    ensures { Finds n names first.now second.now start.now name_node.now name_end.now facts.now starts.now by_local.now by_node.now finding_word mark result }
 {
     let count = list_unassigned(
         first,

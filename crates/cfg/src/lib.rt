@@ -37,7 +37,7 @@ fn block(
     b: GraphBuilder,
 ) -> GraphBuilder
     requires { Sane kinds.now × Good b (cols edges.old codes.old names.old labels.old) × (b.item ≤ length kinds.now) × EnteredRoom kinds.now b }
-    ensures { ForSpans (held kinds) (λ ks ss. Finished ks ss b (cols_at held edges codes names labels) result (cols_at left edges codes names labels)) }
+    ensures { ForSpans kinds.now (λ ks ss. Finished ks ss b (cols_at held edges codes names labels) result (cols_at left edges codes names labels)) }
 {
     let mut t = b;
     let mut at = t.item;
@@ -64,7 +64,7 @@ fn scoped_block(
     scope_end: u64,
 ) -> GraphBuilder
     requires { Sane kinds.now × Good b (cols edges.old codes.old names.old labels.old) × (b.item ≤ length kinds.now) × BlockRoom kinds.now b × (scope_end < 4294967296) }
-    ensures { ForSpans (held kinds) (λ ks ss. Scoped ks ss scope_end b (cols_at held edges codes names labels) result (cols_at left edges codes names labels)) }
+    ensures { ForSpans kinds.now (λ ks ss. Scoped ks ss scope_end b (cols_at held edges codes names labels) result (cols_at left edges codes names labels)) }
 {
     let t = b.enter_scope(scope_end);
     let e = t.enter_block(kinds, edges, labels);
@@ -87,7 +87,7 @@ fn loop_body(
 ) -> GraphBuilder
     requires sane { Sane kinds.now × Good b (cols edges.old codes.old names.old labels.old) × (b.item ≤ length kinds.now) × BlockRoom kinds.now b × (scope_end < 4294967296) }
     requires break_target_lt_nodes { (break_target < b.nodes) × (continue_target < b.nodes) }
-    ensures { ForSpans (held kinds) (λ ks ss. Looped ks ss scope_end break_target continue_target b (cols_at held edges codes names labels) result (cols_at left edges codes names labels)) }
+    ensures { ForSpans kinds.now (λ ks ss. Looped ks ss scope_end break_target continue_target b (cols_at held edges codes names labels) result (cols_at left edges codes names labels)) }
 {
     let t = b.enter_loop(break_target, continue_target);
     let s = scoped_block(kinds, edges, codes, names, labels, t, scope_end);
@@ -107,7 +107,7 @@ fn while_loop(
     i: usize,
 ) -> GraphBuilder
     requires { PastHead kinds.now i 2 b (cols edges.old codes.old names.old labels.old) }
-    ensures { ForSpans (held kinds) (λ ks ss. Opened ks ss i b (cols_at held edges codes names labels) result (cols_at left edges codes names labels)) }
+    ensures { ForSpans kinds.now (λ ks ss. Opened ks ss i b (cols_at held edges codes names labels) result (cols_at left edges codes names labels)) }
 {
     let argument = kinds[i] / ARGUMENT;
     let truth = literal_truth(argument % SCOPE_END);
@@ -141,7 +141,7 @@ fn repeat_loop(
     i: usize,
 ) -> GraphBuilder
     requires { PastHead kinds.now i 3 b (cols edges.old codes.old names.old labels.old) }
-    ensures { ForSpans (held kinds) (λ ks ss. Opened ks ss i b (cols_at held edges codes names labels) result (cols_at left edges codes names labels)) }
+    ensures { ForSpans kinds.now (λ ks ss. Opened ks ss i b (cols_at held edges codes names labels) result (cols_at left edges codes names labels)) }
 {
     let argument = kinds[i] / ARGUMENT;
     let truth = literal_truth(argument % SCOPE_END);
@@ -176,7 +176,7 @@ fn for_loop(
     i: usize,
 ) -> GraphBuilder
     requires { PastHead kinds.now i 4 b (cols edges.old codes.old names.old labels.old) }
-    ensures { ForSpans (held kinds) (λ ks ss. Opened ks ss i b (cols_at held edges codes names labels) result (cols_at left edges codes names labels)) }
+    ensures { ForSpans kinds.now (λ ks ss. Opened ks ss i b (cols_at held edges codes names labels) result (cols_at left edges codes names labels)) }
 {
     let argument = kinds[i] / ARGUMENT;
     let head = b.nodes + 1;
@@ -209,7 +209,7 @@ fn if_stmt(
     i: usize,
 ) -> GraphBuilder
     requires { PastHead kinds.now i 5 b (cols edges.old codes.old names.old labels.old) }
-    ensures { ForSpans (held kinds) (λ ks ss. Opened ks ss i b (cols_at held edges codes names labels) result (cols_at left edges codes names labels)) }
+    ensures { ForSpans kinds.now (λ ks ss. Opened ks ss i b (cols_at held edges codes names labels) result (cols_at left edges codes names labels)) }
 {
     let scope_end = kinds[i] / ARGUMENT / SCOPE_END;
     let test = b.nodes;
@@ -223,7 +223,7 @@ fn if_stmt(
 
 // Whether ELSEIF or ELSE stands at an item.
 fn arm_follows(kinds: &[u64], at: usize) -> bool
-    ensures { (result ≡ true → (at < length (held kinds)) × Arm (kind_of (get_or (held kinds) at 0))) × (result ≡ false → at < length (held kinds) → Arm (kind_of (get_or (held kinds) at 0)) → ⊥) }
+    ensures { (result ≡ true → (at < length kinds.now) × Arm (kind_of (get_or kinds.now at 0))) × (result ≡ false → at < length kinds.now → Arm (kind_of (get_or kinds.now at 0)) → ⊥) }
 {
     if kinds.len() <= at {
         return false;
@@ -250,7 +250,7 @@ fn arms(
 ) -> GraphBuilder
     requires at_end { AtEnd kinds.now b (cols edges.old codes.old names.old labels.old) }
     requires test_lt_nodes { (test < b.nodes) × (join < b.nodes) }
-    ensures { ForSpans (held kinds) (λ ks ss. Chosen ks ss test join falls b (cols_at held edges codes names labels) result (cols_at left edges codes names labels)) }
+    ensures { ForSpans kinds.now (λ ks ss. Chosen ks ss test join falls b (cols_at held edges codes names labels) result (cols_at left edges codes names labels)) }
 {
     let mut s = IfBuilder {
         builder: b,
@@ -280,7 +280,7 @@ fn arm(
 ) -> IfBuilder
     requires at_arm { AtArm kinds.now s.builder (cols edges.old codes.old names.old labels.old) }
     requires test_lt_nodes { (s.test < s.builder.nodes) × (join < s.builder.nodes) }
-    ensures { (s.builder.item < result.builder.item) × ForSpans (held kinds) (λ ks ss. ArmBuilt ks ss join s (cols_at held edges codes names labels) result (cols_at left edges codes names labels)) }
+    ensures { (s.builder.item < result.builder.item) × ForSpans kinds.now (λ ks ss. ArmBuilt ks ss join s (cols_at held edges codes names labels) result (cols_at left edges codes names labels)) }
 {
     let at = s.builder.item;
     let w = kinds[at];
@@ -311,7 +311,7 @@ fn stmt(
     b: GraphBuilder,
 ) -> GraphBuilder
     requires { AtStmt kinds.now b (cols edges.old codes.old names.old labels.old) }
-    ensures { ForSpans (held kinds) (λ ks ss. Stepped ks ss b (cols_at held edges codes names labels) result (cols_at left edges codes names labels)) }
+    ensures { ForSpans kinds.now (λ ks ss. Stepped ks ss b (cols_at held edges codes names labels) result (cols_at left edges codes names labels)) }
 {
     let i = b.item;
     let w = kinds[i];
@@ -370,7 +370,7 @@ pub fn of_block(
     scope_end: u64,
 ) -> GraphBuilder
     requires { Sane kinds.now × Wide (cols edges.old codes.old names.old labels.old) × (scope_end < 4294967296) × WholeRoom kinds.now }
-    ensures { ForSpans (held kinds) (λ ks ss. Whole ks ss scope_end (cols_at held edges codes names labels) result (cols_at left edges codes names labels)) }
+    ensures { ForSpans kinds.now (λ ks ss. Whole ks ss scope_end (cols_at held edges codes names labels) result (cols_at left edges codes names labels)) }
 {
     start_nodes(edges);
     let s = scoped_block(

@@ -22,7 +22,7 @@ use words::{ARGUMENT, HALF, NAME_ITEM, NO_NODE, NO_SUCCESSORS, exit};
 const NAME_NODES: usize = NAME_ITEM as usize;
 
 // The builder's place in the sheet, its counts and its settings.
-#[derive(Drop)]
+#[derive(Clone, Copy)]
 pub struct GraphBuilder {
     // The next item.
     pub item: usize,
@@ -197,7 +197,7 @@ impl GraphBuilder {
         requires item_in_bounds { (self.item ≤ length kinds.now) × (length kinds.now ≤ 1024) × LabelsFit kinds.now }
         requires by_index { (c n : List ℕ) × Good self (cols edges.old c n labels.old) }
         requires by_index_2 { (ss : List ℕ) → length ss ≡ length kinds.now → self.nodes + length (labels_at kinds.now ss self.item) ≤ 1600 }
-        ensures { (ss c n : List ℕ) → length ss ≡ length (held kinds) → Enters (held kinds) (labels_at (held kinds) ss self.item) self result (λ at. cols (at edges) c n (at labels)) }
+        ensures { (ss c n : List ℕ) → length ss ≡ length kinds.now → Enters kinds.now (labels_at kinds.now ss self.item) self result (λ at. cols (at edges) c n (at labels)) }
     {
         let mut b = self;
         let mut depth = 0;
@@ -228,7 +228,7 @@ impl GraphBuilder {
     ) -> GraphBuilder
         requires by_index { (n : List ℕ) × Good self (cols edges.old codes.old n labels.now) }
         requires codes_lt_item { (self.codes < self.item) × (i < self.item) }
-        ensures { (ks n : List ℕ) → DoesCode ks i false (labelled name (label_list self.settings.labels (held labels))) 0 self result (λ at. cols (at edges) (at codes) n (held labels)) }
+        ensures { (ks n : List ℕ) → DoesCode ks i false (labelled name (label_list self.settings.labels labels.now)) 0 self result (λ at. cols (at edges) (at codes) n labels.now) }
     {
         if name == 0 {
             return self;
@@ -252,7 +252,7 @@ impl GraphBuilder {
     ) -> GraphBuilder
         requires by_index { (n : List ℕ) × Good self (cols edges.old codes.old n labels.now) }
         requires nodes_bound { (self.nodes < 1600) × (self.codes < self.item) × (i < self.item) }
-        ensures { (ks n : List ℕ) → DoesCode ks i true (gone name (label_list self.settings.labels (held labels))) 1 self result (λ at. cols (at edges) (at codes) n (held labels)) }
+        ensures { (ks n : List ℕ) → DoesCode ks i true (gone name (label_list self.settings.labels labels.now)) 1 self result (λ at. cols (at edges) (at codes) n labels.now) }
     {
         let count = self.settings.labels;
         let Found::At(node) = label_node(labels, count, name) else {
@@ -307,7 +307,7 @@ impl GraphBuilder {
     ) -> GraphBuilder
         requires good { Good self (cols edges.old codes.old names.old labels.now) }
         requires w_bound { (self.nodes + simple_made (kind_of w) ≤ 1600) × (self.codes < self.item) × (self.names < self.item) × (i < self.item) × (kind_of w ≡ 8 → ⊥) × (kind_of w ≡ 9 → ⊥) }
-        ensures { (ks : List ℕ) → DoesSimple ks i w self result (λ at. cols (at edges) (at codes) (at names) (held labels)) }
+        ensures { (ks : List ℕ) → DoesSimple ks i w self result (λ at. cols (at edges) (at codes) (at names) labels.now) }
     {
         let kind = w % ARGUMENT;
         let argument = w / ARGUMENT;

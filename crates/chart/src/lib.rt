@@ -28,7 +28,7 @@ fn write_chart(
 ) -> Counts
     requires by_index { (S : List ℕ) × PartsOf S kinds.now spans.now scope_end }
     requires wide { Wide (columns first.old second.old start.old reachable.old code_span.old code_node.old name_span.old name_node.old name_end.old) }
-    ensures { ChartedOf (held kinds) (held spans) scope_end result (lent first second start reachable code_span code_node name_span name_node name_end) }
+    ensures { ChartedOf kinds.now spans.now scope_end result (lent first second start reachable code_span code_node name_span name_node name_end) }
 {
     let b = of_block(kinds, first, code_node, name_node, reachable, scope_end);
     let nodes = b.nodes;

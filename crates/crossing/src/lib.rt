@@ -54,7 +54,7 @@ fn note_of(kinds: &[u64], parents: &[u64], notes: &[u64], s: usize) -> u64
 // The notes of all scopes.
 fn note_scopes(kinds: &[u64], parents: &[u64], notes: &mut [u64])
     requires { (length kinds.now ≡ length parents.now) × (length kinds.now ≤ 512) × (length kinds.now ≤ length notes.old) × Lower parents.now }
-    ensures { Noted (held kinds) (held parents) (length (held kinds)) (left notes) }
+    ensures { Noted kinds.now parents.now (length kinds.now) (left notes) }
 {
     let mut s = 0;
     while s < kinds.len() {
@@ -140,7 +140,7 @@ fn crossed_word(
 pub fn replace_crossings(scopes: &[u64], use_words: &[u64], words: &mut [u64], names: usize)
     requires admitted_scopes { AdmittedScopes names (length use_words.now) scopes.now × (names ≤ 1024) × (length use_words.now ≤ 1024) }
     requires use_words_in_bounds { (length use_words.now ≤ length words.old) × ((u : ℕ) → u < length use_words.now → local_of (get_or use_words.now u 0) < names) }
-    ensures { left words ≡ crossed_from names (held scopes) 0 (held use_words) ++ drop (length (held use_words)) (held words) }
+    ensures { left words ≡ crossed_from names scopes.now 0 use_words.now ++ drop (length use_words.now) (held words) }
 {
     let mut notes = [0u64; SCOPES];
     note_scopes(scope_kinds(scopes), parent_words(scopes), &mut notes);

@@ -11,7 +11,7 @@ use use_words::{is_in_closure, is_read, is_write, node_of, number_of};
 // Whether a use is an empty read: a read outside closures, which run who knows when, at a node that is not marked.
 fn is_empty_read(visited: &[u16], stamp: u16, word: u64) -> bool
     requires { node_in word < length visited.now }
-    ensures { (n : ℕ) → node_in word < n → result ≡ is_empty_read (flags_of stamp n (held visited)) [] (use_of word) }
+    ensures { (n : ℕ) → node_in word < n → result ≡ is_empty_read (flags_of stamp n visited.now) [] (use_of word) }
 {
     if is_read(word) {
         if is_in_closure(word) {
@@ -48,7 +48,7 @@ fn test_and_mark(visited: &mut [u16], stamp: u16, word: u64) -> bool
 // The first empty read in use order, as its number + 1; 0 where there is none. The marks are those of the local's live walk.
 pub fn first_unassigned_use(mine: &[u64], visited: &mut [u16], stamp: u16) -> usize
     requires { AllPlaced (length visited.old) mine.now }
-    ensures by_index { (n : ℕ) → AllPlaced n (held mine) → result ≡ code_of (first_empty_read (flags_of stamp n (held visited)) [] (uses_in (held mine))) }
+    ensures by_index { (n : ℕ) → AllPlaced n mine.now → result ≡ code_of (first_empty_read (flags_of stamp n (held visited)) [] (uses_in mine.now)) }
     ensures stamped { Stamped stamp (held visited) → Stamped stamp (left visited) }
 {
     let mut i = 0;

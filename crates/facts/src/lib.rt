@@ -99,7 +99,7 @@ pub fn is_judged(facts: u16) -> bool
 // Whether some local is tracked. Where none is, nothing is searched and no memory is needed for it.
 pub fn any_tracked(facts: &[u16], names: usize) -> bool
     requires { names ≤ length facts.now }
-    ensures { result ≡ false → None (λ l found. tracked l) names (held facts) }
+    ensures { result ≡ false → None (λ l found. tracked l) names facts.now }
 {
     let mut i = 0;
     while i < names {
@@ -114,7 +114,7 @@ pub fn any_tracked(facts: &[u16], names: usize) -> bool
 // Whether the values of some local are judged. Where none are, nothing is searched back.
 pub fn any_judged(facts: &[u16], names: usize) -> bool
     requires { names ≤ length facts.now }
-    ensures { result ≡ false → None is_judged names (held facts) }
+    ensures { result ≡ false → None is_judged names facts.now }
 {
     let mut i = 0;
     while i < names {

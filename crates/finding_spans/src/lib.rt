@@ -8,7 +8,7 @@ use words::finding::{LOCAL, USE};
 // The span of the finding with this word.
 fn span_of(use_span: &[u64], name_span: &[u64], word: u64) -> u64
     requires { Names (length use_span.now) (length name_span.now) word }
-    ensures { result ≡ span_of (held use_span) (held name_span) word }
+    ensures { result ≡ span_of use_span.now name_span.now word }
 {
     let use_code = (word / USE) as usize;
     if use_code == 0 {
@@ -27,7 +27,7 @@ pub fn write_spans(
     count: usize,
 )
     requires { Known count (length use_span.now) (length name_span.now) finding_word.now × (count ≤ length finding_span.old) }
-    ensures { left finding_span ≡ map (span_of (held use_span) (held name_span)) (take count (held finding_word)) ++ drop count (held finding_span) }
+    ensures { left finding_span ≡ map (span_of use_span.now name_span.now) (take count finding_word.now) ++ drop count (held finding_span) }
 {
     let mut i = 0;
     while i < count {

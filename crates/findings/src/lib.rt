@@ -27,7 +27,7 @@ pub fn find_all(
     requires admitted_sheet { AdmittedSheet sheet.now × AdmittedUses sheet.now (use_sheet use_words.now use_spans.now) }
     requires searchable { Searchable sheet.now (use_sheet use_words.now use_spans.now) counts first.now second.now start.now code_span.now code_node.now name_span.now name_node.now name_end.now }
     requires long { Long (record { word = finding_word.old; span = finding_span.old; mark = mark.old }) }
-    ensures { FindingsWritten (held sheet) (use_sheet (held use_words) (held use_spans)) result (findings_lent finding_word finding_span mark) }
+    ensures { FindingsWritten sheet.now (use_sheet use_words.now use_spans.now) result (findings_lent finding_word finding_span mark) }
 {
     let kinds = sheet_parts::kinds(sheet);
     let found = local_flow::compute(

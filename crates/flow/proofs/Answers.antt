@@ -28,11 +28,11 @@ with_number k = get_or (BenchTooSmall ∷ BenchTooSmall ∷ Miscount ∷ BadItem
 
 -- a refusal is read back from its number
 read_back : (r : Refusal) → with_number (number r) ≡ r
-read_back r = elim r [ BenchTooSmall ↦ refl | Miscount ↦ refl | BadItem ↦ refl | TooDeep ↦ refl | BadNesting ↦ refl | OffTheLine ↦ refl | BadName ↦ refl | BadUse ↦ refl | BadScope ↦ refl ]
+read_back r = elim r as (λ k. with_number (number k) ≡ k) [ BenchTooSmall ↦ refl | Miscount ↦ refl | BadItem ↦ refl | TooDeep ↦ refl | BadNesting ↦ refl | OffTheLine ↦ refl | BadName ↦ refl | BadUse ↦ refl | BadScope ↦ refl ]
 
 -- and its number is not that of an accepted call
 pub refuses : (r : Refusal) → eqb (number r) 0 ≡ false
-refuses r = elim r [ BenchTooSmall ↦ refl | Miscount ↦ refl | BadItem ↦ refl | TooDeep ↦ refl | BadNesting ↦ refl | OffTheLine ↦ refl | BadName ↦ refl | BadUse ↦ refl | BadScope ↦ refl ]
+refuses r = elim r as (λ k. eqb (number k) 0 ≡ false) [ BenchTooSmall ↦ refl | Miscount ↦ refl | BadItem ↦ refl | TooDeep ↦ refl | BadNesting ↦ refl | OffTheLine ↦ refl | BadName ↦ refl | BadUse ↦ refl | BadScope ↦ refl ]
 
 abbrev counts_from : List ℕ → Counts
 counts_from vs = record { nodes = get_or vs 0 0; codes = get_or vs 1 0; names = get_or vs 2 0 }

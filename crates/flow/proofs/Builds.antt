@@ -185,7 +185,7 @@ module _ {c d : Bool} {P : ℕ → List ℕ → List ℕ → Graph → Type 0} (
   entering : {n : ℕ} {cs ns : List ℕ} {g : Graph} (as' : List ℕ) → Holds n cs ns g → Holds (n + length as') cs ns (new_nodes as' g)
   unfolding new_nodes
   entering [] r = counted r (omega arith)
-  entering (a ∷ as') r = counted (entering as' (new r)) (omega arith)
+  entering {n = n} (a ∷ as') r = counted (entering {n = n + 1} as' (new r)) (omega arith)
 
   -- ---- a statement of one item
 

@@ -5,13 +5,13 @@ use mathlib.Core.Path.{◌≡◌, refl, sym, ap, ◌∙◌}
 use mathlib.Core.Logic.Iff
 use mathlib.Core.Logic.{◌⊎◌, inl, inr, ⊎_elim, ◌↔◌}
 use mathlib.Core.Bool.{Bool, true, ◌&&◌}
-use mathlib.Core.List.{List, [], ◌∷◌, map, Memᴰ}
+use mathlib.Core.List.{◌++◌, List, [], ◌∷◌, map, Memᴰ}
 use native.Mathlib.Omega.{arith}
 use native.Mathlib.Numerals.{add-one}
 use lib.ListN.{get_or}
 use Rattle.flow.specs.Graph.{Graph, graph, node_count}
-use Rattle.flow.specs.Locals.{Declaration, declaration, local_at, tracked, no_value, writes_judged, Finding, finding_word}
-use Rattle.flow.specs.Findings.{Use, live_after_writes, of_use, of_initial, uses_of, all_found, ahead, first_unassigned_use, initial_overwritten, writes_overwritten, unassigned_of, overwritten_of, overwritten_at, overwritten_below, is_empty_read, first_empty_read}
+use Rattle.flow.specs.Locals.{only_if, Declaration, declaration, local_at, tracked, no_value, writes_judged, Finding, finding_word}
+use Rattle.flow.specs.Findings.{Use, is_write, node, live_after_writes, of_use, of_initial, uses_of, all_found, ahead, first_unassigned_use, initial_overwritten, writes_overwritten, unassigned_of, overwritten_of, overwritten_at, overwritten_below, is_empty_read, first_empty_read}
 use Rattle.flow.specs.Demand.{use_span, AllFound, Judgeable, Unassigned, Overwritten, OverwrittenInitial, Before}
 use Rattle.flow.proofs.Laws.{either, and_then, and_law, not_law, or_map, mem_append, mem_one, mem_only, mem_map}
 use Rattle.flow.proofs.Uses.{entry, all_found_law, From, end, one, from_all, Kinds, Is, Among}
@@ -130,7 +130,7 @@ module _ (S U : List ℕ) (kinds : Kinds U) (ℓ : ℕ) where
   first_rising : {R : Use → Use → Type 0} (live written : List ℕ) (l : List Use) → Rising R (first_empty_read live written l)
   unfolding first_empty_read
   first_rising live written [] = nil
-  first_rising {R} live written (u ∷ l) = either (Rising R) (is_empty_read live written u) (rising_one u) (first_rising live _ l)
+  first_rising {R} live written (u ∷ l) = either (Rising R) (is_empty_read live written u) (rising_one u) (first_rising live (only_if (is_write u) (node u ∷ []) ++ written) l)
 
   pub unassigned_rising : Rising (Prior S U) (unassigned_of S U ℓ)
   unfolding unassigned_of first_unassigned_use

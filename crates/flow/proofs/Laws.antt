@@ -100,6 +100,6 @@ mem_at d [] i h = absurd (omega arith)
 mem_at d (x ∷ l) zero h = Memᴰ.head refl
 mem_at d (x ∷ l) (suc i) h = Memᴰ.tail (mem_at d l i (omega arith))
 
-pub mem_place : {A : Type 0} (d : A) {l : List A} {x : A} → Memᴰ x l → (i : ℕ) × (i < length l) × (get_or l i d ≡ x)
+pub mem_place : {A : Type 0} (d : A) {x : A} {l : List A} → Memᴰ x l → (i : ℕ) × (i < length l) × (get_or l i d ≡ x)
 mem_place d (Memᴰ.head e) = (zero, omega arith, sym e)
 mem_place d (Memᴰ.tail m) = let q = mem_place d m in (suc q.0, omega (arith, q.1), q.2)

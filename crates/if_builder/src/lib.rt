@@ -4,7 +4,7 @@ ghost use Rattle.std.specs.Prelude.{◌≡◌, false};
 use cfg_steps::GraphBuilder;
 
 // Its last test, and whether that test goes on to the join past all arms.
-#[derive(Drop)]
+#[derive(Clone, Copy)]
 pub struct IfBuilder {
     pub builder: GraphBuilder,
     pub test: usize,

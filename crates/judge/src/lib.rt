@@ -23,7 +23,7 @@ pub fn judge(
     finding_span: &mut [u64],
     mark: &mut [u64],
 ) -> JudgeAnswer
-    ensures { JudgePromise (held sheet) (held uses) (held scopes) result (judge_lent (lent first second start reachable code_span code_node name_span name_node name_end) finding_word finding_span mark) }
+    ensures { JudgePromise sheet.now uses.now scopes.now result (judge_lent (lent first second start reachable code_span code_node name_span name_node name_end) finding_word finding_span mark) }
 {
     let chart_short = column_lengths::chart_short(
         first.len(),

@@ -32,7 +32,7 @@ pub fn of_sheets(
     requires admitted_sheet { AdmittedSheet sheet.now × AdmittedUses sheet.now uses.now × (bad_scopes sheet.now uses.now scopes.now ≡ false) × (sheet_verdict false sheet.now ≡ Admitted) }
     requires wide { Wide (columns first.old second.old start.old reachable.old code_span.old code_node.old name_span.old name_node.old name_end.old) }
     requires long { Long (record { word = finding_word.old; span = finding_span.old; mark = mark.old }) }
-    ensures { Accepted (held sheet) (crossed (held sheet) (held uses) (held scopes)) result (lent first second start reachable code_span code_node name_span name_node name_end) (findings_lent finding_word finding_span mark) }
+    ensures { Accepted sheet.now (crossed sheet.now uses.now scopes.now) result (lent first second start reachable code_span code_node name_span name_node name_end) (findings_lent finding_word finding_span mark) }
 {
     let counts = chart::of_sheet(
         sheet, first, second, start, reachable, code_span, code_node, name_span, name_node,

@@ -27,8 +27,8 @@ abbrev pub chart : ℕ → List ℕ → List ℕ → List ℕ → Graph
 chart n first second start = bare (record { first = take n first; second = take n second; start = take n start })
 
 -- that of lent columns
-abbrev pub charted : ℕ → Column → Column → Column → Graph
-charted n first second start = chart n (held first) (held second) (held start)
+abbrev pub charted : ℕ → List ℕ → List ℕ → List ℕ → Graph
+charted n first second start = chart n first second start
 
 -- a declaration as 01's definitions have it
 abbrev pub declared : LocalDeclaration → Declaration

@@ -10,7 +10,7 @@ ghost use Rattle.live_steps.specs.Walk.{Long, charted, declared, alive_in};
 use search::{at, insert};
 
 // Where a local is declared: its LOCAL's node, and where its scope ends.
-#[derive(Drop)]
+#[derive(Clone, Copy)]
 pub struct LocalDeclaration {
     pub node: usize,
     pub scope_end: u64,
@@ -19,7 +19,7 @@ pub struct LocalDeclaration {
 // Whether a live path may go through v: not through the LOCAL, where the variable begins anew, nor to code at or past the scope end.
 pub fn is_alive_at(start: &[u64], declaration: LocalDeclaration, v: usize) -> bool
     requires { v < length start.now }
-    ensures { result ≡ alive_in (held start) (declared declaration) v }
+    ensures { result ≡ alive_in start.now (declared declaration) v }
 {
     v != declaration.node && start[v] < declaration.scope_end
 }
@@ -36,7 +36,7 @@ fn push_alive(
     v: usize,
 ) -> usize
     requires { Ready stamp n (st visited.old stack.old top) × (n ≤ 1600) × (n ≤ length start.now) }
-    ensures { st_at left visited stack result ≡ stamp_when stamp (ltb v n && alive_in (held start) (declared declaration) v) v (st_at held visited stack top) }
+    ensures { st_at left visited stack result ≡ stamp_when stamp (ltb v n && alive_in start.now (declared declaration) v) v (st_at held visited stack top) }
 {
     if v < n {
         if is_alive_at(start, declaration, v) {
@@ -64,7 +64,7 @@ pub fn expand(
 ) -> usize
     requires ready { Ready stamp n (st visited.old stack.old top) × (n ≤ 1600) }
     requires long { Long n first.now second.now start.now × (u < n) }
-    ensures { st_at left visited stack result ≡ stamp_all stamp (live_successors (charted n first second start) (declared declaration) u) (st_at held visited stack top) }
+    ensures { st_at left visited stack result ≡ stamp_all stamp (live_successors (charted n first.now second.now start.now) (declared declaration) u) (st_at held visited stack top) }
 {
     let a = at(first, u);
     let t = push_alive(start, visited, stack, n, top, declaration, stamp, a);

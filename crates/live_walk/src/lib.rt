@@ -27,7 +27,7 @@ fn expand_write(
 ) -> usize
     requires ready { Ready stamp n (st visited.old stack.old top) × (n ≤ 1600) }
     requires long { Long n first.now second.now start.now × (node_in word < n) }
-    ensures { st_at left visited stack result ≡ stamp_all stamp (after_write (charted n first second start) (declared declaration) (use_of word)) (st_at held visited stack top) }
+    ensures { st_at left visited stack result ≡ stamp_all stamp (after_write (charted n first.now second.now start.now) (declared declaration) (use_of word)) (st_at held visited stack top) }
 {
     if is_write(word) {
         let u = node_of(word);
@@ -62,7 +62,7 @@ fn seed(
 ) -> usize
     requires ready { Ready stamp n (st visited.old stack.old 0) × (n ≤ 1600) }
     requires long { Long n first.now second.now start.now × AllPlaced n mine.now }
-    ensures { st_at left visited stack result ≡ stamp_all stamp (after_writes (charted n first second start) (declared declaration) (uses_in (held mine))) (st_at held visited stack 0) }
+    ensures { st_at left visited stack result ≡ stamp_all stamp (after_writes (charted n first.now second.now start.now) (declared declaration) (uses_in mine.now)) (st_at held visited stack 0) }
 {
     let mut top = 0;
     let mut i = 0;
@@ -98,7 +98,7 @@ pub fn live_walk(
 ) -> usize
     requires unmarked { Unmarked stamp n visited.old stack.old × (n ≤ 1600) }
     requires long { Long n first.now second.now start.now × AllPlaced n mine.now }
-    ensures { Walks stamp n (charted n first second start) (declared declaration) (uses_in (held mine)) result visited }
+    ensures { Walks stamp n (charted n first.now second.now start.now) (declared declaration) (uses_in mine.now) result visited }
 {
     let mut top = seed(
         first,

@@ -22,7 +22,7 @@ abbrev pub AnySheets : (n codes : ℕ) (kinds first second start code_span code_
 AnySheets n codes kinds first second start code_span code_node node_of_name name_end words spans =
     (S : List ℕ) × (U : List ℕ) × Sheets S U n codes kinds.now first.now second.now start.now code_span.now code_node.now node_of_name.now name_end.now words.now spans.now
 
-abbrev pub Finds : (n codes : ℕ) (kinds first second start code_span code_node node_of_name name_end words spans finding_word mark : Column) (r : ℕ) → Type 0
+abbrev pub Finds : (n codes : ℕ) (kinds first second start code_span code_node node_of_name name_end words spans : List ℕ) (finding_word mark : Column) (r : ℕ) → Type 0
 Finds n codes kinds first second start code_span code_node node_of_name name_end words spans finding_word mark r =
-    (S U : List ℕ) → Sheets S U n codes (held kinds) (held first) (held second) (held start) (held code_span) (held code_node) (held node_of_name) (held name_end) (held words) (held spans)
+    (S U : List ℕ) → Sheets S U n codes kinds first second start code_span code_node node_of_name name_end words spans
     → Adds (words_of (findings S U)) 0 finding_word r × Figures S U (length (locals S)) (held mark) (left mark)

@@ -30,7 +30,7 @@ pub fn compute(
 ) -> usize
     requires any_sheets { AnySheets n codes kinds first second start code_span code_node name_node name_end use_word use_span }
     requires room { Room 3072 0 finding_word.old × (1024 ≤ length mark.old) }
-    ensures { Finds n codes kinds first second start code_span code_node name_node name_end use_word use_span finding_word mark result }
+    ensures { Finds n codes kinds.now first.now second.now start.now code_span.now code_node.now name_node.now name_end.now use_word.now use_span.now finding_word mark result }
 {
     let mut facts = [0u16; ITEMS];
     let names = find_names(kinds, &mut facts);

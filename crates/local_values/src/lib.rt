@@ -45,7 +45,7 @@ fn push_if_overwritten(
 ) -> usize
     requires hold { Hold n first.now second.now reads.now writes.now × AllPlaced n sorted.now × Rising sorted.now }
     requires i_in_bounds { (i < length sorted.now) × (local < 1024) × Room 1 count finding_word.old }
-    ensures { Adds (write_words_at local (edges n first second) (marked stamp n reads writes) (held sorted) i) count finding_word result }
+    ensures { Adds (write_words_at local (edges n first.now second.now) (marked stamp n reads.now writes.now) sorted.now i) count finding_word result }
 {
     if is_overwritten(first, second, sorted, reads, writes, n, stamp, i) {
         push_write(finding_word, count, local, sorted[i])
@@ -69,8 +69,8 @@ fn list_writes(
 ) -> usize
     requires hold { Hold n first.now second.now reads.now writes.now × AllPlaced n sorted.now × Rising sorted.now }
     requires local_bound { (local < 1024) × Room (length sorted.now) before finding_word.old }
-    ensures adds { Adds (write_words local (edges n first second) (marked stamp n reads writes) (uses_in (held sorted))) before finding_word result }
-    ensures upper_bound { result ≤ before + length (held sorted) }
+    ensures adds { Adds (write_words local (edges n first.now second.now) (marked stamp n reads.now writes.now) (uses_in sorted.now)) before finding_word result }
+    ensures upper_bound { result ≤ before + length sorted.now }
 {
     let mut count = before;
     let mut i = 0;
@@ -108,7 +108,7 @@ fn push_initial(
     count: usize,
 ) -> usize
     requires { Hold n first.now second.now reads.now writes.now × (node < n) × (local < 1024) × Room 1 count finding_word.old }
-    ensures adds { Adds (initial_words local has_value (edges n first second) (marked stamp n reads writes) node) count finding_word result }
+    ensures adds { Adds (initial_words local has_value (edges n first.now second.now) (marked stamp n reads.now writes.now) node) count finding_word result }
     ensures upper_bound { result ≤ count + 1 }
 {
     if has_value {
@@ -135,8 +135,8 @@ fn list_values(
 ) -> usize
     requires hold { Hold n first.now second.now reads.now writes.now × AllPlaced n sorted.now × Rising sorted.now }
     requires node_lt_n { (node < n) × (local < 1024) × Room (1 + length sorted.now) before finding_word.old }
-    ensures adds { Adds (value_words local has_value (edges n first second) (marked (local + 1) n reads writes) node (uses_in (held sorted))) before finding_word result }
-    ensures upper_bound { result ≤ before + 1 + length (held sorted) }
+    ensures adds { Adds (value_words local has_value (edges n first.now second.now) (marked (local + 1) n reads.now writes.now) node (uses_in sorted.now)) before finding_word result }
+    ensures upper_bound { result ≤ before + 1 + length sorted.now }
 {
     let stamp = local as u16 + 1;
     let count = push_initial(
@@ -188,8 +188,8 @@ pub fn judge_local(
     requires linked { Linked (take n first.now) (take n second.now) n n chain.now × AllPlaced n sorted.now × Rising sorted.now }
     requires node_lt_n { (declaration.node < n) × (local < 1024) × AllUnmarked (local + 1) n used.old reads.old writes.old stack.old }
     requires room { Room (1 + length sorted.now) count finding_word.old }
-    ensures adds { Adds (judged_words local has_value (charted n first second start) (declared declaration) (uses_in (held sorted))) count finding_word result }
-    ensures upper_bound { result ≤ count + 1 + length (held sorted) }
+    ensures adds { Adds (judged_words local has_value (charted n first.now second.now start.now) (declared declaration) (uses_in sorted.now)) count finding_word result }
+    ensures upper_bound { result ≤ count + 1 + length sorted.now }
     ensures all_unmarked { AllUnmarked (local + 2) n (left used) (left reads) (left writes) (left stack) }
 {
     mark_next_uses(

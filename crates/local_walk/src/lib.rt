@@ -31,7 +31,7 @@ pub fn walk_local(
 ) -> Walked
     requires unmarked { Unmarked stamp n visited.old stack.old × (n ≤ 1600) }
     requires long { Long n first.now second.now start.now × AllPlaced n mine.now }
-    ensures tells { Tells n (charted n first second start) (declared declaration) (uses_in (held mine)) result }
+    ensures tells { Tells n (charted n first.now second.now start.now) (declared declaration) (uses_in mine.now) result }
     ensures stamped { Stamped stamp (left visited) }
 {
     let nodes = live_walk(

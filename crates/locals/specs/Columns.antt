@@ -45,8 +45,8 @@ abbrev pub part_at : ℕ → List ℕ → List ℕ → List ℕ
 part_at ℓ starts column = part (get_or starts ℓ 0) (get_or starts (ℓ + 1) 0) column
 
 -- of lent columns
-abbrev pub held_part : ℕ → Column → Column → List ℕ
-held_part ℓ starts column = part_at ℓ (held starts) (held column)
+abbrev pub held_part : ℕ → List ℕ → List ℕ → List ℕ
+held_part ℓ starts column = part_at ℓ starts column
 
 -- a column of the words of m uses, with a part for each local: its uses, as `list` orders them
 pub record Parts (list : ℕ → List Use) (m n names : ℕ) (starts column : List ℕ) : Type 0 where

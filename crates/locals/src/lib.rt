@@ -10,7 +10,7 @@ use search::{at, cell};
 // A local as the columns of names have it.
 pub fn declaration_at(name_node: &[u64], name_end: &[u64], local: usize) -> LocalDeclaration
     requires { (local < length name_node.now) × (local < length name_end.now) }
-    ensures { (result.node ≡ get_or (held name_node) local 0) × (result.scope_end ≡ get_or (held name_end) local 0) }
+    ensures { (result.node ≡ get_or name_node.now local 0) × (result.scope_end ≡ get_or name_end.now local 0) }
 {
     LocalDeclaration {
         node: at(name_node, local),
@@ -21,7 +21,7 @@ pub fn declaration_at(name_node: &[u64], name_end: &[u64], local: usize) -> Loca
 // A local's part of a column of uses.
 pub fn part_of<'a>(starts: &[u16], column: &'a [u64], local: usize) -> &'a [u64]
     requires { Cut local starts.now column.now }
-    ensures { result.now ≡ held_part local starts column }
+    ensures { result.now ≡ held_part local starts.now column.now }
 {
     let from = cell(starts, local);
     let to = cell(starts, local + 1);

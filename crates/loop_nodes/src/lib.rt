@@ -2,7 +2,7 @@
 ghost use Rattle.std.specs.Prelude.{◌≡◌, ◌+◌, ◌≤◌};
 
 // Where BREAK and CONTINUE go.
-#[derive(Drop)]
+#[derive(Clone, Copy)]
 pub struct LoopTargets {
     pub break_target: usize,
     pub continue_target: usize,

@@ -66,7 +66,7 @@ fn store_name(word: u64, values: u64, before: u64, facts: &mut [u16], names: usi
 // The facts of each name of a sheet, by the words of its items, and how many names there are.
 pub fn find_names(kinds: &[u64], facts: &mut [u16]) -> usize
     requires { (length kinds.now ≤ 1024) × (length kinds.now ≤ length facts.old) }
-    ensures { Stored (locals_in 0 0 (held kinds)) 0 (held facts) (left facts) result }
+    ensures { Stored (locals_in 0 0 kinds.now) 0 (held facts) (left facts) result }
 {
     let mut names = 0;
     let mut values = 0;

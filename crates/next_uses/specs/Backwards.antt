@@ -43,9 +43,9 @@ back_flags start d ws pure stamp used first second n =
     closure (all_starts start d ws pure) (λ v. filter (passes start d stamp used) (preds_of first second v n)) n
 
 -- a call leaves these flags in `marks`, by the edges that the chains hold
-abbrev pub Searched : ℕ → ℕ → Column → Declaration → Column → Bool → Column → Column → Column → Type 0
+abbrev pub Searched : ℕ → ℕ → List ℕ → Declaration → List ℕ → Bool → List ℕ → List ℕ → Column → Type 0
 Searched stamp n start d sorted pure chain used marks =
-    (first second : List ℕ) → Linked first second n n (held chain) → flags_of stamp n (left marks) ≡ back_flags (held start) d (held sorted) pure stamp (held used) first second n
+    (first second : List ℕ) → Linked first second n n chain → flags_of stamp n (left marks) ≡ back_flags start d sorted pure stamp used first second n
 
 -- a search may begin in each of the three columns of marks
 pub record AllUnmarked (stamp n : ℕ) (used reads writes stack : List ℕ) : Type 0 where
@@ -59,6 +59,6 @@ pub record AheadMarked (stamp n : ℕ) (reads writes : List ℕ) (a : Ahead) : T
   pub writes_are : flags_of stamp n writes ≡ a.writes
 
 -- a call leaves marks of what is ahead of a local's uses, in the graph that the chains are of
-abbrev pub MarksAhead : ℕ → ℕ → Declaration → Column → Column → Column → Column → Column → Type 0
+abbrev pub MarksAhead : ℕ → ℕ → Declaration → List ℕ → List ℕ → List ℕ → Column → Column → Type 0
 MarksAhead stamp n d start chain sorted reads writes =
-    (first second : List ℕ) → length first ≡ n → length second ≡ n → Linked first second n n (held chain) → AheadMarked stamp n (left reads) (left writes) (ahead (chart n first second (held start)) d (uses_in (held sorted)))
+    (first second : List ℕ) → length first ≡ n → length second ≡ n → Linked first second n n chain → AheadMarked stamp n (left reads) (left writes) (ahead (chart n first second start) d (uses_in sorted))

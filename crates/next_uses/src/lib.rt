@@ -31,7 +31,7 @@ fn starts_here(
     i: usize,
 ) -> bool
     requires { (i < length sorted.now) × (node_in (get_or sorted.now i 0) < length start.now) }
-    ensures { result ≡ starts_here (held start) (declared declaration) (held sorted) pure i }
+    ensures { result ≡ starts_here start.now (declared declaration) sorted.now pure i }
 {
     let word = sorted[i];
     if opens_node(sorted, i) {
@@ -59,7 +59,7 @@ fn push_start(
 ) -> usize
     requires i_in_bounds { (i < length sorted.now) × (node_in (get_or sorted.now i 0) < length start.now) × (node_in (get_or sorted.now i 0) < length marks.old) }
     requires top_in_bounds { (get_or marks.old (node_in (get_or sorted.now i 0)) 0 ≡ stamp → ⊥) → top < length stack.old }
-    ensures { st_at left marks stack result ≡ start_pushed stamp (held start) (declared declaration) (held sorted) pure i (st_at held marks stack top) }
+    ensures { st_at left marks stack result ≡ start_pushed stamp start.now (declared declaration) sorted.now pure i (st_at held marks stack top) }
 {
     if starts_here(start, sorted, declaration, pure, i) {
         let v = node_of(sorted[i]);
@@ -82,7 +82,7 @@ fn push_starts(
 ) -> usize
     requires n_bound { (n ≤ 1600) × (n ≤ length start.now) × (n ≤ length marks.old) × (n ≤ length stack.old) }
     requires all_placed { AllPlaced n sorted.now }
-    ensures { st_at left marks stack result ≡ stamp_all stamp (all_starts (held start) (declared declaration) (held sorted) pure) (st_at held marks stack 0) }
+    ensures { st_at left marks stack result ≡ stamp_all stamp (all_starts start.now (declared declaration) sorted.now pure) (st_at held marks stack 0) }
 {
     let mut top = 0;
     let mut i = 0;
@@ -118,7 +118,7 @@ fn search_back(
 )
     requires n_bound { (n ≤ 1600) × (n ≤ length start.now) × (n ≤ length used.now) }
     requires all_placed { AllPlaced n sorted.now × Chained n chain.now × Unmarked stamp n marks.old stack.old }
-    ensures searched { Searched stamp n start (declared declaration) sorted pure chain used marks }
+    ensures searched { Searched stamp n start.now (declared declaration) sorted.now pure chain.now used.now marks }
     ensures stamped { Stamped stamp (left marks) }
 {
     let mut top = push_starts(start, sorted, marks, stack, n, declaration, stamp, pure);
@@ -144,7 +144,7 @@ fn search_back(
 // The nodes that hold a use marked by the stamp.
 fn mark_used(sorted: &[u64], used: &mut [u16], stamp: u16)
     requires { AllPlaced (length used.old) sorted.now × Fresh stamp used.old }
-    ensures { Used stamp (held sorted) (length (held sorted)) (left used) × Stamped stamp (left used) }
+    ensures { Used stamp sorted.now (length sorted.now) (left used) × Stamped stamp (left used) }
 {
     let mut i = 0;
     while i < sorted.len() {
@@ -169,7 +169,7 @@ pub fn mark_next_uses(
     requires n_bound { (n ≤ 1600) × (n ≤ length start.now) }
     requires all_placed { AllPlaced n sorted.now × Rising sorted.now × Chained n chain.now }
     requires all_unmarked { AllUnmarked stamp n used.old reads.old writes.old stack.old }
-    ensures marks_ahead { MarksAhead stamp n (declared declaration) start chain sorted reads writes }
+    ensures marks_ahead { MarksAhead stamp n (declared declaration) start.now chain.now sorted.now reads writes }
     ensures stamped { Stamped stamp (left used) × Stamped stamp (left reads) × Stamped stamp (left writes) }
 {
     mark_used(sorted, used, stamp);

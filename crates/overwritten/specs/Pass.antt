@@ -16,10 +16,10 @@ AnyPass n names first second start node_of_name name_end facts starts by_node =
     (S : List ℕ) × (U : List ℕ) × Pass (uses_by_node S U n) S U n names first.now second.now start.now node_of_name.now name_end.now facts.now starts.now by_node.now
 
 -- what calls promise of lent columns
-module _ (n names : ℕ) (first second start node_of_name name_end facts starts by_node finding_word : Column) where
+module _ (n names : ℕ) (first second start node_of_name name_end facts starts by_node : List ℕ) (finding_word : Column) where
   -- at entry they are those of S and U
   abbrev Held : List ℕ → List ℕ → Type 0
-  Held S U = Pass (uses_by_node S U n) S U n names (held first) (held second) (held start) (held node_of_name) (held name_end) (held facts) (held starts) (held by_node)
+  Held S U = Pass (uses_by_node S U n) S U n names first second start node_of_name name_end facts starts by_node
 
   -- the overwritten values of the local ℓ are added to the first `count` findings, which makes r of them
   abbrev pub AddsOne : ℕ → ℕ → ℕ → Type 0

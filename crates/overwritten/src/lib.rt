@@ -36,8 +36,8 @@ fn add_local(
     requires linked { Linked (take n first.now) (take n second.now) n n chain.now }
     requires all_unmarked { AllUnmarked (local + 1) n used.old reads.old writes.old stack.old }
     requires room { Room (1 + (get_or starts.now (local + 1) 0 - get_or starts.now local 0)) count finding_word.old }
-    ensures upper_bound { result ≤ count + (1 + (get_or (held starts) (local + 1) 0 - get_or (held starts) local 0)) }
-    ensures adds_one { AddsOne n names first second start name_node name_end facts starts by_node finding_word local count result }
+    ensures upper_bound { result ≤ count + (1 + (get_or starts.now (local + 1) 0 - get_or starts.now local 0)) }
+    ensures adds_one { AddsOne n names first.now second.now start.now name_node.now name_end.now facts.now starts.now by_node.now finding_word local count result }
     ensures all_unmarked_2 { AllUnmarked (local + 2) n (left used) (left reads) (left writes) (left stack) }
 {
     let fact = facts[local];
@@ -89,7 +89,7 @@ fn list_locals(
     requires any_pass { AnyPass n names first second start name_node name_end facts starts by_node }
     requires linked { Linked (take n first.now) (take n second.now) n n chain.now }
     requires all_unmarked { AllUnmarked 1 n used.old reads.old writes.old stack.old × Room (names + 1024) before finding_word.old }
-    ensures { AddsAll n names first second start name_node name_end facts starts by_node finding_word before result }
+    ensures { AddsAll n names first.now second.now start.now name_node.now name_end.now facts.now starts.now by_node.now finding_word before result }
 {
     let mut count = before;
     let mut local = 0;
@@ -141,7 +141,7 @@ pub fn list_overwritten(
 ) -> usize
     requires any_pass { AnyPass n names first second start name_node name_end facts starts by_node }
     requires lent { Lent n chain.old used.old reads.old writes.old stack.old × Room (names + 1024) before finding_word.old }
-    ensures { AddsAll n names first second start name_node name_end facts starts by_node finding_word before result }
+    ensures { AddsAll n names first.now second.now start.now name_node.now name_end.now facts.now starts.now by_node.now finding_word before result }
 {
     if any_judged(facts, names) {
         build_predecessors(first, second, chain, n);

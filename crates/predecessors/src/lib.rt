@@ -31,7 +31,7 @@ fn link(chain: &mut [u64], n: usize, u: usize, v: usize, place: u64, code: usize
 pub fn build_predecessors(first: &[u64], second: &[u64], chain: &mut [u64], n: usize)
     requires n_bound { (n ≤ 1600) × (n ≤ length first.now) × (n ≤ length second.now) }
     requires blank { Blank n chain.old }
-    ensures { Linked (take n (held first)) (take n (held second)) n n (left chain) }
+    ensures { Linked (take n first.now) (take n second.now) n n (left chain) }
 {
     let mut u = 0;
     while u < n {
@@ -46,7 +46,7 @@ pub fn build_predecessors(first: &[u64], second: &[u64], chain: &mut [u64], n: u
 // The code of the last edge to v.
 pub fn head_of(chain: &[u64], v: usize) -> usize
     requires { v < length chain.now }
-    ensures { result ≡ head_of (held chain) v }
+    ensures { result ≡ head_of chain.now v }
 {
     (chain[v] % FIRST) as usize
 }
@@ -54,7 +54,7 @@ pub fn head_of(chain: &[u64], v: usize) -> usize
 // The code of the edge that follows in a chain.
 fn edge_after(chain: &[u64], e: usize) -> usize
     requires { (0 < e) × (node_of_edge e < length chain.now) }
-    ensures { result ≡ edge_after (held chain) e }
+    ensures { result ≡ edge_after chain.now e }
 {
     let word = chain[(e - 1) / 2];
     if (e - 1) % 2 == 0 {
@@ -67,7 +67,7 @@ fn edge_after(chain: &[u64], e: usize) -> usize
 // Whether a path goes on through v: past a use its next use is that one.
 fn passes(start: &[u64], used: &[u16], declaration: LocalDeclaration, stamp: u16, v: usize) -> bool
     requires { (v < length start.now) × (v < length used.now) }
-    ensures { result ≡ goesOn (held start) (declared declaration) stamp (held used) v }
+    ensures { result ≡ goesOn start.now (declared declaration) stamp used.now v }
 {
     if used[v] == stamp {
         false
@@ -89,7 +89,7 @@ fn push_back(
 ) -> usize
     requires v_in_bounds { (v < length start.now) × (v < length used.now) × (v < length marks.old) × (v < 65536) }
     requires top_in_bounds { (get_or marks.old v 0 ≡ stamp → ⊥) → top < length stack.old }
-    ensures { st_at left marks stack result ≡ stamp_when stamp (goesOn (held start) (declared declaration) stamp (held used) v) v (st_at held marks stack top) }
+    ensures { st_at left marks stack result ≡ stamp_when stamp (goesOn start.now (declared declaration) stamp used.now v) v (st_at held marks stack top) }
 {
     if passes(start, used, declaration, stamp, v) {
         insert(marks, stack, top, v, stamp)
@@ -114,7 +114,7 @@ pub fn push_chain(
     requires n_bound { (n ≤ 1600) × (n ≤ length start.now) × (n ≤ length chain.now) × (n ≤ length used.now) }
     requires ready { Ready stamp n (st marks.old stack.old top0) }
     requires by_index { (us : List ℕ) × Chain n chain.now code us }
-    ensures { Pushes n (held chain) code stamp (goesOn (held start) (declared declaration) stamp (held used)) (st_at held marks stack top0) (st_at left marks stack result) }
+    ensures { Pushes n chain.now code stamp (goesOn start.now (declared declaration) stamp used.now) (st_at held marks stack top0) (st_at left marks stack result) }
 {
     let mut top = top0;
     let mut e = code;

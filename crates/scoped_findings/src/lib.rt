@@ -33,7 +33,7 @@ pub fn find_scoped(
     requires admitted_sheet { AdmittedSheet sheet.now × AdmittedUses sheet.now uses.now × (bad_scopes sheet.now uses.now scopes.now ≡ false) × (counts.names ≡ name_count (items sheet.now)) }
     requires searchable { Searchable sheet.now (crossed sheet.now uses.now scopes.now) counts first.now second.now start.now code_span.now code_node.now name_span.now name_node.now name_end.now }
     requires long { Long (record { word = finding_word.old; span = finding_span.old; mark = mark.old }) }
-    ensures { FindingsWritten (held sheet) (crossed (held sheet) (held uses) (held scopes)) result (findings_lent finding_word finding_span mark) }
+    ensures { FindingsWritten sheet.now (crossed sheet.now uses.now scopes.now) result (findings_lent finding_word finding_span mark) }
 {
     let use_words = sheet_parts::use_words(uses);
     let use_spans = sheet_parts::use_spans(uses);

@@ -1,13 +1,13 @@
 -- A column that a call is lent, as its promise sees it: promises name the column, and not its list at entry and at exit.
 -- Assumes nothing: these are definitions.
 use Rattle.std.specs.Prelude.{ℕ, List}
-use Rattle.std.specs.Borrow.{Bor}
+use Rattle.std.specs.Borrow.{MutBor}
 use denote.Triple.Both.{Both}
 use Rattle.search.specs.Worklist.{State, st}
 
 -- at the call's entry and at its exit
 abbrev pub Column : Type 0
-Column = Both (Bor (List ℕ)) (Bor (List ℕ))
+Column = Both (MutBor (List ℕ)) (MutBor (List ℕ))
 
 -- what it held at the entry
 abbrev pub held : Column → List ℕ

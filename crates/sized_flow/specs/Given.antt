@@ -32,7 +32,7 @@ AnyGiven n codes names first second start code_span code_node node_of_name name_
     (S : List ℕ) × (U : List ℕ) × Given S U n codes names first.now second.now start.now code_span.now code_node.now node_of_name.now name_end.now words.now spans.now facts.now
 
 -- a call lists the findings, r of them, and a mark figure for each local
-abbrev pub FindsGiven : (n codes names : ℕ) (first second start code_span code_node node_of_name name_end words spans facts finding_word mark : Column) (r : ℕ) → Type 0
+abbrev pub FindsGiven : (n codes names : ℕ) (first second start code_span code_node node_of_name name_end words spans facts : List ℕ) (finding_word mark : Column) (r : ℕ) → Type 0
 FindsGiven n codes names first second start code_span code_node node_of_name name_end words spans facts finding_word mark r =
-    (S U : List ℕ) → Given S U n codes names (held first) (held second) (held start) (held code_span) (held code_node) (held node_of_name) (held name_end) (held words) (held spans) (held facts)
+    (S U : List ℕ) → Given S U n codes names first second start code_span code_node node_of_name name_end words spans facts
     → Adds (words_of (findings S U)) 0 finding_word r × Figures S U names (held mark) (left mark)

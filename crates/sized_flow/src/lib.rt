@@ -29,7 +29,7 @@ pub fn compute_small(
 ) -> usize
     requires any_given { AnyGiven n codes names first second start code_span code_node name_node name_end use_word use_span facts }
     requires room { Room 3072 0 finding_word.old × (1024 ≤ length mark.old) × (n ≤ 128) × (names ≤ 128) × (length use_word.now ≤ 128) }
-    ensures { FindsGiven n codes names first second start code_span code_node name_node name_end use_word use_span facts finding_word mark result }
+    ensures { FindsGiven n codes names first.now second.now start.now code_span.now code_node.now name_node.now name_end.now use_word.now use_span.now facts finding_word mark result }
 {
     let mut uses = [0u64; SMALL];
     let mut starts = [0u16; SMALL + 1];
@@ -98,7 +98,7 @@ pub fn compute_large(
 ) -> usize
     requires any_given { AnyGiven n codes names first second start code_span code_node name_node name_end use_word use_span facts }
     requires room { Room 3072 0 finding_word.old × (1024 ≤ length mark.old) }
-    ensures { FindsGiven n codes names first second start code_span code_node name_node name_end use_word use_span facts finding_word mark result }
+    ensures { FindsGiven n codes names first.now second.now start.now code_span.now code_node.now name_node.now name_end.now use_word.now use_span.now facts finding_word mark result }
 {
     let mut uses = [0u64; ITEMS];
     let mut starts = [0u16; NODES + 1];

@@ -21,7 +21,7 @@ pub record Figures (S U : List ℕ) (names : ℕ) (old new : List ℕ) : Type 0 
   pub long : length new ≡ length old
 
 -- a call lists the unassigned findings of all locals, r of them, and their mark figures
-abbrev pub ListsUnassigned : (n names : ℕ) (first second start node_of_name name_end facts starts byLocal finding_word mark : Column) (r : ℕ) → Type 0
+abbrev pub ListsUnassigned : (n names : ℕ) (first second start node_of_name name_end facts starts byLocal : List ℕ) (finding_word mark : Column) (r : ℕ) → Type 0
 ListsUnassigned n names first second start node_of_name name_end facts starts byLocal finding_word mark r =
-    (S U : List ℕ) → Pass (uses_of S U) S U n names (held first) (held second) (held start) (held node_of_name) (held name_end) (held facts) (held starts) (held byLocal)
+    (S U : List ℕ) → Pass (uses_of S U) S U n names first second start node_of_name name_end facts starts byLocal
     → Adds (words_of (of_each (unassigned_of S U) names)) 0 finding_word r × Figures S U names (held mark) (left mark)

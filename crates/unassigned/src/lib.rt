@@ -59,8 +59,8 @@ fn list_local(
     requires unmarked { Unmarked (local + 1) n visited.old stack.old × (n ≤ 1600) × (local < 1024) × (local < length mark.old) }
     requires long { Long n first.now second.now start.now × AllPlaced n mine.now }
     requires room { Room 1 count finding_word.old }
-    ensures adds { Adds (unassigned_words due local (charted n first second start) (declared declaration) (uses_in (held mine))) count finding_word result }
-    ensures mark_value { left mark ≡ set (held mark) local (visits due n (charted n first second start) (declared declaration) (uses_in (held mine))) }
+    ensures adds { Adds (unassigned_words due local (charted n first.now second.now start.now) (declared declaration) (uses_in mine.now)) count finding_word result }
+    ensures mark_value { left mark ≡ set (held mark) local (visits due n (charted n first.now second.now start.now) (declared declaration) (uses_in mine.now)) }
     ensures unmarked_2 { Unmarked (local + 2) n (left visited) (left stack) }
 {
     if due {
@@ -102,7 +102,7 @@ pub fn list_unassigned(
 ) -> usize
     requires any_pass { AnyPass n names first second start name_node name_end facts starts by_local }
     requires unmarked { Unmarked 1 n visited.old stack.old × (names ≤ length mark.old) × Room names 0 finding_word.old }
-    ensures lists_unassigned { ListsUnassigned n names first second start name_node name_end facts starts by_local finding_word mark result }
+    ensures lists_unassigned { ListsUnassigned n names first.now second.now start.now name_node.now name_end.now facts.now starts.now by_local.now finding_word mark result }
     ensures upper_bound { result ≤ names }
 {
     let mut count = 0;

@@ -32,12 +32,12 @@ opens_node ws zero = true
 opens_node ws (suc i) = not (next_in_node ws i)
 
 -- the graph of two columns of edges
-abbrev pub edges : ℕ → Column → Column → Graph
-edges n first second = chart n (held first) (held second) []
+abbrev pub edges : ℕ → List ℕ → List ℕ → Graph
+edges n first second = chart n first second []
 
 -- what is ahead, by the marks in two columns
-abbrev pub marked : ℕ → ℕ → Column → Column → Ahead
-marked stamp n reads writes = record { reads = flags_of stamp n (held reads); writes = flags_of stamp n (held writes) }
+abbrev pub marked : ℕ → ℕ → List ℕ → List ℕ → Ahead
+marked stamp n reads writes = record { reads = flags_of stamp n reads; writes = flags_of stamp n writes }
 
 -- the overwritten writes of a list, in its order
 abbrev pub overwritten_in : Graph → Ahead → List Use → List Use

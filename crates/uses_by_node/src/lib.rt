@@ -13,7 +13,7 @@ use use_words::{is_read, is_write, node_of};
 // Whether the next place holds a use at the same node.
 fn next_in_node(sorted: &[u64], i: usize) -> bool
     requires { i < length sorted.now }
-    ensures { result ≡ next_in_node (held sorted) i }
+    ensures { result ≡ next_in_node sorted.now i }
 {
     let next = i + 1;
     if next < sorted.len() {
@@ -26,7 +26,7 @@ fn next_in_node(sorted: &[u64], i: usize) -> bool
 // Whether place i is the first of its node.
 pub fn opens_node(sorted: &[u64], i: usize) -> bool
     requires { i < length sorted.now }
-    ensures { result ≡ opens_node (held sorted) i }
+    ensures { result ≡ opens_node sorted.now i }
 {
     if i == 0 {
         true
@@ -38,7 +38,7 @@ pub fn opens_node(sorted: &[u64], i: usize) -> bool
 // Whether v is a node that is marked.
 fn is_marked(marks: &[u16], n: usize, stamp: u16, v: usize) -> bool
     requires { n ≤ length marks.now }
-    ensures { result ≡ (ltb v n && eqb (get_or (held marks) v 0) stamp) }
+    ensures { result ≡ (ltb v n && eqb (get_or marks.now v 0) stamp) }
 {
     if v < n { marks[v] == stamp } else { false }
 }
@@ -46,7 +46,7 @@ fn is_marked(marks: &[u16], n: usize, stamp: u16, v: usize) -> bool
 // Whether a successor of v is marked.
 fn is_ahead(first: &[u64], second: &[u64], marks: &[u16], n: usize, stamp: u16, v: usize) -> bool
     requires { (n ≤ length first.now) × (n ≤ length second.now) × (n ≤ length marks.now) × (v < n) }
-    ensures { result ≡ any_flag (flags_of stamp n (held marks)) (successors (edges n first second) v) }
+    ensures { result ≡ any_flag (flags_of stamp n marks.now) (successors (edges n first.now second.now) v) }
 {
     let a = at(first, v);
     if is_marked(marks, n, stamp, a) {
@@ -68,7 +68,7 @@ pub fn is_overwritten_unread(
     v: usize,
 ) -> bool
     requires { (n ≤ length first.now) × (n ≤ length second.now) × (n ≤ length reads.now) × (n ≤ length writes.now) × (v < n) }
-    ensures { result ≡ is_overwritten_unread (edges n first second) (marked stamp n reads writes) v }
+    ensures { result ≡ is_overwritten_unread (edges n first.now second.now) (marked stamp n reads.now writes.now) v }
 {
     if is_ahead(first, second, reads, n, stamp, v) {
         false
@@ -90,7 +90,7 @@ pub fn is_overwritten(
 ) -> bool
     requires n_in_bounds { (n ≤ length first.now) × (n ≤ length second.now) × (n ≤ length reads.now) × (n ≤ length writes.now) × (i < length sorted.now) }
     requires all_placed { AllPlaced n sorted.now × Rising sorted.now }
-    ensures { result ≡ is_overwritten (edges n first second) (marked stamp n reads writes) (use_of (get_or (held sorted) i 0)) (uses_in (drop (i + 1) (held sorted))) }
+    ensures { result ≡ is_overwritten (edges n first.now second.now) (marked stamp n reads.now writes.now) (use_of (get_or sorted.now i 0)) (uses_in (drop (i + 1) sorted.now)) }
 {
     let word = sorted[i];
     if !is_write(word) {

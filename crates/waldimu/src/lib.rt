@@ -45,7 +45,7 @@ pub extern "C" fn waldimu_judge(
     finding_span: &mut [u64],
     mark: &mut [u64],
 ) -> u64
-    ensures { JudgeForC (held sheet) (held uses) (held scopes) result (judge_lent (lent first second start reachable code_span code_node name_span name_node name_end) finding_word finding_span mark) }
+    ensures { JudgeForC sheet.now uses.now scopes.now result (judge_lent (lent first second start reachable code_span code_node name_span name_node name_end) finding_word finding_span mark) }
 {
     judge_word(judge::judge(
         sheet,

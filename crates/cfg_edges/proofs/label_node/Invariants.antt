@@ -1,0 +1,16 @@
+-- `cfg_edges::label_node` meets its contract: from the last label on, the first of that name.
+-- Assumes nothing.
+use Prim.Native.Nat.{◌≤◌}
+use mathlib.Core.Path.{◌≡◌, refl, sym, ap, ◌∙◌}
+use native.Mathlib.Omega.{arith}
+use borrow.Author.Tests.{eq-eqb, ne_eqb}
+use Rattle.flow.specs.Graph.{label_node}
+use Rattle.cfg_edges.specs.Halves.{label_list}
+use Rattle.cfg_edges.proofs.Lookup.{look_step, look_none}
+use Rattle.cfg_edges.proofs.label_node.Given as goal
+
+abbrev pub invariant-loop-k : goal.invariant-loop-k
+invariant-loop-k l = (l.k ≤ l.count) × (label_node l.name (label_list l.count l.labels) ≡ label_node l.name (label_list l.k l.labels))
+
+abbrev pub decreases-loop-k : goal.decreases-loop-k
+decreases-loop-k l = l.k

@@ -1,0 +1,30 @@
+-- `node_columns::split_edges` meets its contract: at the loop's head the first i words are taken apart.
+-- Assumes nothing.
+use Prim.Native.Nat.{◌≤◌, ◌-◌}
+use mathlib.Core.Path.{◌≡◌}
+use native.Mathlib.Omega.{arith}
+use Rattle.cfg_edges.specs.Halves.{lo, hi}
+use Rattle.node_columns.proofs.Written.{Written, none, turn}
+use Rattle.node_columns.proofs.split_edges.Goals as goal
+
+pub loop-i-init : goal.loop-i-init
+loop-i-init c = (omega arith, none, none)
+
+pub loop-i-preserved : goal.loop-i-preserved
+loop-i-preserved c =
+    (
+      omega arith,
+      turn c.loop-i.invariant.1 c.loop-i.invariant.1 (omega arith) (omega arith) c.split_edge.ensures.first_after,
+      turn c.loop-i.invariant.1 c.loop-i.invariant.2 (omega arith) (omega arith) c.split_edge.ensures.second_after,
+    )
+
+pub shape_of-first : goal.shape_of-first
+shape_of-first c = c.loop-i.invariant.1.long
+
+pub shape_of-second : goal.shape_of-second
+shape_of-second c = c.loop-i.invariant.2.long
+
+pub returns : goal.returns
+returns c =
+    let e : c.loop-i.i ≡ c.args.n = omega arith in
+    let r = rw (← e) (c.loop-i.invariant.1.cells, c.loop-i.invariant.2.cells) in record { first_after = r.0; second_after = r.1; }

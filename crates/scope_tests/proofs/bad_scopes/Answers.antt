@@ -1,0 +1,69 @@
+-- `scope_tests::bad_scopes` meets its contract: each clause of refusal 9 in turn.
+-- Assumes nothing.
+use Prim.Native.Nat.{ℕ, ◌≤◌}
+use mathlib.Core.Path.{◌≡◌, sym, ap, ◌∙◌}
+use mathlib.Core.Bool.{Bool, true, not}
+use mathlib.Core.List.{List}
+use borrow.Author.Tests.{not-true, not-false}
+use lib.ListN.{length}
+use Rattle.flow.specs.Sheet.{all, count_word}
+use Rattle.flow.specs.Scopes.{scope_kinds, parent_words, is_below, parents_lower}
+use Rattle.scope_parts.specs.Parts.{ScopesCounted}
+use Rattle.scope_tests.proofs.Wrong.{none_comes, count_wrong, length_wrong, counted, kind_wrong, parent_wrong, number_wrong}
+use borrow.Author.Rules.{rules}
+use Rattle.scope_tests.proofs.bad_scopes.Goals as goal
+use Rattle.scope_tests.proofs.bad_scopes.Goals.{After-all_below, After-parents_lower, Else-scopes-count}
+
+-- what a test of a part says of the sheet's own
+tested : (f : List ℕ → Bool) {part own : List ℕ} {r b : Bool} → part ≡ own → r ≡ f part → r ≡ b → f own ≡ b
+tested f p e q = ap f (sym p) ∙ sym e ∙ q
+
+-- ---- where count and length are right
+abbrev C : (c : Else-scopes-count) → List ℕ
+C c = c.args.scopes.now
+
+some : (c : Else-scopes-count) → length (C c) ≡ 0 → ⊥
+some c = c.if-scopes-eq0.false
+
+few : (c : Else-scopes-count) → count_word (C c) ≤ 512
+few c = c.if-count.false
+
+has_parts : (c : Else-scopes-count) → ScopesCounted (C c)
+has_parts c = counted c.args.names c.args.uses (C c) (some c) (few c) c.if-scopes-count.false
+
+-- where the kinds are tested, and the parents behind them
+kinds_told : (c : After-all_below) → {b : Bool} → c.all_below.result ≡ b → all (is_below 4) (scope_kinds (C (goal.at.After-all_below c).Else-scopes-count)) ≡ b
+kinds_told c = tested (all (is_below 4)) c.scope_kinds.ensures c.all_below.ensures
+
+parents_told : (c : After-parents_lower) → {b : Bool} → c.parents_lower.result ≡ b → parents_lower 0 (parent_words (C (goal.at.After-parents_lower c).Else-scopes-count)) ≡ b
+parents_told c = tested (parents_lower 0) c.parent_words.ensures c.parents_lower.ensures
+
+kinds_are : (c : After-parents_lower) → all (is_below 4) (scope_kinds (C (goal.at.After-parents_lower c).Else-scopes-count)) ≡ true
+kinds_are c = kinds_told (goal.at.After-parents_lower c).After-all_below c.if-not-all_below.false
+
+pub returns-then-scopes-eq0 : goal.returns-then-scopes-eq0
+returns-then-scopes-eq0 c = none_comes _ _ _ c.if-scopes-eq0.true
+
+pub returns-then-count : goal.returns-then-count
+returns-then-count c = count_wrong _ _ _ c.if-scopes-eq0.false c.if-count.true
+
+pub returns-then-scopes-count : goal.returns-then-scopes-count
+returns-then-scopes-count c = length_wrong _ _ _ c.if-scopes-eq0.false c.if-count.false c.if-scopes-count.true
+
+pub scope_kinds-requires : goal.scope_kinds-requires
+scope_kinds-requires c = has_parts c
+
+pub returns-then-not-all_below : goal.returns-then-not-all_below
+returns-then-not-all_below c = kind_wrong _ _ (C (goal.at.returns-then-not-all_below c).Else-scopes-count) (some (goal.at.returns-then-not-all_below c).Else-scopes-count) (few (goal.at.returns-then-not-all_below c).Else-scopes-count) c.if-scopes-count.false (kinds_told (goal.at.returns-then-not-all_below c).After-all_below c.if-not-all_below.true)
+
+pub parent_words-requires : goal.parent_words-requires
+parent_words-requires c = has_parts (goal.at.parent_words-requires c).Else-scopes-count
+
+pub returns-then-not-parents_lower : goal.returns-then-not-parents_lower
+returns-then-not-parents_lower c = parent_wrong _ _ (C (goal.at.returns-then-not-parents_lower c).Else-scopes-count) (some (goal.at.returns-then-not-parents_lower c).Else-scopes-count) (few (goal.at.returns-then-not-parents_lower c).Else-scopes-count) c.if-scopes-count.false (kinds_are (goal.at.returns-then-not-parents_lower c).After-parents_lower) (parents_told (goal.at.returns-then-not-parents_lower c).After-parents_lower c.if-not-parents_lower.true)
+
+pub scope_numbers-requires : goal.scope_numbers-requires
+scope_numbers-requires c = has_parts (goal.at.scope_numbers-requires c).Else-scopes-count
+
+pub returns : goal.returns
+returns c = ap not (c.all_below-2.ensures ∙ ap (all (is_below (count_word (C (goal.at.returns c).Else-scopes-count)))) c.scope_numbers.ensures) ∙ number_wrong _ _ (C (goal.at.returns c).Else-scopes-count) (some (goal.at.returns c).Else-scopes-count) (few (goal.at.returns c).Else-scopes-count) c.if-scopes-count.false (kinds_are (goal.at.returns c).After-parents_lower) (parents_told (goal.at.returns c).After-parents_lower c.if-not-parents_lower.false)
