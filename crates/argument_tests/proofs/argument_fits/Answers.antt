@@ -57,4 +57,4 @@ returns-in-17 c = rw c.in-17.is
 
 pub returns-in_default : goal.returns-in_default
 unfolding argument_fits
-returns-in_default c = simp (ne_eqb _ _ c.in_default-own.rest.0.0.0.0.0.0.0.0.0.0.0.0.1, ne_eqb _ _ c.in_default-own.rest.0.0.0.0.0.0.0.0.0.0.0.1, ne_eqb _ _ c.in_default-own.rest.0.0.0.0.0.0.0.0.0.0.1, ne_eqb _ _ c.in_default-own.rest.0.0.0.0.0.0.0.0.0.1, ne_eqb _ _ c.in_default-own.rest.0.0.0.0.0.0.0.0.1, ne_eqb _ _ c.in_default-own.rest.0.0.0.0.0.0.0.1, ne_eqb _ _ c.in_default-own.rest.0.0.0.0.0.0.1, ne_eqb _ _ c.in_default-own.rest.0.0.0.0.0.1, ne_eqb _ _ c.in_default-own.rest.0.0.0.0.1, ne_eqb _ _ c.in_default-own.rest.0.0.0.1, ne_eqb _ _ c.in_default-own.rest.0.0.1, ne_eqb _ _ c.in_default-own.rest.0.1, ne_eqb _ _ c.in_default-own.rest.1)
+returns-in_default c = simp (ne_eqb _ _ c.in_default.in_default-own.rest.0.0.0.0.0.0.0.0.0.0.0.0.1, ne_eqb _ _ c.in_default.in_default-own.rest.0.0.0.0.0.0.0.0.0.0.0.1, ne_eqb _ _ c.in_default.in_default-own.rest.0.0.0.0.0.0.0.0.0.0.1, ne_eqb _ _ c.in_default.in_default-own.rest.0.0.0.0.0.0.0.0.0.1, ne_eqb _ _ c.in_default.in_default-own.rest.0.0.0.0.0.0.0.0.1, ne_eqb _ _ c.in_default.in_default-own.rest.0.0.0.0.0.0.0.1, ne_eqb _ _ c.in_default.in_default-own.rest.0.0.0.0.0.0.1, ne_eqb _ _ c.in_default.in_default-own.rest.0.0.0.0.0.1, ne_eqb _ _ c.in_default.in_default-own.rest.0.0.0.0.1, ne_eqb _ _ c.in_default.in_default-own.rest.0.0.0.1, ne_eqb _ _ c.in_default.in_default-own.rest.0.0.1, ne_eqb _ _ c.in_default.in_default-own.rest.0.1, ne_eqb _ _ c.in_default.in_default-own.rest.1)

@@ -6,7 +6,7 @@ use Rattle.kinds.proofs.is_code.Goals as goal
 
 pub returns-then-kind-lt-GOTO : goal.returns-then-kind-lt-GOTO
 unfolding is_code
-returns-then-kind-lt-GOTO c = λ s. simp (lt-leb _ _ c.if-kind-lt-GOTO.true, ne_eqb _ _ c.in_default-own.rest.0.0.0.0.0.0.1, ne_eqb _ _ c.in_default-own.rest.0.0.0.0.0.1, ne_eqb _ _ c.in_default-own.rest.0.0.0.0.1, ne_eqb _ _ c.in_default-own.rest.0.0.0.1, ne_eqb _ _ c.in_default-own.rest.0.0.1, ne_eqb _ _ c.in_default-own.rest.0.1, ne_eqb _ _ c.in_default-own.rest.1)
+returns-then-kind-lt-GOTO c = λ s. simp (lt-leb _ _ c.if-kind-lt-GOTO.true, ne_eqb _ _ c.before.in_default.in_default-own.rest.0.0.0.0.0.0.1, ne_eqb _ _ c.before.in_default.in_default-own.rest.0.0.0.0.0.1, ne_eqb _ _ c.before.in_default.in_default-own.rest.0.0.0.0.1, ne_eqb _ _ c.before.in_default.in_default-own.rest.0.0.0.1, ne_eqb _ _ c.before.in_default.in_default-own.rest.0.0.1, ne_eqb _ _ c.before.in_default.in_default-own.rest.0.1, ne_eqb _ _ c.before.in_default.in_default-own.rest.1)
 
 pub returns-in-2 : goal.returns-in-2
 unfolding is_code
@@ -38,4 +38,4 @@ returns-in-12 c = λ s. rw c.in-12.is
 
 pub returns-else-kind-lt-GOTO : goal.returns-else-kind-lt-GOTO
 unfolding is_code
-returns-else-kind-lt-GOTO c = λ s. simp (le-leb _ _ c.if-kind-lt-GOTO.false, ne_eqb _ _ c.in_default-own.rest.0.0.0.0.0.0.1, ne_eqb _ _ c.in_default-own.rest.0.0.0.0.0.1, ne_eqb _ _ c.in_default-own.rest.0.0.0.0.1, ne_eqb _ _ c.in_default-own.rest.0.0.0.1, ne_eqb _ _ c.in_default-own.rest.0.0.1, ne_eqb _ _ c.in_default-own.rest.0.1, ne_eqb _ _ c.in_default-own.rest.1, or-false)
+returns-else-kind-lt-GOTO c = λ s. simp (le-leb _ _ c.if-kind-lt-GOTO.false, ne_eqb _ _ c.before.in_default.in_default-own.rest.0.0.0.0.0.0.1, ne_eqb _ _ c.before.in_default.in_default-own.rest.0.0.0.0.0.1, ne_eqb _ _ c.before.in_default.in_default-own.rest.0.0.0.0.1, ne_eqb _ _ c.before.in_default.in_default-own.rest.0.0.0.1, ne_eqb _ _ c.before.in_default.in_default-own.rest.0.0.1, ne_eqb _ _ c.before.in_default.in_default-own.rest.0.1, ne_eqb _ _ c.before.in_default.in_default-own.rest.1, or-false)

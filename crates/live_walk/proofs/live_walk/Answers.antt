@@ -37,7 +37,7 @@ pub cell-u-requires : goal.cell-u-requires
 cell-u-requires c = omega (arith, top_in c.args.stamp (walk (goal.at.cell-u-requires c).Start) {s = here (goal.at.cell-u-requires c).At-loop-top} c.loop-top.invariant.2.underway)
 
 pub expand-top-requires : goal.expand-top-requires
-expand-top-requires c = record { ready = (pop_ready c.args.stamp (walk (goal.at.expand-top-requires c).Start) {c.args.stamp = here (goal.at.expand-top-requires c).At-loop-top} c.loop-top.invariant.2.underway c.loop-top-test.true, c.requires.unmarked.1); long = (c.requires.long.0, rw c.cell-u.ensures (node_below c.args.stamp (walk (goal.at.expand-top-requires c).Start) {c.args.stamp = here (goal.at.expand-top-requires c).At-loop-top} c.loop-top.invariant.2.underway _ (omega arith))); }
+expand-top-requires c = record { ready = (pop_ready c.args.stamp (walk (goal.at.expand-top-requires c).Start) {s = here (goal.at.expand-top-requires c).At-loop-top} c.loop-top.invariant.2.underway c.loop-top-test.true, c.requires.unmarked.1); long = (c.requires.long.0, rw c.cell-u.ensures (node_below c.args.stamp (walk (goal.at.expand-top-requires c).Start) {s = here (goal.at.expand-top-requires c).At-loop-top} c.loop-top.invariant.2.underway _ (omega arith))); }
 
 -- what the turn's pushes lead to
 pushes : (c : After-expand-top) → after c ≡ stamp_all c.args.stamp ((walk (goal.at.After-expand-top c).Start).next (topmost (here (goal.at.After-expand-top c).At-loop-top))) (pop (here (goal.at.After-expand-top c).At-loop-top))

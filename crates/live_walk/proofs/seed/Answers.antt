@@ -40,7 +40,7 @@ loop-i-preserved c =
     (
       c.expand_write-top.auto.visited ∙ c.loop-i.invariant.0,
       c.expand_write-top.auto.stack ∙ c.loop-i.invariant.1,
-      write_ready c.args.n c.args.first.now c.args.second.now c.args.start.now (decl (goal.at.loop-i-preserved c).Start) c.args.stamp (used (goal.at.loop-i-preserved c).At-loop-i) {s = here (goal.at.loop-i-preserved c).At-loop-i} {(goal.at.loop-i-preserved c).At-loop-i = after (goal.at.loop-i-preserved c).After-expand_write-top} c.loop-i.invariant.2 c.expand_write-top.ensures,
+      write_ready c.args.n c.args.first.now c.args.second.now c.args.start.now (decl (goal.at.loop-i-preserved c).Start) c.args.stamp (used (goal.at.loop-i-preserved c).At-loop-i) {s = here (goal.at.loop-i-preserved c).At-loop-i} {t = after (goal.at.loop-i-preserved c).After-expand_write-top} c.loop-i.invariant.2 c.expand_write-top.ensures,
       seed_step c.args.n c.args.first.now c.args.second.now c.args.start.now (decl (goal.at.loop-i-preserved c).Start) c.args.mine.now c.args.stamp c.loop-i.i (here (goal.at.loop-i-preserved c).At-loop-i) c.loop-i-test.true (after (goal.at.loop-i-preserved c).After-expand_write-top) c.expand_write-top.ensures ∙ c.loop-i.invariant.3,
     )
 

@@ -9,6 +9,7 @@ use Rattle.flow.specs.Refusals.{names_fit}
 use Rattle.sweeps.proofs.Sweep.{Swept, begin, onward, fails, ends}
 use Rattle.name_tests.proofs.Sweeps.{naming}
 use Rattle.name_tests.proofs.bad_name.Goals as goal
+use Rattle.name_tests.proofs.bad_name.Goals.{then-kind-eq-LOCAL, else-kind-eq-LOCAL+then-kind-eq-NAME+else-not-name_fits, else-kind-eq-LOCAL+else-kind-eq-NAME}
 
 pub loop-i-init : goal.loop-i-init
 loop-i-init c = begin naming _ _ (0, 0)
@@ -19,10 +20,11 @@ returns-then-not-name_fits c = rw (fails c.loop-i.invariant c.requires.0 c.loop-
 pub loop-i-preserved : goal.loop-i-preserved
 loop-i-preserved c =
     let next = onward c.loop-i.invariant c.requires.0 c.loop-i-test.true in
-    ⊎_elim (λ w. rw (w.1, w.2) (rw w.0.taken at (next (rw w.0.taken))))
-    (⊎_elim (λ w. rw (w.4, w.5) (rw w.1.taken at (next (rw w.1.taken (sym w.2.ensures ∙ not-false _ w.3.left)))))
-    (λ w. rw (w.2, w.3) (simp (ne_eqb _ _ w.0.left, ne_eqb _ _ w.1.left) at (next (rw (ne_eqb _ _ w.1.left))))))
-    c.if-kind-eq-LOCAL.branch
+    elim c.if-kind-eq-LOCAL.branch [
+      | then-kind-eq-LOCAL w ↦ rw (w.local-is, w.reached-is) (rw w.if-kind-eq-LOCAL.true at (next (rw w.if-kind-eq-LOCAL.true)))
+      | else-kind-eq-LOCAL+then-kind-eq-NAME+else-not-name_fits w ↦ rw (w.local-is, w.reached-is) (rw w.if-kind-eq-NAME.true at (next (rw w.if-kind-eq-NAME.true (sym w.name_fits.ensures ∙ w.if-not-name_fits.false))))
+      | else-kind-eq-LOCAL+else-kind-eq-NAME w ↦ rw (w.local-is, w.reached-is) (simp (ne_eqb _ _ w.if-kind-eq-LOCAL.false, ne_eqb _ _ w.if-kind-eq-NAME.false) at (next (rw (ne_eqb _ _ w.if-kind-eq-NAME.false))))
+    ]
 
 pub returns : goal.returns
 unfolding names_fit

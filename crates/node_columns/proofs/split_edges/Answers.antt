@@ -27,4 +27,4 @@ shape_of-second c = c.loop-i.invariant.2.long
 pub returns : goal.returns
 returns c =
     let e : c.loop-i.i ≡ c.args.n = omega arith in
-    let r = rw (← e) (c.loop-i.invariant.1.cells, c.loop-i.invariant.2.cells) in record { first_after = r.0; second_after = r.1; }
+    record { first_after = rw (← e) c.loop-i.invariant.1.cells; second_after = rw (← e) c.loop-i.invariant.2.cells; }

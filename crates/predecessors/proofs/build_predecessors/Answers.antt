@@ -43,7 +43,7 @@ loop-u-preserved c =
     (
       omega arith,
       second_linked (firsts (goal.at.loop-u-preserved c).Start) (seconds (goal.at.loop-u-preserved c).Start) c.args.n c.loop-u.u c.link.new.chain c.requires.n_bound.0 c.loop-u-test.true (half (goal.at.loop-u-preserved c).After-link) c.at-b.result c.link-in-loop-u.new.chain (c.at-b.ensures ∙ sym (get_or-take c.args.n c.args.second.now c.loop-u.u 0 c.loop-u-test.true)) c.link-in-loop-u.ensures,
-      c.in-in.given ∙ c.in-1.given ∙ c.loop-u.invariant.2,
+      c.link-in-loop-u.auto.chain ∙ c.link.auto.chain ∙ c.loop-u.invariant.2,
     )
 
 -- ---- after the loop
