@@ -8,8 +8,7 @@ use lib.Dec.{eqb, leb}
 use borrow.Author.Tests.{eqb-true, eqb-false, leb-true, ne_eqb, lt-leb}
 use Rattle.flow.specs.Sheet.{member}
 use Rattle.kinds.specs.Ends.{ends_block}
-use Rattle.nesting_tests.proofs.ends_block_or_sheet.Statement.{statement}
-use Rattle.nesting_tests.proofs.ends_block_or_sheet.Tie as tie
+use Rattle.nesting_tests.proofs.ends_block_or_sheet.Goals as goal
 
 past_all : (k : ℕ) → (k ≡ 8 → ⊥) → (k ≡ 9 → ⊥) → (k ≡ 6 → ⊥) → (k ≡ 7 → ⊥) → ends_block k ≡ false
 past_all k p q r s = go (leb 6 k) refl
@@ -28,14 +27,8 @@ enders k z = rw (ne_eqb k 0 z) (go (eqb k 8) (eqb k 9) (eqb k 6) (eqb k 7) refl 
     go false false false true p q r s = rw (eqb-true k 7 s)
     go false false false false p q r s = past_all k (eqb-false k 8 p) (eqb-false k 9 q) (eqb-false k 6 r) (eqb-false k 7 s)
 
-returns : tie.Need-returns
-returns c = rw c.if1.true
+pub returns-then-kind-eq0 : goal.returns-then-kind-eq0
+returns-then-kind-eq0 c = rw c.if-kind-eq0.true
 
-ends-block-requires : tie.Need-ends-block-requires
-ends-block-requires c κs = tt
-
-returns-2 : tie.Need-returns-2
-returns-2 c = c.ends-block.ensures ∙ enders _ c.before.if1.false
-
-pub ends_block_or_sheet_spec : {M : Type 1} → statement M
-ends_block_or_sheet_spec = tie.close (tie.spec returns ends-block-requires returns-2)
+pub returns : goal.returns
+returns c = c.ends_block.ensures ∙ enders _ c.if-kind-eq0.false

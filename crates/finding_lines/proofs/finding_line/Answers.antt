@@ -1,0 +1,17 @@
+-- `finding_lines::finding_line` meets its contract, by the finding's list.
+-- Assumes nothing.
+use borrow.Author.Rules.{rules}
+use Rattle.finding_lines.proofs.Texts.{unassigned, overwritten}
+use Rattle.finding_lines.proofs.finding_line.Goals as goal
+
+pub line-requires : goal.line-requires
+line-requires c = rw (unassigned c.args.word c.args.span c.if-word-eq0.true c.use_number.ensures) at c.requires
+
+pub line-requires-else-word-eq0 : goal.line-requires-else-word-eq0
+line-requires-else-word-eq0 c = rw (overwritten c.args.word c.args.span c.if-word-eq0.false) at c.requires
+
+pub returns-then-word-eq0 : goal.returns-then-word-eq0
+returns-then-word-eq0 c = rw (unassigned c.args.word c.args.span c.if-word-eq0.true c.use_number.ensures) c.line.ensures
+
+pub returns-else-word-eq0 : goal.returns-else-word-eq0
+returns-else-word-eq0 c = rw (overwritten c.args.word c.args.span c.if-word-eq0.false) c.line-else-word-eq0.ensures

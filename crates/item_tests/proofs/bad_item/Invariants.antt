@@ -1,0 +1,16 @@
+-- `item_tests::bad_item` meets its contract: its loop is the sweep of refusal 3. Assumes nothing.
+use Prim.Native.Nat.{◌-◌}
+use mathlib.Core.Path.{sym, ◌∙◌}
+use native.Mathlib.Omega.{arith}
+use lib.ListN.{length}
+use borrow.Author.Tests.{lt-ltb, le-ltb, not-true, not-false}
+use Rattle.flow.specs.Sheet.{all}
+use Rattle.sweeps.proofs.Sweep.{Swept, begin, onward, fails, ends}
+use Rattle.item_tests.proofs.Sweeps.{fitting}
+use Rattle.item_tests.proofs.bad_item.Given as goal
+
+abbrev pub invariant-loop-i : goal.invariant-loop-i
+invariant-loop-i l = Swept fitting l.kinds l.spans tt l.i tt
+
+abbrev pub decreases-loop-i : goal.decreases-loop-i
+decreases-loop-i l = length l.kinds - l.i
