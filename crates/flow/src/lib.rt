@@ -1,7 +1,7 @@
 // The answers that the definitions of `specs/` and the calls share. No code of its own.
 
 // What a condition is known to be.
-#[derive(Drop)]
+#[derive(Clone, Copy)]
 pub enum Truth {
     False,
     True,

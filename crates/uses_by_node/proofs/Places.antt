@@ -53,8 +53,8 @@ find v [] = inl (record { none = λ j h. absurd (omega arith); is = refl })
 find v (w ∷ ws) = elim (ℕ_discrete (node_in w) v) [
   | yes e ↦ inr (record { at = 0; below = omega arith; here = e; before = λ j h. absurd (omega arith); is = first_here v w (uses_in ws) e })
   | no q ↦ ⊎_elim
-      (λ p. inl (record { none = λ j. elim j [ zero ↦ λ h. q | suc k ↦ λ h. p.none k (omega arith) ]; is = first_past v w (uses_in ws) q ∙ p.is }))
-      (λ p. inr (record { at = suc p.at; below = omega (arith, p.below); here = p.here; before = λ j. elim j [ zero ↦ λ h. q | suc k ↦ λ h. p.before k (omega arith) ]; is = first_past v w (uses_in ws) q ∙ p.is }))
+      (λ p. inl (record { none = λ j. elim j as (λ (i : ℕ). i < length (w ∷ ws) → node_at (w ∷ ws) i ≡ v → ⊥) [ zero ↦ λ h. q | suc k ↦ λ h. p.none k (omega arith) ]; is = first_past v w (uses_in ws) q ∙ p.is }))
+      (λ p. inr (record { at = suc p.at; below = omega (arith, p.below); here = p.here; before = λ j. elim j as (λ (i : ℕ). i < suc p.at → node_at (w ∷ ws) i ≡ v → ⊥) [ zero ↦ λ h. q | suc k ↦ λ h. p.before k (omega arith) ]; is = first_past v w (uses_in ws) q ∙ p.is }))
       (find v ws)
 ]
 

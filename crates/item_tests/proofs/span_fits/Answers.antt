@@ -21,4 +21,4 @@ pub returns-in-19 : goal.returns-in-19
 returns-in-19 c = rw (c.in-19.is, le-leb _ _ c.if-span.false)
 
 pub returns-in_default : goal.returns-in_default
-returns-in_default c = simp (le-leb _ _ c.if-span.false, ne_eqb _ _ c.in_default.in_default-own.rest.0.0.0.0.1, ne_eqb _ _ c.in_default-own.rest.0.0.0.1, ne_eqb _ _ c.in_default-own.rest.0.0.1, ne_eqb _ _ c.in_default-own.rest.0.1, ne_eqb _ _ c.in_default-own.rest.1)
+returns-in_default c = simp (le-leb _ _ c.if-span.false, ne_eqb _ _ c.in_default.in_default-own.rest.0.0.0.0.1, ne_eqb _ _ c.in_default.in_default-own.rest.0.0.0.1, ne_eqb _ _ c.in_default.in_default-own.rest.0.0.1, ne_eqb _ _ c.in_default.in_default-own.rest.0.1, ne_eqb _ _ c.in_default.in_default-own.rest.1)

@@ -44,4 +44,4 @@ returns-in-15 c = rw c.in-15.is (c.ends_block_or_sheet-in-15.ensures ∙ last_in
 
 pub returns-in_default : goal.returns-in_default
 unfolding may_follow
-returns-in_default c = simp (ne_eqb _ _ c.in_default-own.rest.0.0.0.1, ne_eqb _ _ c.in_default-own.rest.0.0.1, ne_eqb _ _ c.in_default-own.rest.0.1, ne_eqb _ _ c.in_default-own.rest.1) (unnamed (eqb c.args.kind 11))
+returns-in_default c = simp (ne_eqb _ _ c.in_default.in_default-own.rest.0.0.0.1, ne_eqb _ _ c.in_default.in_default-own.rest.0.0.1, ne_eqb _ _ c.in_default.in_default-own.rest.0.1, ne_eqb _ _ c.in_default.in_default-own.rest.1) (unnamed (eqb c.args.kind 11))

@@ -1,0 +1,8 @@
+-- `cfg_steps::GraphBuilder::arms_end` meets its contract: without ELSE the last test goes on to the join.
+-- Assumes nothing.
+use borrow.Author.Rules.{rules}
+use Rattle.cfg_steps.proofs.Loops.{arms_end_did}
+use Rattle.cfg_steps.proofs.GraphBuilder.arms_end.Goals as goal
+
+pub returns : goal.returns
+returns c = λ ks k n l ok. arms_end_did ks _ _ k n l ok c.args.test c.args.join c.args.falls _ c.connect_if.ensures c.requires.test_lt_nodes.0 c.requires.test_lt_nodes.1

@@ -1,0 +1,25 @@
+-- `cfg_steps::GraphBuilder::label_here` meets its contract: the item is no label of the block, or it gets a node.
+-- Assumes nothing.
+use borrow.Author.Rules.{rules}
+use borrow.Author.Tests.{not-true, not-false}
+use native.Mathlib.Omega.{arith}
+use mathlib.Core.Path.{ap, sym, ◌∙◌}
+use lib.ListN.{length}
+use Rattle.blocks.proofs.Scan.{here_deep, here_other, here_named, label_kind}
+use Rattle.cfg_steps.proofs.Scan.{entered_empty}
+use Rattle.cfg_steps.proofs.GraphBuilder.label_here.Goals as goal
+
+pub returns-then-depth-ne0 : goal.returns-then-depth-ne0
+returns-then-depth-ne0 c = λ ks k n ok. entered_empty ks _ _ _ (here_deep _ _ c.if-depth-ne0.true) ok
+
+pub returns-then-not-is_label : goal.returns-then-not-is_label
+returns-then-not-is_label c = λ ks k n ok. entered_empty ks _ _ _ (here_other _ _ (sym c.is_label.ensures ∙ c.if-not-is_label.true)) ok
+
+pub new_label-requires : goal.new_label-requires
+new_label-requires c =
+    let labelled = sym c.is_label.ensures ∙ c.if-not-is_label.false in
+    let h = ap length (here_named c.args.w c.args.depth c.if-depth-ne0.false labelled) in
+    record { by_index = c.requires.by_index; nodes_bound = (omega (arith, h), c.requires.depth_bound.1 (label_kind _ labelled)); }
+
+pub returns : goal.returns
+returns c = λ ks k n ok. rw (here_named _ _ c.if-depth-ne0.false (sym c.is_label.ensures ∙ c.if-not-is_label.false)) (c.new_label.ensures ks k n ok)

@@ -1,0 +1,18 @@
+-- `cfg_steps::GraphBuilder::loop_end` meets its contract: the head goes on to after unless its condition is true.
+-- Assumes nothing.
+use borrow.Author.Rules.{rules}
+use mathlib.Core.Path.{refl, ap, ◌∙◌}
+use native.Mathlib.Omega.{arith}
+use mathlib.Core.Logic.{inl}
+use Prim.Native.Nat.{◌+◌}
+use Rattle.flow.specs.Graph.{set_current, connect}
+use mathlib.Core.Bool.{cond}
+use Rattle.cfg_steps.proofs.Simple.{did_as}
+use Rattle.cfg_steps.proofs.Loops.{if_did, fails_edge}
+use Rattle.cfg_steps.proofs.GraphBuilder.loop_end.Goals as goal
+
+pub returns : goal.returns
+returns c =
+    λ ks k n l ok.
+    did_as refl (λ ss g. ap (set_current (c.args.head + 1)) (ap (λ b. cond b (connect c.args.head (c.args.head + 1) g) g) c.may_fail-fails.ensures ∙ fails_edge c.args.truth c.args.head (c.args.head + 1) g))
+    (if_did ks _ _ k n l ok c.args.head (c.args.head + 1) (c.args.head + 1) c.may_fail-fails.result _ c.connect_if.ensures (omega arith) c.requires.head_bound (inl c.requires.head_bound))
