@@ -30,8 +30,8 @@ loop-i-preserved c =
   omega (arith, one_most c.is_opener.result),
   omega (arith, one_most c.is_closer.result),
   rw (c.one-openers.ensures ∙ ap one c.is_opener.ensures, c.one-closers.ensures ∙ ap one c.is_closer.ensures) (onward c.loop-i.invariant.2 c.requires.0 c.loop-i-test.true (ap not (le-ltb _ _ c.if-closers-openers.false))),
+)
 
--- LEFT )
 pub returns : goal.returns
 unfolding outnumbered
 returns c = sym (sym (not_not (outnumbered 0 0 (zip c.args.kinds.now c.args.spans.now))) ∙ ap not (ends c.loop-i.invariant.2 c.loop-i-test.false) ∙ not_not _)

@@ -79,16 +79,16 @@ loop-top-smaller c = stamp_falls c.args.stamp (known (goal.at.loop-top-smaller c
 pub loop-top-preserved : goal.loop-top-preserved
 loop-top-preserved c =
     (
-      c.in-loop.given ∙ c.loop-top.invariant.0,
-      c.in-loop.given ∙ c.loop-top.invariant.1,
+      c.push_chain-top.auto.marks ∙ c.loop-top.invariant.0,
+      c.push_chain-top.auto.stack ∙ c.loop-top.invariant.1,
       λ f s k p. stamp_turn c.args.stamp (sought (goal.at.loop-top-preserved c).Start f s p) (c.loop-top.invariant.2 f s k p) c.loop-top-test.true (after (goal.at.loop-top-preserved c).After-push_chain-top) (turned (goal.at.loop-top-preserved c).After-push_chain-top f s k p),
     )
 
 pub shape_of-marks : goal.shape_of-marks
-shape_of-marks c = c.loop-top.invariant.0 ∙ c.marks-1.given
+shape_of-marks c = c.loop-top.invariant.0 ∙ c.push_starts-top.auto.marks
 
 pub shape_of-stack : goal.shape_of-stack
-shape_of-stack c = c.loop-top.invariant.1 ∙ c.stack-1.given
+shape_of-stack c = c.loop-top.invariant.1 ∙ c.push_starts-top.auto.stack
 
 pub returns : goal.returns
 returns c = record { searched = λ f s k. stamp_end c.args.stamp (sought (goal.at.returns c).Start f s c.requires.all_placed.0) (c.loop-top.invariant.2 f s k c.requires.all_placed.0) (omega arith); stamped = (underway (goal.at.returns c).At-loop-top).bounded; }

@@ -1,0 +1,59 @@
+-- `admission::pair_verdict` meets its contract. Assumes nothing.
+use borrow.Author.Rules.{rules}
+use Prim.Native.Nat.{ℕ}
+use mathlib.Core.Bool.{Bool, false, ◌||◌}
+use mathlib.Core.List.{List, [], ◌∷◌}
+use mathlib.Core.Path.{◌≡◌, sym, ap, ◌∙◌}
+use Rattle.search.proofs.Bools.{neither}
+use Rattle.flow.specs.Refusals.{leading_tests, Test, miscount, bad_use, first_applying, pair_tests, pair_verdict}
+use Rattle.flow.specs.declared.Refusal.TheVariants.{BadUse}
+use Rattle.flow.proofs.Tests.{passed}
+use Rattle.sheet_parts.proofs.Parts.{counted}
+use Rattle.admission.proofs.Verdicts.{applies_first, passes_first, refused_before, admitted_before}
+use Rattle.admission.proofs.pair_verdict.Goals as goal
+use Rattle.admission.proofs.pair_verdict.Goals.{After-leading_verdict-leading, In_default}
+
+-- where 1 to 7 are tested
+abbrev short : (c : After-leading_verdict-leading) → Bool
+short c = c.args.short
+
+abbrev sheet : (c : After-leading_verdict-leading) → List ℕ
+sheet c = c.args.sheet.now
+
+abbrev uses : (c : After-leading_verdict-leading) → List ℕ
+uses c = c.args.uses.now
+
+abbrev leading : (c : After-leading_verdict-leading) → List Test
+leading c = leading_tests (short c) (miscount 2 (sheet c) || miscount 1 (uses c)) (sheet c)
+
+-- the tests behind them
+abbrev from_8 : (c : After-leading_verdict-leading) → List Test
+from_8 c = (BadUse, bad_use (sheet c) (uses c)) ∷ []
+
+leading_are : (c : After-leading_verdict-leading) → first_applying (leading c) ≡ c.leading_verdict-leading.result
+leading_are c = sym (c.leading_verdict-leading.ensures ∙ ap (λ (b : Bool). first_applying (leading_tests (short c) b (sheet c))) c.either_miscounted.ensures)
+
+-- where they pass
+well : (c : In_default) → (miscount 2 (sheet (goal.at.In_default c).After-leading_verdict-leading) ≡ false) × (miscount 1 (uses (goal.at.In_default c).After-leading_verdict-leading) ≡ false)
+well c = neither (miscount 2 (sheet (goal.at.In_default c).After-leading_verdict-leading)) _ (passed (leading (goal.at.In_default c).After-leading_verdict-leading) (leading_are (goal.at.In_default c).After-leading_verdict-leading ∙ c.enum_told-1.given.1) 2)
+
+behind_7 : (c : In_default) → pair_verdict (short (goal.at.In_default c).After-leading_verdict-leading) (sheet (goal.at.In_default c).After-leading_verdict-leading) (uses (goal.at.In_default c).After-leading_verdict-leading) ≡ first_applying (from_8 (goal.at.In_default c).After-leading_verdict-leading)
+unfolding pair_verdict pair_tests
+behind_7 c = admitted_before (leading (goal.at.In_default c).After-leading_verdict-leading) (from_8 (goal.at.In_default c).After-leading_verdict-leading) (leading_are (goal.at.In_default c).After-leading_verdict-leading ∙ c.enum_told-1.given.1)
+
+pub leading_verdict-leading-requires : goal.leading_verdict-leading-requires
+leading_verdict-leading-requires c = λ e. counted 2 _ (neither _ _ (sym c.either_miscounted.ensures ∙ e)).0
+
+pub returns-in-Refused : goal.returns-in-Refused
+unfolding pair_verdict pair_tests
+returns-in-Refused c = sym (refused_before (leading (goal.at.returns-in-Refused c).After-leading_verdict-leading) (from_8 (goal.at.returns-in-Refused c).After-leading_verdict-leading) _ (leading_are (goal.at.returns-in-Refused c).After-leading_verdict-leading ∙ c.in-Refused.is))
+
+pub use_is_bad-requires : goal.use_is_bad-requires
+use_is_bad-requires c = (counted 2 _ (well c).0, counted 1 _ (well c).1)
+
+pub returns-then-use_is_bad : goal.returns-then-use_is_bad
+returns-then-use_is_bad c = sym (behind_7 (goal.at.returns-then-use_is_bad c).In_default ∙ applies_first _ _ (sym c.use_is_bad.ensures ∙ c.if-use_is_bad.true))
+
+pub returns : goal.returns
+unfolding first_applying
+returns c = sym (behind_7 (goal.at.returns c).In_default ∙ passes_first _ [] (sym c.use_is_bad.ensures ∙ c.if-use_is_bad.false))

@@ -1,0 +1,20 @@
+-- `cfg::of_block` meets its contract: the outermost block from the entry, whose end goes to End.
+-- Assumes nothing.
+use borrow.Author.Rules.{rules}
+use native.Mathlib.Omega.{arith}
+use mathlib.Core.Path.{refl}
+use Rattle.cfg_steps.proofs.Simple.{stands}
+use Rattle.cfg.proofs.Sheets.{first_good, whole}
+use Rattle.cfg.proofs.of_block.Goals as goal
+
+-- ---- the places: from each place back to the one before it
+pub scoped_block-s-requires : goal.scoped_block-s-requires
+scoped_block-s-requires c = (c.requires.0, first_good _ _ _ _ _ c.requires.1 c.start_nodes.ensures, omega arith, c.requires.3, c.requires.2)
+
+pub close_into-requires : goal.close_into-requires
+close_into-requires c =
+    let s = (c.scoped_block-s.ensures c.args.kinds.now refl).moved in
+    record { standing = stands s.good; target_lt_nodes = omega (arith, s.good.exits); }
+
+pub returns : goal.returns
+returns c = λ ss e. let sc = c.scoped_block-s.ensures ss e in whole _ _ _ _ _ c.requires.1 c.start_nodes.ensures _ ss _ sc (c.close_into.ensures c.args.kinds.now _ _ _ sc.moved.good)

@@ -1,0 +1,19 @@
+-- `code_columns::split_codes` meets its contract: at the loop's head the first k words are taken apart, and their starts are set.
+-- Assumes nothing.
+use Prim.Native.Nat.{ℕ, ◌≤◌, ◌<◌, ◌-◌}
+use mathlib.Core.Path.{◌≡◌, refl, ◌∙◌}
+use mathlib.Core.List.{List}
+use native.Mathlib.Omega.{arith}
+use lib.ListN.{length, get_or, take}
+use Rattle.cfg_edges.specs.Halves.{lo, hi}
+use Rattle.cfg_steps.specs.Columns.{painted}
+use Rattle.node_columns.proofs.Written.{Written, none, still, turn}
+use Rattle.code_columns.proofs.Starts.{paint_more, paint_all}
+use Rattle.code_columns.proofs.split_codes.Given as goal
+
+abbrev pub invariant-loop-k : goal.invariant-loop-k
+invariant-loop-k l = (l.k ≤ l.codes) × Written lo l.k l.initial.code_node l.initial.code_node l.code_node × Written (span l.spans) l.k l.initial.code_node l.initial.code_span l.code_span
+    × (length l.start ≡ length l.initial.start) × (l.start ≡ painted l.kinds l.spans (take l.k l.initial.code_node) l.initial.start)
+
+abbrev pub decreases-loop-k : goal.decreases-loop-k
+decreases-loop-k l = l.codes - l.k

@@ -1,0 +1,12 @@
+-- `local_values::push_if_overwritten` meets its contract: the two cases of its test.
+-- Assumes nothing.
+use Rattle.locals.proofs.Entries.{added_none}
+use borrow.Author.Rules.{rules}
+use Rattle.local_values.proofs.push_if_overwritten.Goals as goal
+
+-- where the test is answered with yes, seen from where the call of push_write has returned
+pub returns-then-is_overwritten : goal.returns-then-is_overwritten
+returns-then-is_overwritten c = rw (← c.is_overwritten.ensures, c.if-is_overwritten.true) c.push_write.ensures
+
+pub returns-else-is_overwritten : goal.returns-else-is_overwritten
+returns-else-is_overwritten c = rw (← c.is_overwritten.ensures, c.if-is_overwritten.false) (added_none _ _)

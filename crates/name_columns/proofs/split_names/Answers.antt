@@ -1,0 +1,43 @@
+-- `name_columns::split_names` meets its contract: at the loop's head the first k words are taken apart.
+-- Assumes nothing.
+use Prim.Native.Nat.{ℕ, ◌≤◌, ◌-◌}
+use mathlib.Core.Path.{◌≡◌}
+use mathlib.Core.List.{List}
+use native.Mathlib.Omega.{arith}
+use lib.ListN.{get_or}
+use Rattle.cfg_edges.specs.Halves.{hi}
+use Rattle.cfg_steps.specs.Columns.{node_of_name, name_item}
+use Rattle.node_columns.proofs.Written.{Written, none, still, turn}
+use Rattle.name_columns.proofs.split_names.Goals as goal
+
+abbrev span : List ℕ → ℕ → ℕ
+span ss w = get_or ss (name_item w) 0
+
+pub loop-k-init : goal.loop-k-init
+loop-k-init c = (omega arith, none, none, none)
+
+pub split_name-requires : goal.split_name-requires
+split_name-requires c = record { k_in_bounds = omega arith; k_in_bounds_2 = rw (still c.loop-k.invariant.1) (c.requires.by_index c.loop-k.k (omega arith)); }
+
+pub loop-k-preserved : goal.loop-k-preserved
+loop-k-preserved c =
+    (
+      omega arith,
+      turn c.loop-k.invariant.1 c.loop-k.invariant.1 (omega arith) (omega arith) c.split_name.ensures.name_node_after,
+      turn c.loop-k.invariant.1 c.loop-k.invariant.2 (omega arith) (omega arith) c.split_name.ensures.name_span_after,
+      turn c.loop-k.invariant.1 c.loop-k.invariant.3 (omega arith) (omega arith) c.split_name.ensures.name_end_after,
+    )
+
+pub shape_of-name_node : goal.shape_of-name_node
+shape_of-name_node c = c.loop-k.invariant.1.long
+
+pub shape_of-name_span : goal.shape_of-name_span
+shape_of-name_span c = c.loop-k.invariant.2.long
+
+pub shape_of-name_end : goal.shape_of-name_end
+shape_of-name_end c = c.loop-k.invariant.3.long
+
+pub returns : goal.returns
+returns c =
+    let e : c.loop-k.k ≡ c.args.names = omega arith in
+    let r = rw (← e) (c.loop-k.invariant.1.cells, (c.loop-k.invariant.2.cells, c.loop-k.invariant.3.cells)) in record { name_node_after = r.0; name_span_after = r.1.0; name_end_after = r.1.1; }

@@ -1,0 +1,17 @@
+-- `name_columns::split_names` meets its contract: at the loop's head the first k words are taken apart.
+-- Assumes nothing.
+use Prim.Native.Nat.{ℕ, ◌≤◌, ◌-◌}
+use mathlib.Core.Path.{◌≡◌}
+use mathlib.Core.List.{List}
+use native.Mathlib.Omega.{arith}
+use lib.ListN.{get_or}
+use Rattle.cfg_edges.specs.Halves.{hi}
+use Rattle.cfg_steps.specs.Columns.{node_of_name, name_item}
+use Rattle.node_columns.proofs.Written.{Written, none, still, turn}
+use Rattle.name_columns.proofs.split_names.Given as goal
+
+abbrev pub invariant-loop-k : goal.invariant-loop-k
+invariant-loop-k l = (l.k ≤ l.names) × Written node_of_name l.k l.initial.name_node l.initial.name_node l.name_node × Written (span l.spans) l.k l.initial.name_node l.initial.name_span l.name_span × Written hi l.k l.initial.name_node l.initial.name_end l.name_end
+
+abbrev pub decreases-loop-k : goal.decreases-loop-k
+decreases-loop-k l = l.names - l.k
