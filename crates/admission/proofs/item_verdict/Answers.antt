@@ -18,6 +18,19 @@ use Rattle.admission.proofs.item_verdict.Goals as goal
 use Rattle.admission.proofs.item_verdict.Goals.{After-bad_item, After-bad_name, After-bad_nesting, After-off_the_line, After-spans-spans, After-too_deep, Else-bad_item, Else-bad_nesting, Else-off_the_line, Else-too_deep}
 
 -- the tests from each on
+module _ (ws : List ℕ) where
+  abbrev from_7 : List Test
+  from_7 = (BadName, bad_name ws) ∷ []
+
+  abbrev from_6 : List Test
+  from_6 = (OffTheLine, off_the_line ws) ∷ from_7
+
+  abbrev from_5 : List Test
+  from_5 = (BadNesting, bad_nesting ws) ∷ from_6
+
+  abbrev from_4 : List Test
+  from_4 = (TooDeep, too_deep ws) ∷ from_5
+
 -- ---- where the parts are taken
 abbrev sheet : (c : After-spans-spans) → List ℕ
 sheet c = c.args.sheet.now

@@ -35,11 +35,11 @@ leading_are c = sym (c.leading_verdict-leading.ensures ∙ ap (λ (b : Bool). fi
 
 -- where they pass
 well : (c : In_default) → (miscount 2 (sheet (goal.at.In_default c).After-leading_verdict-leading) ≡ false) × (miscount 1 (uses (goal.at.In_default c).After-leading_verdict-leading) ≡ false)
-well c = neither (miscount 2 (sheet (goal.at.In_default c).After-leading_verdict-leading)) _ (passed (leading (goal.at.In_default c).After-leading_verdict-leading) (leading_are (goal.at.In_default c).After-leading_verdict-leading ∙ c.enum_told-1.given.1) 2)
+well c = neither (miscount 2 (sheet (goal.at.In_default c).After-leading_verdict-leading)) _ (passed (leading (goal.at.In_default c).After-leading_verdict-leading) (leading_are (goal.at.In_default c).After-leading_verdict-leading ∙ c.in_default.is) 2)
 
 behind_7 : (c : In_default) → pair_verdict (short (goal.at.In_default c).After-leading_verdict-leading) (sheet (goal.at.In_default c).After-leading_verdict-leading) (uses (goal.at.In_default c).After-leading_verdict-leading) ≡ first_applying (from_8 (goal.at.In_default c).After-leading_verdict-leading)
 unfolding pair_verdict pair_tests
-behind_7 c = admitted_before (leading (goal.at.In_default c).After-leading_verdict-leading) (from_8 (goal.at.In_default c).After-leading_verdict-leading) (leading_are (goal.at.In_default c).After-leading_verdict-leading ∙ c.enum_told-1.given.1)
+behind_7 c = admitted_before (leading (goal.at.In_default c).After-leading_verdict-leading) (from_8 (goal.at.In_default c).After-leading_verdict-leading) (leading_are (goal.at.In_default c).After-leading_verdict-leading ∙ c.in_default.is)
 
 pub leading_verdict-leading-requires : goal.leading_verdict-leading-requires
 leading_verdict-leading-requires c = λ e. counted 2 _ (neither _ _ (sym c.either_miscounted.ensures ∙ e)).0

@@ -9,10 +9,9 @@ use Rattle.cfg_edges.specs.Halves.{lo, hi}
 use Rattle.cfg_steps.specs.Columns.{painted}
 use Rattle.node_columns.proofs.Written.{Written, none, still, turn}
 use Rattle.code_columns.proofs.Starts.{paint_more, paint_all}
+use Rattle.code_columns.proofs.split_codes.Invariants.{span}
 use Rattle.code_columns.proofs.split_codes.Goals as goal
 
-abbrev span : List ℕ → ℕ → ℕ
-span ss c = get_or ss (hi c) 0
 
 pub loop-k-init : goal.loop-k-init
 unfolding painted

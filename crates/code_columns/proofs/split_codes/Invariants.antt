@@ -11,6 +11,9 @@ use Rattle.node_columns.proofs.Written.{Written, none, still, turn}
 use Rattle.code_columns.proofs.Starts.{paint_more, paint_all}
 use Rattle.code_columns.proofs.split_codes.Given as goal
 
+abbrev pub span : List ℕ → ℕ → ℕ
+span ss c = get_or ss (hi c) 0
+
 abbrev pub invariant-loop-k : goal.invariant-loop-k
 invariant-loop-k l = (l.k ≤ l.codes) × Written lo l.k l.initial.code_node l.initial.code_node l.code_node × Written (span l.spans) l.k l.initial.code_node l.initial.code_span l.code_span
     × (length l.start ≡ length l.initial.start) × (l.start ≡ painted l.kinds l.spans (take l.k l.initial.code_node) l.initial.start)

@@ -31,7 +31,7 @@ pub loop-j-init : goal.loop-j-init
 loop-j-init c = (omega arith, c.labels_end-end.ensures, λ ss e. entered_after (begun (goal.at.loop-j-init c).Start ss e) refl (c.enter-s.ensures ss e))
 
 pub step-s-requires : goal.step-s-requires
-step-s-requires c = record { checkable = (c.requires, c.loop-j.invariant.1, c.loop-j-test.true, c.if-not-s.false); by_index = λ ss e. (c.loop-j.invariant.2 ss e).fine c.if-not-s.false; }
+step-s-requires c = record { checkable = (c.requires, c.loop-j.invariant.1, c.loop-j-test.true, not-false _ c.if-not-s.false); by_index = λ ss e. (c.loop-j.invariant.2 ss e).fine (not-false _ c.if-not-s.false); }
 
 pub loop-j-preserved : goal.loop-j-preserved
 loop-j-preserved c = (omega arith, c.loop-j.invariant.1, c.step-s.ensures)
@@ -40,4 +40,4 @@ pub returns-after-loop-j : goal.returns-after-loop-j
 returns-after-loop-j c = λ ss e. walk_end c.args.kinds.now ss e c.loop-j-test.false (c.loop-j.invariant.2 ss e)
 
 pub returns-then-not-s : goal.returns-then-not-s
-returns-then-not-s c = λ ss e. walk_lost c.if-not-s.true (c.loop-j.invariant.2 ss e)
+returns-then-not-s c = λ ss e. walk_lost (not-true _ c.if-not-s.true) (c.loop-j.invariant.2 ss e)

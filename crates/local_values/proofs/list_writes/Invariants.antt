@@ -12,7 +12,7 @@ use Rattle.local_values.proofs.Writes.{Passed, passed_none, passed_long, passed_
 use Rattle.local_values.proofs.list_writes.Given as goal
 
 abbrev pub invariant-loop-i : goal.invariant-loop-i
-invariant-loop-i l = Passed (chart l.n l.first l.second []) (record { l.reads = flags_of l.stamp l.n l.reads; l.writes = flags_of l.stamp l.n l.writes }) l.local l.sorted l.before l.initial.finding_word l.count l.i l.finding_word
+invariant-loop-i l = Passed (chart l.n l.first l.second []) (record { reads = flags_of l.stamp l.n l.reads; writes = flags_of l.stamp l.n l.writes }) l.local l.sorted l.before l.initial.finding_word l.count l.i l.finding_word
 
 abbrev pub decreases-loop-i : goal.decreases-loop-i
 decreases-loop-i l = length l.sorted - l.i

@@ -8,10 +8,9 @@ use lib.ListN.{get_or}
 use Rattle.cfg_edges.specs.Halves.{hi}
 use Rattle.cfg_steps.specs.Columns.{node_of_name, name_item}
 use Rattle.node_columns.proofs.Written.{Written, none, still, turn}
+use Rattle.name_columns.proofs.split_names.Invariants.{span}
 use Rattle.name_columns.proofs.split_names.Goals as goal
 
-abbrev span : List ℕ → ℕ → ℕ
-span ss w = get_or ss (name_item w) 0
 
 pub loop-k-init : goal.loop-k-init
 loop-k-init c = (omega arith, none, none, none)
@@ -39,5 +38,4 @@ shape_of-name_end c = c.loop-k.invariant.3.long
 
 pub returns : goal.returns
 returns c =
-    let e : c.loop-k.k ≡ c.args.names = omega arith in
-    let r = rw (← e) (c.loop-k.invariant.1.cells, (c.loop-k.invariant.2.cells, c.loop-k.invariant.3.cells)) in record { name_node_after = r.0; name_span_after = r.1.0; name_end_after = r.1.1; }
+    let e : c.loop-k.k ≡ c.args.names = omega arith in record { name_node_after = rw (← e) c.loop-k.invariant.1.cells; name_span_after = rw (← e) c.loop-k.invariant.2.cells; name_end_after = rw (← e) c.loop-k.invariant.3.cells; }

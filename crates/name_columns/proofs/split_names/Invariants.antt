@@ -10,6 +10,9 @@ use Rattle.cfg_steps.specs.Columns.{node_of_name, name_item}
 use Rattle.node_columns.proofs.Written.{Written, none, still, turn}
 use Rattle.name_columns.proofs.split_names.Given as goal
 
+abbrev pub span : List ℕ → ℕ → ℕ
+span ss w = get_or ss (name_item w) 0
+
 abbrev pub invariant-loop-k : goal.invariant-loop-k
 invariant-loop-k l = (l.k ≤ l.names) × Written node_of_name l.k l.initial.name_node l.initial.name_node l.name_node × Written (span l.spans) l.k l.initial.name_node l.initial.name_span l.name_span × Written hi l.k l.initial.name_node l.initial.name_end l.name_end
 
