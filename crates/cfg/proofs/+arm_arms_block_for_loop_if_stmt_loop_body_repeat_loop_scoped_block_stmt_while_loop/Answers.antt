@@ -25,34 +25,34 @@ use Rattle.cfg.proofs.+arm_arms_block_for_loop_if_stmt_loop_body_repeat_loop_sco
 -- ---- arm
 
 pub arm-bounds-kinds-at : goal.arm-bounds-kinds-at
-arm-bounds-kinds-at t c = c.requires.test_lt_nodes.0.2
+arm-bounds-kinds-at t c = c.requires.at_arm.2
 
 pub arm-arm_test-h-requires : goal.arm-arm_test-h-requires
-arm-arm_test-h-requires t c = record { by_index = (_, _, (good_item (c.args.s.builder.item + 1) (omega arith) (omega arith) c.requires.test_lt_nodes.0.1)); nodes_bound = (omega (arith, elseif_room c.args.kinds.now c.args.kinds.now refl c.args.s.builder c.requires.test_lt_nodes.0.2 c.requires.test_lt_nodes.0.4 c.if-w-eq-ELSEIF.true), omega arith, omega arith, c.requires.test_lt_nodes.1.0); }
+arm-arm_test-h-requires t c = record { by_index = (_, _, (good_item (c.args.s.builder.item + 1) (omega arith) (omega arith) c.requires.at_arm.1)); nodes_bound = (omega (arith, elseif_room c.args.kinds.now c.args.kinds.now refl c.args.s.builder c.requires.at_arm.2 c.requires.at_arm.4 c.if-w-eq-ELSEIF.true), omega arith, omega arith, c.requires.test_lt_nodes.0); }
 
 pub arm-scoped_block-b-requires : goal.arm-scoped_block-b-requires
 arm-scoped_block-b-requires t c =
-    let hd = c.arm_test-h.ensures c.args.kinds.now _ _ (good_item (c.args.s.builder.item + 1) (omega arith) (omega arith) c.requires.test_lt_nodes.0.1) (code_starts _ 6 c.if-w-eq-ELSEIF.true (lit≤ tt)) in
-    (omega (arith, hd.item), (c.requires.test_lt_nodes.0.0, hd.good, omega (arith, hd.item), at_item c.args.kinds.now c.arm_test-h.result (c.args.s.builder.item + 1) hd.item (λ ss e. omega (arith, elseif_room c.args.kinds.now ss e c.args.s.builder c.requires.test_lt_nodes.0.2 c.requires.test_lt_nodes.0.4 c.if-w-eq-ELSEIF.true, hd.nodes)), c.requires.test_lt_nodes.0.0.scopes _ c.requires.test_lt_nodes.0.2 (omega arith) (omega arith)))
+    let hd = c.arm_test-h.ensures c.args.kinds.now _ _ (good_item (c.args.s.builder.item + 1) (omega arith) (omega arith) c.requires.at_arm.1) (code_starts _ 6 c.if-w-eq-ELSEIF.true (lit≤ tt)) in
+    (omega (arith, hd.item), (c.requires.at_arm.0, hd.good, omega (arith, hd.item), at_item c.args.kinds.now c.arm_test-h.result (c.args.s.builder.item + 1) hd.item (λ ss e. omega (arith, elseif_room c.args.kinds.now ss e c.args.s.builder c.requires.at_arm.2 c.requires.at_arm.4 c.if-w-eq-ELSEIF.true, hd.nodes)), c.requires.at_arm.0.scopes _ c.requires.at_arm.2 (omega arith) (omega arith)))
 
 pub arm-close_into-c-requires : goal.arm-close_into-c-requires
 arm-close_into-c-requires t c =
-    let hd = c.arm_test-h.ensures c.args.kinds.now _ _ (good_item (c.args.s.builder.item + 1) (omega arith) (omega arith) c.requires.test_lt_nodes.0.1) (code_starts _ 6 c.if-w-eq-ELSEIF.true (lit≤ tt)) in
+    let hd = c.arm_test-h.ensures c.args.kinds.now _ _ (good_item (c.args.s.builder.item + 1) (omega arith) (omega arith) c.requires.at_arm.1) (code_starts _ 6 c.if-w-eq-ELSEIF.true (lit≤ tt)) in
     let s = (c.scoped_block-b.ensures c.args.kinds.now refl).moved in
     record { standing = stands s.good; target_lt_nodes = omega (arith, s.grown.nodes, hd.nodes); }
 
 pub arm-returns-then-w-eq-ELSEIF : goal.arm-returns-then-w-eq-ELSEIF
 arm-returns-then-w-eq-ELSEIF t c =
-    let hd = c.arm_test-h.ensures c.args.kinds.now _ _ (good_item (c.args.s.builder.item + 1) (omega arith) (omega arith) c.requires.test_lt_nodes.0.1) (code_starts _ 6 c.if-w-eq-ELSEIF.true (lit≤ tt)) in
+    let hd = c.arm_test-h.ensures c.args.kinds.now _ _ (good_item (c.args.s.builder.item + 1) (omega arith) (omega arith) c.requires.at_arm.1) (code_starts _ 6 c.if-w-eq-ELSEIF.true (lit≤ tt)) in
     let sc = c.scoped_block-b.ensures c.args.kinds.now refl in
     let cl = c.close_into-c.ensures c.args.kinds.now _ _ _ sc.moved.good in
-    rw c.past_elseif.ensures (omega (arith, hd.item, sc.moved.forward, cl.item), λ ss e. elseif_built c.args.kinds.now ss e c.requires.test_lt_nodes.0.0.few c.requires.test_lt_nodes.0.1 c.requires.test_lt_nodes.0.2 _ _ _ _ c.if-w-eq-ELSEIF.true refl c.requires.test_lt_nodes.0.4 hd (c.scoped_block-b.ensures ss e) cl)
+    rw c.past_elseif.ensures (omega (arith, hd.item, sc.moved.forward, cl.item), λ ss e. elseif_built c.args.kinds.now ss e c.requires.at_arm.0.few c.requires.at_arm.1 c.requires.at_arm.2 _ _ _ _ c.if-w-eq-ELSEIF.true refl c.requires.at_arm.4 hd (c.scoped_block-b.ensures ss e) cl)
 
 pub arm-scoped_block-b-requires-2 : goal.arm-scoped_block-b-requires-2
 arm-scoped_block-b-requires-2 t c =
-    let k = arm_else _ c.requires.test_lt_nodes.0.3 c.if-w-eq-ELSEIF.false in
-    let hd = move_did c.args.kinds.now _ _ _ _ _ (good_item (c.args.s.builder.item + 1) (omega arith) (omega arith) c.requires.test_lt_nodes.0.1) _ (inl c.requires.test_lt_nodes.1.0) in
-    (omega arith, (c.requires.test_lt_nodes.0.0, hd.good, omega arith, at_item c.args.kinds.now (with_cursor c.args.s.test (with_item (c.args.s.builder.item + 1) c.args.s.builder)) (c.args.s.builder.item + 1) refl (λ ss e. omega (arith, else_room c.args.kinds.now ss e c.args.s.builder c.requires.test_lt_nodes.0.2 c.requires.test_lt_nodes.0.4 k)), c.requires.test_lt_nodes.0.0.scopes _ c.requires.test_lt_nodes.0.2 (omega (arith, k)) (omega (arith, k))))
+    let k = arm_else _ c.requires.at_arm.3 c.if-w-eq-ELSEIF.false in
+    let hd = move_did c.args.kinds.now _ _ _ _ _ (good_item (c.args.s.builder.item + 1) (omega arith) (omega arith) c.requires.at_arm.1) _ (inl c.requires.test_lt_nodes.0) in
+    (omega arith, (c.requires.at_arm.0, hd.good, omega arith, at_item c.args.kinds.now (with_cursor c.args.s.test (with_item (c.args.s.builder.item + 1) c.args.s.builder)) (c.args.s.builder.item + 1) refl (λ ss e. omega (arith, else_room c.args.kinds.now ss e c.args.s.builder c.requires.at_arm.2 c.requires.at_arm.4 k)), c.requires.at_arm.0.scopes _ c.requires.at_arm.2 (omega (arith, k)) (omega (arith, k))))
 
 pub arm-close_into-c-requires-2 : goal.arm-close_into-c-requires-2
 arm-close_into-c-requires-2 t c =
@@ -61,22 +61,22 @@ arm-close_into-c-requires-2 t c =
 
 pub arm-returns : goal.arm-returns
 arm-returns t c =
-    let hd = move_did c.args.kinds.now _ _ _ _ _ (good_item (c.args.s.builder.item + 1) (omega arith) (omega arith) c.requires.test_lt_nodes.0.1) _ (inl c.requires.test_lt_nodes.1.0) in
+    let hd = move_did c.args.kinds.now _ _ _ _ _ (good_item (c.args.s.builder.item + 1) (omega arith) (omega arith) c.requires.at_arm.1) _ (inl c.requires.test_lt_nodes.0) in
     let sc = c.scoped_block-b-2.ensures c.args.kinds.now refl in
     let cl = c.close_into-c-2.ensures c.args.kinds.now _ _ _ sc.moved.good in
-    rw c.past_else.ensures (omega (arith, hd.item, sc.moved.forward, cl.item), λ ss e. else_built c.args.kinds.now ss e c.requires.test_lt_nodes.0.0.few c.requires.test_lt_nodes.0.1 c.requires.test_lt_nodes.0.2 _ _ _ _ (arm_else _ c.requires.test_lt_nodes.0.3 c.if-w-eq-ELSEIF.false) refl c.requires.test_lt_nodes.1.0 c.requires.test_lt_nodes.0.4 hd (c.scoped_block-b-2.ensures ss e) cl)
+    rw c.past_else.ensures (omega (arith, hd.item, sc.moved.forward, cl.item), λ ss e. else_built c.args.kinds.now ss e c.requires.at_arm.0.few c.requires.at_arm.1 c.requires.at_arm.2 _ _ _ _ (arm_else _ c.requires.at_arm.3 c.if-w-eq-ELSEIF.false) refl c.requires.test_lt_nodes.0 c.requires.at_arm.4 hd (c.scoped_block-b-2.ensures ss e) cl)
 
 -- ---- arms
 
 pub arms-loop-at-init : goal.arms-loop-at-init
-arms-loop-at-init t c = (refl, λ ss e. armed_none c.requires.test_lt_nodes.0.1 c.requires.test_lt_nodes.0.2 c.requires.test_lt_nodes.0.3 c.requires.test_lt_nodes.1.0 (c.requires.test_lt_nodes.0.4 ss e))
+arms-loop-at-init t c = (refl, λ ss e. armed_none c.requires.at_end.1 c.requires.at_end.2 c.requires.at_end.3 c.requires.test_lt_nodes.0 (c.requires.at_end.4 ss e))
 
 pub arms-arm-s-requires : goal.arms-arm-s-requires
 arms-arm-s-requires t c =
     let g = c.loop-at.invariant.1 c.args.kinds.now refl in
     let a : c.loop-at.at ≡ c.loop-at.s.builder.item = c.loop-at.invariant.0 in
     let f = c.arm_follows.ensures.0 c.loop-at-test.true in
-    record { at_arm = omega (arith, g.moved.forward, f.0); test_lt_nodes = ((c.requires.test_lt_nodes.0.0, g.moved.good, omega (arith, f.0), rw (← a) f.1, λ ss e. (c.loop-at.invariant.1 ss e).room), (g.tested, omega (arith, g.moved.grown.nodes))); }
+    (omega (arith, g.moved.forward, f.0), ((c.requires.at_end.0, g.moved.good, omega (arith, f.0), rw (← a) f.1, λ ss e. (c.loop-at.invariant.1 ss e).room), (g.tested, omega (arith, g.moved.grown.nodes))))
 
 pub arms-loop-at-smaller : goal.arms-loop-at-smaller
 arms-loop-at-smaller t c = omega (arith, (c.arm_follows.ensures.0 c.loop-at-test.true).0)
@@ -101,12 +101,12 @@ arms-returns t c =
     let unfollowed = subst (λ (i : ℕ). i < length ks → Arm (kind_of (get_or ks i 0)) → ⊥) a (c.arm_follows.ensures.1 c.loop-at-test.false) in
     let next = subst (λ (i : ℕ). i < length ks → c.past.result ≡ i + 1) a c.past.ensures.2 in
     let over = subst (λ (i : ℕ). length ks ≤ i → c.past.result ≡ i) a c.past.ensures.3 in
-    armed_chosen g (chosen_last ks ss e c.requires.test_lt_nodes.0.0.few _ _ _ c.past.result g.moved.good g.moved.within g.ended unfollowed next over (c.arms_end.ensures ks _ _ _ (good_item c.past.result (omega arith) (omega arith) g.moved.good)))
+    armed_chosen g (chosen_last ks ss e c.requires.at_end.0.few _ _ _ c.past.result g.moved.good g.moved.within g.ended unfollowed next over (c.arms_end.ensures ks _ _ _ (good_item c.past.result (omega arith) (omega arith) g.moved.good)))
 
 -- ---- block
 
 pub block-loop-at-init : goal.block-loop-at-init
-block-loop-at-init t c = (refl, λ ss e. going_none c.requires.1.1 c.requires.1.2 (c.requires.1.3 ss e))
+block-loop-at-init t c = (refl, λ ss e. going_none c.requires.1 c.requires.2 (c.requires.3 ss e))
 
 pub block-returns-then-ends_at : goal.block-returns-then-ends_at
 block-returns-then-ends_at t c =
@@ -117,7 +117,7 @@ block-returns-then-ends_at t c =
     going_ended g (ender_done c.args.kinds.now ss e _ (omega arith) n) (λ h. n)
 
 pub block-stmt-t-requires : goal.block-stmt-t-requires
-block-stmt-t-requires t c = let g = c.loop-at.invariant.1 c.args.kinds.now refl in let a : c.loop-at.at ≡ c.loop-at.t.item = c.loop-at.invariant.0 in (omega (arith, g.moved.forward), (c.requires.1.0, g.moved.good, omega arith, rw (← a) (ends_not _ (sym c.ends_at.ensures ∙ c.if-ends_at.false)), λ ss e. going_room (c.loop-at.invariant.1 ss e)))
+block-stmt-t-requires t c = let g = c.loop-at.invariant.1 c.args.kinds.now refl in let a : c.loop-at.at ≡ c.loop-at.t.item = c.loop-at.invariant.0 in (omega (arith, g.moved.forward), (c.requires.0, g.moved.good, omega arith, rw (← a) (ends_not _ (sym c.ends_at.ensures ∙ c.if-ends_at.false)), λ ss e. going_room (c.loop-at.invariant.1 ss e)))
 
 pub block-loop-at-smaller : goal.block-loop-at-smaller
 block-loop-at-smaller t c = omega (arith, (c.stmt-t.ensures c.args.kinds.now refl).on)
@@ -131,68 +131,72 @@ block-returns t c = λ ss e. let g = c.loop-at.invariant.1 ss e in let a : c.loo
 -- ---- for_loop
 
 pub for_loop-bounds-kinds-i : goal.for_loop-bounds-kinds-i
-for_loop-bounds-kinds-i t c = c.requires.1.4
+for_loop-bounds-kinds-i t c = c.requires.4
 
 pub for_loop-for_head-h-requires : goal.for_loop-for_head-h-requires
-for_loop-for_head-h-requires t c = ((_, _, c.requires.1.1), (omega (arith, for_room c.args.kinds.now c.args.kinds.now refl c.args.i c.requires.1.4 c.args.b c.requires.1.6 c.requires.1.5), c.requires.1.3, omega arith))
+for_loop-for_head-h-requires t c = record { by_index = (_, _, c.requires.1); nodes_bound = (omega (arith, for_room c.args.kinds.now c.args.kinds.now refl c.args.i c.requires.4 c.args.b c.requires.6 c.requires.5), c.requires.3, omega arith); }
 
 pub for_loop-loop_body-s-requires : goal.for_loop-loop_body-s-requires
 for_loop-loop_body-s-requires t c =
-    let hd = c.for_head-h.ensures c.args.kinds.now _ _ c.requires.1.1 (code_starts _ 4 c.requires.1.5 (lit≤ tt)) in
-    record { sane = omega (arith, hd.item); break_target_lt_nodes = (
-        (c.requires.1.0, hd.good, omega (arith, hd.item), at_item c.args.kinds.now c.for_head-h.result (c.args.i + 1) (hd.item ∙ c.requires.1.2) (λ ss e. omega (arith, for_room c.args.kinds.now ss e c.args.i c.requires.1.4 c.args.b c.requires.1.6 c.requires.1.5, hd.nodes)), c.requires.1.0.scopes _ c.requires.1.4 (omega arith) (omega arith)),
+    let hd = c.for_head-h.ensures c.args.kinds.now _ _ c.requires.1 (code_starts _ 4 c.requires.5 (lit≤ tt)) in (
+      omega (arith, hd.item),
+      (
+        (c.requires.0, hd.good, omega (arith, hd.item), at_item c.args.kinds.now c.for_head-h.result (c.args.i + 1) (hd.item ∙ c.requires.2) (λ ss e. omega (arith, for_room c.args.kinds.now ss e c.args.i c.requires.4 c.args.b c.requires.6 c.requires.5, hd.nodes)), c.requires.0.scopes _ c.requires.4 (omega arith) (omega arith)),
         (omega (arith, hd.nodes), omega (arith, hd.nodes)),
-      ); }
+      ),
+    )
 
 pub for_loop-past-requires : goal.for_loop-past-requires
 for_loop-past-requires t c = (c.loop_body-s.ensures c.args.kinds.now refl).moved.within
 
 pub for_loop-loop_end-requires : goal.for_loop-loop_end-requires
-for_loop-loop_end-requires t c = record { by_index = (_, _, _, good_item c.past.result c.past.ensures.0 (omega arith) (c.loop_body-s.ensures c.args.kinds.now refl).moved.good); head_bound = omega (arith, (c.for_head-h.ensures c.args.kinds.now _ _ c.requires.1.1 (code_starts _ 4 c.requires.1.5 (lit≤ tt))).nodes, (c.loop_body-s.ensures c.args.kinds.now refl).moved.grown.nodes); }
+for_loop-loop_end-requires t c = record { by_index = (_, _, _, good_item c.past.result c.past.ensures.0 (omega arith) (c.loop_body-s.ensures c.args.kinds.now refl).moved.good); head_bound = omega (arith, (c.for_head-h.ensures c.args.kinds.now _ _ c.requires.1 (code_starts _ 4 c.requires.5 (lit≤ tt))).nodes, (c.loop_body-s.ensures c.args.kinds.now refl).moved.grown.nodes); }
 
 pub for_loop-returns : goal.for_loop-returns
-for_loop-returns t c = λ ss e. for_opened c.args.kinds.now ss e c.requires.1.0.few c.args.i c.requires.1.4 _ _ c.requires.1.5 refl c.requires.1.2 c.requires.1.1 (c.requires.1.0.tidy ss e _ c.requires.1.4 (omega arith) (omega arith)) (c.for_head-h.ensures c.args.kinds.now _ _ c.requires.1.1 (code_starts _ 4 c.requires.1.5 (lit≤ tt))) (c.loop_body-s.ensures ss e) c.past.ensures.2 c.past.ensures.3 c.past.ensures.1 c.past.ensures.0 (c.loop_end.ensures c.args.kinds.now _ _ _ (good_item c.past.result c.past.ensures.0 (omega arith) (c.loop_body-s.ensures c.args.kinds.now refl).moved.good))
+for_loop-returns t c = λ ss e. for_opened c.args.kinds.now ss e c.requires.0.few c.args.i c.requires.4 _ _ c.requires.5 refl c.requires.2 c.requires.1 (c.requires.0.tidy ss e _ c.requires.4 (omega arith) (omega arith)) (c.for_head-h.ensures c.args.kinds.now _ _ c.requires.1 (code_starts _ 4 c.requires.5 (lit≤ tt))) (c.loop_body-s.ensures ss e) c.past.ensures.2 c.past.ensures.3 c.past.ensures.1 c.past.ensures.0 (c.loop_end.ensures c.args.kinds.now _ _ _ (good_item c.past.result c.past.ensures.0 (omega arith) (c.loop_body-s.ensures c.args.kinds.now refl).moved.good))
 
 -- ---- if_stmt
 
 pub if_stmt-bounds-kinds-i : goal.if_stmt-bounds-kinds-i
-if_stmt-bounds-kinds-i t c = c.requires.1.4
+if_stmt-bounds-kinds-i t c = c.requires.4
 
 pub if_stmt-code_and_after-h-requires : goal.if_stmt-code_and_after-h-requires
-if_stmt-code_and_after-h-requires t c = record { by_index = (_, _, c.requires.1.1); nodes_bound = (omega (arith, if_room c.args.kinds.now c.args.kinds.now refl c.args.i c.requires.1.4 c.args.b c.requires.1.6 c.requires.1.5), c.requires.1.3, omega arith); }
+if_stmt-code_and_after-h-requires t c = record { by_index = (_, _, c.requires.1); nodes_bound = (omega (arith, if_room c.args.kinds.now c.args.kinds.now refl c.args.i c.requires.4 c.args.b c.requires.6 c.requires.5), c.requires.3, omega arith); }
 
 pub if_stmt-scoped_block-s-requires : goal.if_stmt-scoped_block-s-requires
 if_stmt-scoped_block-s-requires t c =
-    let hd = c.code_and_after-h.ensures c.args.kinds.now _ _ c.requires.1.1 (code_starts _ 5 c.requires.1.5 (lit≤ tt)) in
-    (omega (arith, hd.item), (c.requires.1.0, hd.good, omega (arith, hd.item), at_item c.args.kinds.now c.code_and_after-h.result (c.args.i + 1) (hd.item ∙ c.requires.1.2) (λ ss e. omega (arith, if_room c.args.kinds.now ss e c.args.i c.requires.1.4 c.args.b c.requires.1.6 c.requires.1.5, hd.nodes)), c.requires.1.0.scopes _ c.requires.1.4 (omega arith) (omega arith)))
+    let hd = c.code_and_after-h.ensures c.args.kinds.now _ _ c.requires.1 (code_starts _ 5 c.requires.5 (lit≤ tt)) in
+    (omega (arith, hd.item), (c.requires.0, hd.good, omega (arith, hd.item), at_item c.args.kinds.now c.code_and_after-h.result (c.args.i + 1) (hd.item ∙ c.requires.2) (λ ss e. omega (arith, if_room c.args.kinds.now ss e c.args.i c.requires.4 c.args.b c.requires.6 c.requires.5, hd.nodes)), c.requires.0.scopes _ c.requires.4 (omega arith) (omega arith)))
 
 pub if_stmt-close_into-c-requires : goal.if_stmt-close_into-c-requires
 if_stmt-close_into-c-requires t c =
     let s = (c.scoped_block-s.ensures c.args.kinds.now refl).moved in
-    record { standing = stands s.good; target_lt_nodes = omega (arith, s.grown.nodes, (c.code_and_after-h.ensures c.args.kinds.now _ _ c.requires.1.1 (code_starts _ 5 c.requires.1.5 (lit≤ tt))).nodes); }
+    record { standing = stands s.good; target_lt_nodes = omega (arith, s.grown.nodes, (c.code_and_after-h.ensures c.args.kinds.now _ _ c.requires.1 (code_starts _ 5 c.requires.5 (lit≤ tt))).nodes); }
 
 pub if_stmt-arms-r-requires : goal.if_stmt-arms-r-requires
 if_stmt-arms-r-requires t c =
-    let hd = c.code_and_after-h.ensures c.args.kinds.now _ _ c.requires.1.1 (code_starts _ 5 c.requires.1.5 (lit≤ tt)) in
+    let hd = c.code_and_after-h.ensures c.args.kinds.now _ _ c.requires.1 (code_starts _ 5 c.requires.5 (lit≤ tt)) in
     let sc = c.scoped_block-s.ensures c.args.kinds.now refl in
-    let cl = c.close_into-c.ensures c.args.kinds.now _ _ _ (c.scoped_block-s.ensures c.args.kinds.now refl).moved.good in
-    record { at_end = omega (arith, hd.item, sc.moved.forward, cl.item); test_lt_nodes = (
-        (c.requires.1.0, cl.good, omega (arith, cl.item, sc.moved.within), ended_on c.args.kinds.now c.scoped_block-s.result c.close_into-c.result cl.item sc.ended, λ ss e. arms_left (c.args.i + 1) c.close_into-c.result hd.good (hd.item ∙ c.requires.1.2) (c.scoped_block-s.ensures ss e) cl.item cl.nodes (omega (arith, if_room c.args.kinds.now ss e c.args.i c.requires.1.4 c.args.b c.requires.1.6 c.requires.1.5, hd.nodes))),
+    let cl = c.close_into-c.ensures c.args.kinds.now _ _ _ (c.scoped_block-s.ensures c.args.kinds.now refl).moved.good in (
+      omega (arith, hd.item, sc.moved.forward, cl.item),
+      (
+        (c.requires.0, cl.good, omega (arith, cl.item, sc.moved.within), ended_on c.args.kinds.now c.scoped_block-s.result c.close_into-c.result cl.item sc.ended, λ ss e. arms_left (c.args.i + 1) c.close_into-c.result hd.good (hd.item ∙ c.requires.2) (c.scoped_block-s.ensures ss e) cl.item cl.nodes (omega (arith, if_room c.args.kinds.now ss e c.args.i c.requires.4 c.args.b c.requires.6 c.requires.5, hd.nodes))),
         (omega (arith, hd.nodes, sc.moved.grown.nodes, cl.nodes), omega (arith, hd.nodes, sc.moved.grown.nodes, cl.nodes)),
-      ); }
+      ),
+    )
 
 pub if_stmt-returns : goal.if_stmt-returns
 if_stmt-returns t c =
     λ ss e.
-    let hd = c.code_and_after-h.ensures c.args.kinds.now _ _ c.requires.1.1 (code_starts _ 5 c.requires.1.5 (lit≤ tt)) in
+    let hd = c.code_and_after-h.ensures c.args.kinds.now _ _ c.requires.1 (code_starts _ 5 c.requires.5 (lit≤ tt)) in
     let cl = c.close_into-c.ensures c.args.kinds.now _ _ _ (c.scoped_block-s.ensures c.args.kinds.now refl).moved.good in
     let ch = c.arms-r.ensures ss e in
-    if_opened c.args.kinds.now ss e c.requires.1.0.few c.args.i c.requires.1.4 _ c.requires.1.5 refl c.requires.1.2 c.requires.1.1 hd (c.scoped_block-s.ensures ss e) cl ch (good_cursor _ (omega (arith, hd.nodes, (c.scoped_block-s.ensures c.args.kinds.now refl).moved.grown.nodes, cl.nodes, ch.moved.grown.nodes)) ch.moved.good)
+    if_opened c.args.kinds.now ss e c.requires.0.few c.args.i c.requires.4 _ c.requires.5 refl c.requires.2 c.requires.1 hd (c.scoped_block-s.ensures ss e) cl ch (good_cursor _ (omega (arith, hd.nodes, (c.scoped_block-s.ensures c.args.kinds.now refl).moved.grown.nodes, cl.nodes, ch.moved.grown.nodes)) ch.moved.good)
 
 -- ---- loop_body
 
 pub loop_body-scoped_block-s-requires : goal.loop_body-scoped_block-s-requires
-loop_body-scoped_block-s-requires t c = let s = good_loop c.args.break_target c.args.continue_target c.enter_loop-t.ensures c.requires.break_target_lt_nodes.1.0 c.requires.break_target_lt_nodes.1.1 c.requires.break_target_lt_nodes.0.1 in rw c.enter_loop-t.ensures (omega arith, (c.requires.break_target_lt_nodes.0.0, rw (sym c.enter_loop-t.ensures) s, c.requires.break_target_lt_nodes.0.2, c.requires.break_target_lt_nodes.0.3, c.requires.break_target_lt_nodes.0.4))
+loop_body-scoped_block-s-requires t c = let s = good_loop c.args.break_target c.args.continue_target c.enter_loop-t.ensures c.requires.break_target_lt_nodes.0 c.requires.break_target_lt_nodes.1 c.requires.sane.1 in rw c.enter_loop-t.ensures (omega arith, (c.requires.sane.0, rw (sym c.enter_loop-t.ensures) s, c.requires.sane.2, c.requires.sane.3, c.requires.sane.4))
 
 pub loop_body-close_into-r-requires : goal.loop_body-close_into-r-requires
 loop_body-close_into-r-requires t c =
@@ -200,115 +204,119 @@ loop_body-close_into-r-requires t c =
     record { standing = stands s.good; target_lt_nodes = omega (arith, s.grown.nodes, ap (λ (w : GraphBuilder). w.nodes) c.enter_loop-t.ensures); }
 
 pub loop_body-returns : goal.loop_body-returns
-loop_body-returns t c = λ ss e. let s = c.scoped_block-s.ensures ss e in looped _ ss c.requires.break_target_lt_nodes.0.1 c.args.scope_end c.args.break_target c.args.continue_target _ _ _ _ (scoped_loop _ ss c.args.b c.args.scope_end c.args.break_target c.args.continue_target c.enter_loop-t.ensures s) (c.close_into-r.ensures _ _ _ _ s.moved.good) c.return_to.ensures
+loop_body-returns t c = λ ss e. let s = c.scoped_block-s.ensures ss e in looped _ ss c.requires.sane.1 c.args.scope_end c.args.break_target c.args.continue_target _ _ _ _ (scoped_loop _ ss c.args.b c.args.scope_end c.args.break_target c.args.continue_target c.enter_loop-t.ensures s) (c.close_into-r.ensures _ _ _ _ s.moved.good) c.return_to.ensures
 
 -- ---- repeat_loop
 
 pub repeat_loop-bounds-kinds-i : goal.repeat_loop-bounds-kinds-i
-repeat_loop-bounds-kinds-i t c = c.requires.1.4
+repeat_loop-bounds-kinds-i t c = c.requires.4
 
 pub repeat_loop-repeat_head-h-requires : goal.repeat_loop-repeat_head-h-requires
-repeat_loop-repeat_head-h-requires t c = record { by_index = (_, _, _, c.requires.1.1); nodes_bound = omega (arith, repeat_room c.args.kinds.now c.args.kinds.now refl c.args.i c.requires.1.4 c.args.b c.requires.1.6 c.requires.1.5); }
+repeat_loop-repeat_head-h-requires t c = record { by_index = (_, _, _, c.requires.1); nodes_bound = omega (arith, repeat_room c.args.kinds.now c.args.kinds.now refl c.args.i c.requires.4 c.args.b c.requires.6 c.requires.5); }
 
 pub repeat_loop-loop_body-s-requires : goal.repeat_loop-loop_body-s-requires
 repeat_loop-loop_body-s-requires t c =
-    let hd = c.repeat_head-h.ensures c.args.kinds.now _ _ _ c.requires.1.1 in
-    record { sane = omega (arith, hd.item); break_target_lt_nodes = (
-        (c.requires.1.0, hd.good, omega (arith, hd.item), at_item c.args.kinds.now c.repeat_head-h.result (c.args.i + 1) (hd.item ∙ c.requires.1.2) (λ ss e. omega (arith, repeat_room c.args.kinds.now ss e c.args.i c.requires.1.4 c.args.b c.requires.1.6 c.requires.1.5, hd.nodes)), c.requires.1.0.scopes _ c.requires.1.4 (omega arith) (omega arith)),
+    let hd = c.repeat_head-h.ensures c.args.kinds.now _ _ _ c.requires.1 in (
+      omega (arith, hd.item),
+      (
+        (c.requires.0, hd.good, omega (arith, hd.item), at_item c.args.kinds.now c.repeat_head-h.result (c.args.i + 1) (hd.item ∙ c.requires.2) (λ ss e. omega (arith, repeat_room c.args.kinds.now ss e c.args.i c.requires.4 c.args.b c.requires.6 c.requires.5, hd.nodes)), c.requires.0.scopes _ c.requires.4 (omega arith) (omega arith)),
         rw c.repeat_targets-targets.ensures (omega (arith, hd.nodes), omega (arith, hd.nodes)),
-      ); }
+      ),
+    )
 
 pub repeat_loop-past-requires : goal.repeat_loop-past-requires
 repeat_loop-past-requires t c = (c.loop_body-s.ensures c.args.kinds.now refl).moved.within
 
 pub repeat_loop-repeat_end-requires : goal.repeat_loop-repeat_end-requires
 repeat_loop-repeat_end-requires t c =
-    let ca = closed_at c.args.kinds.now c.args.kinds.now refl c.loop_body-s.result.item (open_at c.args.kinds.now c.args.kinds.now (c.args.i + 1)) (c.loop_body-s.ensures c.args.kinds.now refl).ended ((c.loop_body-s.ensures c.args.kinds.now refl).shut ∙ ap (λ j. bare (open_at c.args.kinds.now c.args.kinds.now j)) ((c.repeat_head-h.ensures c.args.kinds.now _ _ _ c.requires.1.1).item ∙ c.requires.1.2)) (c.requires.1.0.tidy c.args.kinds.now refl _ c.requires.1.4 (omega arith) (omega arith)) (c.requires.1.0.closed c.args.kinds.now refl _ c.requires.1.4 c.requires.1.5) in
+    let ca = closed_at c.args.kinds.now c.args.kinds.now refl c.loop_body-s.result.item (open_at c.args.kinds.now c.args.kinds.now (c.args.i + 1)) (c.loop_body-s.ensures c.args.kinds.now refl).ended ((c.loop_body-s.ensures c.args.kinds.now refl).shut ∙ ap (λ j. bare (open_at c.args.kinds.now c.args.kinds.now j)) ((c.repeat_head-h.ensures c.args.kinds.now _ _ _ c.requires.1).item ∙ c.requires.2)) (c.requires.0.tidy c.args.kinds.now refl _ c.requires.4 (omega arith) (omega arith)) (c.requires.0.closed c.args.kinds.now refl _ c.requires.4 c.requires.5) in
     let bd = (c.loop_body-s.ensures c.args.kinds.now refl).moved in
-    record { by_index = (_, _, good_item c.past.result c.past.ensures.0 (omega arith) (c.loop_body-s.ensures c.args.kinds.now refl).moved.good); body_bound = (omega (arith, (c.repeat_head-h.ensures c.args.kinds.now _ _ _ c.requires.1.1).nodes, bd.grown.nodes), omega (arith, bd.good.codes, c.past.ensures.2 ca.0), omega (arith, c.past.ensures.2 ca.0)); }
+    record { by_index = (_, _, good_item c.past.result c.past.ensures.0 (omega arith) (c.loop_body-s.ensures c.args.kinds.now refl).moved.good); body_bound = (omega (arith, (c.repeat_head-h.ensures c.args.kinds.now _ _ _ c.requires.1).nodes, bd.grown.nodes), omega (arith, bd.good.codes, c.past.ensures.2 ca.0), omega (arith, c.past.ensures.2 ca.0)); }
 
 pub repeat_loop-returns : goal.repeat_loop-returns
 repeat_loop-returns t c =
     λ ss e.
-    let ca = closed_at c.args.kinds.now ss e c.loop_body-s.result.item (open_at c.args.kinds.now ss (c.args.i + 1)) (c.loop_body-s.ensures ss e).ended ((c.loop_body-s.ensures ss e).shut ∙ ap (λ j. bare (open_at c.args.kinds.now ss j)) ((c.repeat_head-h.ensures c.args.kinds.now _ _ _ c.requires.1.1).item ∙ c.requires.1.2)) (c.requires.1.0.tidy ss e _ c.requires.1.4 (omega arith) (omega arith)) (c.requires.1.0.closed ss e _ c.requires.1.4 c.requires.1.5) in
-    repeat_opened c.args.kinds.now ss e c.requires.1.0.few c.args.i c.requires.1.4 _ _ _ c.requires.1.5 c.literal_truth-truth.ensures refl c.requires.1.2 c.requires.1.1 (c.requires.1.0.tidy ss e _ c.requires.1.4 (omega arith) (omega arith)) (c.repeat_head-h.ensures c.args.kinds.now _ _ _ c.requires.1.1) (looped_to c.repeat_targets-targets.ensures (c.loop_body-s.ensures ss e)) c.past.ensures.2 c.past.ensures.3 c.past.ensures.1 c.past.ensures.0 ca.2 (c.repeat_end.ensures c.args.kinds.now _ _ (good_item c.past.result c.past.ensures.0 (omega arith) (c.loop_body-s.ensures c.args.kinds.now refl).moved.good) (close_starts (get_or c.args.kinds.now c.loop_body-s.result.item 0) ca.1))
+    let ca = closed_at c.args.kinds.now ss e c.loop_body-s.result.item (open_at c.args.kinds.now ss (c.args.i + 1)) (c.loop_body-s.ensures ss e).ended ((c.loop_body-s.ensures ss e).shut ∙ ap (λ j. bare (open_at c.args.kinds.now ss j)) ((c.repeat_head-h.ensures c.args.kinds.now _ _ _ c.requires.1).item ∙ c.requires.2)) (c.requires.0.tidy ss e _ c.requires.4 (omega arith) (omega arith)) (c.requires.0.closed ss e _ c.requires.4 c.requires.5) in
+    repeat_opened c.args.kinds.now ss e c.requires.0.few c.args.i c.requires.4 _ _ _ c.requires.5 c.literal_truth-truth.ensures refl c.requires.2 c.requires.1 (c.requires.0.tidy ss e _ c.requires.4 (omega arith) (omega arith)) (c.repeat_head-h.ensures c.args.kinds.now _ _ _ c.requires.1) (looped_to c.repeat_targets-targets.ensures (c.loop_body-s.ensures ss e)) c.past.ensures.2 c.past.ensures.3 c.past.ensures.1 c.past.ensures.0 ca.2 (c.repeat_end.ensures c.args.kinds.now _ _ (good_item c.past.result c.past.ensures.0 (omega arith) (c.loop_body-s.ensures c.args.kinds.now refl).moved.good) (close_starts (get_or c.args.kinds.now c.loop_body-s.result.item 0) ca.1))
 
 -- ---- scoped_block
 
 pub scoped_block-enter_block-e-requires : goal.scoped_block-enter_block-e-requires
-scoped_block-enter_block-e-requires t c = record { item_in_bounds = (rw c.enter_scope-t.ensures c.requires.1.2, c.requires.1.0.few, c.requires.1.0.labels); by_index = (_, _, good_scope c.args.scope_end c.enter_scope-t.ensures c.requires.1.4 c.requires.1.1); by_index_2 = λ ss e. rw c.enter_scope-t.ensures (omega (arith, c.requires.1.3 ss e, labels_inside (open_at c.args.kinds.now ss c.args.b.item).top.body)); }
+scoped_block-enter_block-e-requires t c = record { item_in_bounds = (rw c.enter_scope-t.ensures c.requires.2, c.requires.0.few, c.requires.0.labels); by_index = (_, _, good_scope c.args.scope_end c.enter_scope-t.ensures c.requires.4 c.requires.1); by_index_2 = λ ss e. rw c.enter_scope-t.ensures (omega (arith, c.requires.3 ss e, labels_inside (open_at c.args.kinds.now ss c.args.b.item).top.body)); }
 
 pub scoped_block-block-r-requires : goal.scoped_block-block-r-requires
-scoped_block-block-r-requires t c = let g = good_scope c.args.scope_end c.enter_scope-t.ensures c.requires.1.4 c.requires.1.1 in let n = entered_scope c.args.kinds.now c.args.kinds.now c.args.b c.args.scope_end c.enter_scope-t.ensures (c.enter_block-e.ensures c.args.kinds.now _ _ refl g) in (omega (arith, n.item), (c.requires.1.0, n.good, omega (arith, n.item), λ ss e. entered_room _ ss c.requires.1.1 c.args.scope_end (entered_scope c.args.kinds.now ss c.args.b c.args.scope_end c.enter_scope-t.ensures (c.enter_block-e.ensures ss _ _ e g)) (c.requires.1.3 ss e)))
+scoped_block-block-r-requires t c = let g = good_scope c.args.scope_end c.enter_scope-t.ensures c.requires.4 c.requires.1 in let n = entered_scope c.args.kinds.now c.args.kinds.now c.args.b c.args.scope_end c.enter_scope-t.ensures (c.enter_block-e.ensures c.args.kinds.now _ _ refl g) in (omega (arith, n.item), (c.requires.0, n.good, omega (arith, n.item), λ ss e. entered_room _ ss c.requires.1 c.args.scope_end (entered_scope c.args.kinds.now ss c.args.b c.args.scope_end c.enter_scope-t.ensures (c.enter_block-e.ensures ss _ _ e g)) (c.requires.3 ss e)))
 
 pub scoped_block-returns : goal.scoped_block-returns
-scoped_block-returns t c = λ ss e. scoped _ ss c.requires.1.1 c.args.scope_end (entered_scope c.args.kinds.now ss c.args.b c.args.scope_end c.enter_scope-t.ensures (c.enter_block-e.ensures ss _ _ e (good_scope c.args.scope_end c.enter_scope-t.ensures c.requires.1.4 c.requires.1.1))) (c.block-r.ensures ss e) c.return_to.ensures
+scoped_block-returns t c = λ ss e. scoped _ ss c.requires.1 c.args.scope_end (entered_scope c.args.kinds.now ss c.args.b c.args.scope_end c.enter_scope-t.ensures (c.enter_block-e.ensures ss _ _ e (good_scope c.args.scope_end c.enter_scope-t.ensures c.requires.4 c.requires.1))) (c.block-r.ensures ss e) c.return_to.ensures
 
 -- ---- stmt
 
 pub stmt-bounds-kinds-i : goal.stmt-bounds-kinds-i
-stmt-bounds-kinds-i t c = c.requires.1.2
+stmt-bounds-kinds-i t c = c.requires.2
 
 pub stmt-scoped_block-s-requires : goal.stmt-scoped_block-s-requires
-stmt-scoped_block-s-requires t c = (omega arith, (c.requires.1.0, good_item (c.args.b.item + 1) (omega arith) (omega arith) c.requires.1.1, omega arith, λ ss e. do_room c.args.kinds.now ss e _ c.requires.1.2 c.args.b c.requires.1.4 c.if-kind-eq-DO.true, c.requires.1.0.scopes _ c.requires.1.2 (omega arith) (omega arith)))
+stmt-scoped_block-s-requires t c = (omega arith, (c.requires.0, good_item (c.args.b.item + 1) (omega arith) (omega arith) c.requires.1, omega arith, λ ss e. do_room c.args.kinds.now ss e _ c.requires.2 c.args.b c.requires.4 c.if-kind-eq-DO.true, c.requires.0.scopes _ c.requires.2 (omega arith) (omega arith)))
 
 pub stmt-past-requires : goal.stmt-past-requires
 stmt-past-requires t c = (c.scoped_block-s.ensures c.args.kinds.now refl).moved.within
 
 pub stmt-returns-then-kind-eq-DO : goal.stmt-returns-then-kind-eq-DO
-stmt-returns-then-kind-eq-DO t c = λ ss e. do_stepped c.args.kinds.now ss e c.requires.1.0.few c.requires.1.1 c.requires.1.2 _ _ c.if-kind-eq-DO.true refl (c.requires.1.0.tidy ss e _ c.requires.1.2 (omega arith) (omega arith)) (c.scoped_block-s.ensures ss e) c.past.ensures.2 c.past.ensures.3 c.past.ensures.1 c.past.ensures.0
+stmt-returns-then-kind-eq-DO t c = λ ss e. do_stepped c.args.kinds.now ss e c.requires.0.few c.requires.1 c.requires.2 _ _ c.if-kind-eq-DO.true refl (c.requires.0.tidy ss e _ c.requires.2 (omega arith) (omega arith)) (c.scoped_block-s.ensures ss e) c.past.ensures.2 c.past.ensures.3 c.past.ensures.1 c.past.ensures.0
 
 pub stmt-while_loop-requires : goal.stmt-while_loop-requires
-stmt-while_loop-requires t c = (omega arith, (c.requires.1.0, good_item (c.args.b.item + 1) (omega arith) (omega arith) c.requires.1.1, refl, omega arith, c.requires.1.2, c.if-kind-eq-WHILE.true, c.requires.1.4))
+stmt-while_loop-requires t c = (omega arith, (c.requires.0, good_item (c.args.b.item + 1) (omega arith) (omega arith) c.requires.1, refl, omega arith, c.requires.2, c.if-kind-eq-WHILE.true, c.requires.4))
 
 pub stmt-returns-then-kind-eq-WHILE : goal.stmt-returns-then-kind-eq-WHILE
-stmt-returns-then-kind-eq-WHILE t c = λ ss e. opened_stepped c.args.kinds.now ss e c.requires.1.0.few c.requires.1.1 c.requires.1.2 (c.while_loop.ensures ss e)
+stmt-returns-then-kind-eq-WHILE t c = λ ss e. opened_stepped c.args.kinds.now ss e c.requires.0.few c.requires.1 c.requires.2 (c.while_loop.ensures ss e)
 
 pub stmt-repeat_loop-requires : goal.stmt-repeat_loop-requires
-stmt-repeat_loop-requires t c = (omega arith, (c.requires.1.0, good_item (c.args.b.item + 1) (omega arith) (omega arith) c.requires.1.1, refl, omega arith, c.requires.1.2, c.if-kind-eq-REPEAT.true, c.requires.1.4))
+stmt-repeat_loop-requires t c = (omega arith, (c.requires.0, good_item (c.args.b.item + 1) (omega arith) (omega arith) c.requires.1, refl, omega arith, c.requires.2, c.if-kind-eq-REPEAT.true, c.requires.4))
 
 pub stmt-returns-then-kind-eq-REPEAT : goal.stmt-returns-then-kind-eq-REPEAT
-stmt-returns-then-kind-eq-REPEAT t c = λ ss e. opened_stepped c.args.kinds.now ss e c.requires.1.0.few c.requires.1.1 c.requires.1.2 (c.repeat_loop.ensures ss e)
+stmt-returns-then-kind-eq-REPEAT t c = λ ss e. opened_stepped c.args.kinds.now ss e c.requires.0.few c.requires.1 c.requires.2 (c.repeat_loop.ensures ss e)
 
 pub stmt-for_loop-requires : goal.stmt-for_loop-requires
-stmt-for_loop-requires t c = (omega arith, (c.requires.1.0, good_item (c.args.b.item + 1) (omega arith) (omega arith) c.requires.1.1, refl, omega arith, c.requires.1.2, c.if-kind-eq-FOR.true, c.requires.1.4))
+stmt-for_loop-requires t c = (omega arith, (c.requires.0, good_item (c.args.b.item + 1) (omega arith) (omega arith) c.requires.1, refl, omega arith, c.requires.2, c.if-kind-eq-FOR.true, c.requires.4))
 
 pub stmt-returns-then-kind-eq-FOR : goal.stmt-returns-then-kind-eq-FOR
-stmt-returns-then-kind-eq-FOR t c = λ ss e. opened_stepped c.args.kinds.now ss e c.requires.1.0.few c.requires.1.1 c.requires.1.2 (c.for_loop.ensures ss e)
+stmt-returns-then-kind-eq-FOR t c = λ ss e. opened_stepped c.args.kinds.now ss e c.requires.0.few c.requires.1 c.requires.2 (c.for_loop.ensures ss e)
 
 pub stmt-if_stmt-requires : goal.stmt-if_stmt-requires
-stmt-if_stmt-requires t c = (omega arith, (c.requires.1.0, good_item (c.args.b.item + 1) (omega arith) (omega arith) c.requires.1.1, refl, omega arith, c.requires.1.2, c.if-kind-eq-IF.true, c.requires.1.4))
+stmt-if_stmt-requires t c = (omega arith, (c.requires.0, good_item (c.args.b.item + 1) (omega arith) (omega arith) c.requires.1, refl, omega arith, c.requires.2, c.if-kind-eq-IF.true, c.requires.4))
 
 pub stmt-returns-then-kind-eq-IF : goal.stmt-returns-then-kind-eq-IF
-stmt-returns-then-kind-eq-IF t c = λ ss e. opened_stepped c.args.kinds.now ss e c.requires.1.0.few c.requires.1.1 c.requires.1.2 (c.if_stmt.ensures ss e)
+stmt-returns-then-kind-eq-IF t c = λ ss e. opened_stepped c.args.kinds.now ss e c.requires.0.few c.requires.1 c.requires.2 (c.if_stmt.ensures ss e)
 
 pub stmt-simple_stmt-requires : goal.stmt-simple_stmt-requires
-stmt-simple_stmt-requires t c = record { good = good_item (c.args.b.item + 1) (omega arith) (omega arith) c.requires.1.1; w_bound = (simple_room c.args.kinds.now c.args.kinds.now refl _ c.requires.1.2 c.args.b c.requires.1.4 c.requires.1.1.nodes (simple_kind _ c.if-kind-eq-DO.false c.if-kind-eq-WHILE.false c.if-kind-eq-REPEAT.false c.if-kind-eq-FOR.false c.if-kind-eq-IF.false c.requires.1.3), omega arith, omega arith, omega arith, simple_kind _ c.if-kind-eq-DO.false c.if-kind-eq-WHILE.false c.if-kind-eq-REPEAT.false c.if-kind-eq-FOR.false c.if-kind-eq-IF.false c.requires.1.3 8 (lit≤ tt) (lit≤ tt), simple_kind _ c.if-kind-eq-DO.false c.if-kind-eq-WHILE.false c.if-kind-eq-REPEAT.false c.if-kind-eq-FOR.false c.if-kind-eq-IF.false c.requires.1.3 9 (lit≤ tt) (lit≤ tt)); }
+stmt-simple_stmt-requires t c = record { good = good_item (c.args.b.item + 1) (omega arith) (omega arith) c.requires.1; w_bound = (simple_room c.args.kinds.now c.args.kinds.now refl _ c.requires.2 c.args.b c.requires.4 c.requires.1.nodes (simple_kind _ c.if-kind-eq-DO.false c.if-kind-eq-WHILE.false c.if-kind-eq-REPEAT.false c.if-kind-eq-FOR.false c.if-kind-eq-IF.false c.requires.3), omega arith, omega arith, omega arith, simple_kind _ c.if-kind-eq-DO.false c.if-kind-eq-WHILE.false c.if-kind-eq-REPEAT.false c.if-kind-eq-FOR.false c.if-kind-eq-IF.false c.requires.3 8 (lit≤ tt) (lit≤ tt), simple_kind _ c.if-kind-eq-DO.false c.if-kind-eq-WHILE.false c.if-kind-eq-REPEAT.false c.if-kind-eq-FOR.false c.if-kind-eq-IF.false c.requires.3 9 (lit≤ tt) (lit≤ tt)); }
 
 pub stmt-returns : goal.stmt-returns
-stmt-returns t c = λ ss e. simple_stepped c.args.kinds.now ss e c.requires.1.0.few c.requires.1.1 c.requires.1.2 _ (simple_kind _ c.if-kind-eq-DO.false c.if-kind-eq-WHILE.false c.if-kind-eq-REPEAT.false c.if-kind-eq-FOR.false c.if-kind-eq-IF.false c.requires.1.3) (c.simple_stmt.ensures c.args.kinds.now refl)
+stmt-returns t c = λ ss e. simple_stepped c.args.kinds.now ss e c.requires.0.few c.requires.1 c.requires.2 _ (simple_kind _ c.if-kind-eq-DO.false c.if-kind-eq-WHILE.false c.if-kind-eq-REPEAT.false c.if-kind-eq-FOR.false c.if-kind-eq-IF.false c.requires.3) (c.simple_stmt.ensures c.args.kinds.now refl)
 
 -- ---- while_loop
 
 pub while_loop-bounds-kinds-i : goal.while_loop-bounds-kinds-i
-while_loop-bounds-kinds-i t c = c.requires.1.4
+while_loop-bounds-kinds-i t c = c.requires.4
 
 pub while_loop-while_head-h-requires : goal.while_loop-while_head-h-requires
-while_loop-while_head-h-requires t c = record { by_index = (_, _, c.requires.1.1); nodes_bound = (omega (arith, while_room c.args.kinds.now c.args.kinds.now refl c.args.i c.requires.1.4 c.args.b c.requires.1.6 c.requires.1.5), c.requires.1.3, omega arith); }
+while_loop-while_head-h-requires t c = record { by_index = (_, _, c.requires.1); nodes_bound = (omega (arith, while_room c.args.kinds.now c.args.kinds.now refl c.args.i c.requires.4 c.args.b c.requires.6 c.requires.5), c.requires.3, omega arith); }
 
 pub while_loop-loop_body-s-requires : goal.while_loop-loop_body-s-requires
 while_loop-loop_body-s-requires t c =
-    let hd = c.while_head-h.ensures c.args.kinds.now _ _ c.requires.1.1 (code_starts _ 2 c.requires.1.5 (lit≤ tt)) in
-    record { sane = omega (arith, hd.item); break_target_lt_nodes = (
-        (c.requires.1.0, hd.good, omega (arith, hd.item), at_item c.args.kinds.now c.while_head-h.result (c.args.i + 1) (hd.item ∙ c.requires.1.2) (λ ss e. omega (arith, while_room c.args.kinds.now ss e c.args.i c.requires.1.4 c.args.b c.requires.1.6 c.requires.1.5, hd.nodes)), c.requires.1.0.scopes _ c.requires.1.4 (omega arith) (omega arith)),
+    let hd = c.while_head-h.ensures c.args.kinds.now _ _ c.requires.1 (code_starts _ 2 c.requires.5 (lit≤ tt)) in (
+      omega (arith, hd.item),
+      (
+        (c.requires.0, hd.good, omega (arith, hd.item), at_item c.args.kinds.now c.while_head-h.result (c.args.i + 1) (hd.item ∙ c.requires.2) (λ ss e. omega (arith, while_room c.args.kinds.now ss e c.args.i c.requires.4 c.args.b c.requires.6 c.requires.5, hd.nodes)), c.requires.0.scopes _ c.requires.4 (omega arith) (omega arith)),
         (omega (arith, hd.nodes), omega (arith, hd.nodes)),
-      ); }
+      ),
+    )
 
 pub while_loop-past-requires : goal.while_loop-past-requires
 while_loop-past-requires t c = (c.loop_body-s.ensures c.args.kinds.now refl).moved.within
 
 pub while_loop-loop_end-requires : goal.while_loop-loop_end-requires
-while_loop-loop_end-requires t c = record { by_index = (_, _, _, good_item c.past.result c.past.ensures.0 (omega arith) (c.loop_body-s.ensures c.args.kinds.now refl).moved.good); head_bound = omega (arith, (c.while_head-h.ensures c.args.kinds.now _ _ c.requires.1.1 (code_starts _ 2 c.requires.1.5 (lit≤ tt))).nodes, (c.loop_body-s.ensures c.args.kinds.now refl).moved.grown.nodes); }
+while_loop-loop_end-requires t c = record { by_index = (_, _, _, good_item c.past.result c.past.ensures.0 (omega arith) (c.loop_body-s.ensures c.args.kinds.now refl).moved.good); head_bound = omega (arith, (c.while_head-h.ensures c.args.kinds.now _ _ c.requires.1 (code_starts _ 2 c.requires.5 (lit≤ tt))).nodes, (c.loop_body-s.ensures c.args.kinds.now refl).moved.grown.nodes); }
 
 pub while_loop-returns : goal.while_loop-returns
-while_loop-returns t c = λ ss e. while_opened c.args.kinds.now ss e c.requires.1.0.few c.args.i c.requires.1.4 _ _ _ c.requires.1.5 c.literal_truth-truth.ensures refl c.requires.1.2 c.requires.1.1 (c.requires.1.0.tidy ss e _ c.requires.1.4 (omega arith) (omega arith)) (c.while_head-h.ensures c.args.kinds.now _ _ c.requires.1.1 (code_starts _ 2 c.requires.1.5 (lit≤ tt))) (c.loop_body-s.ensures ss e) c.past.ensures.2 c.past.ensures.3 c.past.ensures.1 c.past.ensures.0 (c.loop_end.ensures c.args.kinds.now _ _ _ (good_item c.past.result c.past.ensures.0 (omega arith) (c.loop_body-s.ensures c.args.kinds.now refl).moved.good))
+while_loop-returns t c = λ ss e. while_opened c.args.kinds.now ss e c.requires.0.few c.args.i c.requires.4 _ _ _ c.requires.5 c.literal_truth-truth.ensures refl c.requires.2 c.requires.1 (c.requires.0.tidy ss e _ c.requires.4 (omega arith) (omega arith)) (c.while_head-h.ensures c.args.kinds.now _ _ c.requires.1 (code_starts _ 2 c.requires.5 (lit≤ tt))) (c.loop_body-s.ensures ss e) c.past.ensures.2 c.past.ensures.3 c.past.ensures.1 c.past.ensures.0 (c.loop_end.ensures c.args.kinds.now _ _ _ (good_item c.past.result c.past.ensures.0 (omega arith) (c.loop_body-s.ensures c.args.kinds.now refl).moved.good))
