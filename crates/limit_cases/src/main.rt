@@ -1,11 +1,13 @@
 // 01's bench pieces that are not starred: "1,024 items pass, 1,025 give 2; 64 nested DO pass, 65 give 4".
 // Prints the number that each call gives for each, 0 where it passes.
+#![tactic(auto)]
+
 ghost use Rattle.std.specs.Prelude.{◌≤◌};
 
 use column_lengths::{CODES, FINDINGS, LOCALS, NODES};
 use flow::LabelAnswer;
-use libc::STDOUT_FILENO;
 use numbers::{chart_number, judge_number, label_number, run_number};
+use std::io;
 use words::kind::{END, PLAIN};
 use words::limit::{DEPTH, ITEMS};
 use words::{ARGUMENT, HALF, SCOPE_END, kind};
@@ -118,45 +120,40 @@ fn judge(sheet: &[u64]) -> u64 {
     ))
 }
 
-fn tell(what: &[u8], sheet: &[u64]) {
-    io::write_all(STDOUT_FILENO, what);
-    io::write_all(STDOUT_FILENO, b": chart ");
-    io::print_decimal(STDOUT_FILENO, chart(sheet));
-    io::write_all(STDOUT_FILENO, b", judge ");
-    io::print_decimal(STDOUT_FILENO, judge(sheet));
-    io::write_all(STDOUT_FILENO, b", run ");
-    io::print_decimal(STDOUT_FILENO, run_number(run::run(sheet, 0)));
-    io::write_all(STDOUT_FILENO, b", label check ");
-    io::print_decimal(STDOUT_FILENO, label_or_no(label_call::label_check(sheet)));
-    io::write_all(STDOUT_FILENO, b"\n");
+fn tell(rt: &impl Print, what: &str, sheet: &[u64]) -> io::Result<()> {
+    let chart = chart(sheet);
+    let judge = judge(sheet);
+    let run = run_number(run::run(sheet, 0));
+    let label = label_or_no(label_call::label_check(sheet));
+    println!(rt; "{what}: chart {chart}, judge {judge}, run {run}, label check {label}")
 }
 
-fn tell_first(what: &[u8], sheet: &[u64; WORDS], words: usize)
+fn tell_first(rt: &impl Print, what: &str, sheet: &[u64; WORDS], words: usize) -> io::Result<()>
     requires { words ≤ 2052 }
 {
     let whole = &sheet[..];
-    tell(what, &whole[0..words]);
+    tell(rt, what, &whole[0..words])
 }
 
-fn items(what: &[u8], n: usize)
+fn items(rt: &impl Print, what: &str, n: usize) -> io::Result<()>
     requires { n ≤ 1025 }
 {
     let mut sheet = [0u64; WORDS];
     plain_items(&mut sheet, n);
-    tell_first(what, &sheet, 2 * n + 2);
+    tell_first(rt, what, &sheet, 2 * n + 2)
 }
 
-fn nested(what: &[u8], depth: usize)
+fn nested(rt: &impl Print, what: &str, depth: usize) -> io::Result<()>
     requires { depth ≤ 65 }
 {
     let mut sheet = [0u64; WORDS];
     nested_do(&mut sheet, depth);
-    tell_first(what, &sheet, 4 * depth + 4);
+    tell_first(rt, what, &sheet, 4 * depth + 4)
 }
 
-fn main() {
-    items(b"1024 items", ITEMS);
-    items(b"1025 items", ITEMS + 1);
-    nested(b"64 nested DO", DEPTH);
-    nested(b"65 nested DO", DEPTH + 1);
+fn main(rt: HostRuntime) -> io::Result<()> {
+    items(&rt, "1024 items", ITEMS)?;
+    items(&rt, "1025 items", ITEMS + 1)?;
+    nested(&rt, "64 nested DO", DEPTH)?;
+    nested(&rt, "65 nested DO", DEPTH + 1)
 }

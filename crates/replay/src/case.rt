@@ -12,7 +12,7 @@ use numbers::{label_number, verdict_number};
 
 // Misshapen: a length goes past the case's end. Unread: the file ends in the case, or the case is
 // longer than the reader's buffer. End: no case is left.
-#[derive(Drop)]
+#[derive(Clone, Copy)]
 pub enum Outcome {
     Agrees,
     Differs,

@@ -1,8 +1,11 @@
 // Replays the stored answers of data/ and says how many cases differ.
+#![tactic(auto)]
+
 ghost use Rattle.std.specs.Prelude.{◌≤◌};
 
 use case::Outcome;
-use libc::STDOUT_FILENO;
+use std::fs::File;
+use std::io;
 
 mod case;
 mod chart;
@@ -42,64 +45,55 @@ fn is_end(outcome: Outcome) -> bool {
     }
 }
 
-fn print_case(name: &[u8], case: u64, what: &[u8]) {
-    io::write_all(STDOUT_FILENO, name);
-    io::write_all(STDOUT_FILENO, b" case ");
-    io::print_decimal(STDOUT_FILENO, case);
-    io::write_all(STDOUT_FILENO, what);
+fn print_case(rt: &impl Print, name: &str, case: u64, what: &str) -> io::Result<()> {
+    println!(rt; "{name} case {case}: {what}")
 }
 
-fn tell(name: &[u8], case: u64, outcome: Outcome) {
+fn tell(rt: &impl Print, name: &str, case: u64, outcome: Outcome) -> io::Result<()> {
     match outcome {
-        Outcome::Differs => print_case(name, case, b": differs\n"),
-        Outcome::Misshapen => print_case(name, case, b": a length goes past its end\n"),
-        Outcome::Unread => print_case(name, case, b": too long, or the file ends in it\n"),
-        _ => {}
+        Outcome::Differs => print_case(rt, name, case, "differs"),
+        Outcome::Misshapen => print_case(rt, name, case, "a length goes past its end"),
+        Outcome::Unread => print_case(rt, name, case, "too long, or the file ends in it"),
+        _ => Ok(()),
     }
 }
 
 // A proved loop has to end, and nothing says that a file does: the count of cases is the bound.
-fn replay_cases(fd: i32, name: &[u8]) -> Tally {
+fn replay_cases(rt: &impl Print, file: &mut File, name: &str) -> io::Result<Tally> {
     let mut cases: u64 = 0;
     let mut differ: u64 = 0;
     while cases < u64::MAX {
-        let outcome = reader::next(fd);
+        let outcome = reader::next(file)?;
         if is_end(outcome) {
             break;
         }
         cases += 1;
         if differ < 10 {
-            tell(name, cases, outcome);
+            tell(rt, name, cases, outcome)?;
         }
         differ += differs(outcome);
         if is_last(outcome) {
             break;
         }
     }
-    Tally {
-        cases: cases,
-        differ: differ,
+    Ok(Tally { cases, differ })
+}
+
+// A file that cannot be opened is told on the standard error, and the next one comes.
+fn replay(rt: &HostRuntime, name: &str) -> io::Result<()> {
+    match File::open(rt, name) {
+        Ok(mut file) => {
+            let tally = replay_cases(rt, &mut file, name)?;
+            let cases = tally.cases;
+            let differ = tally.differ;
+            println!(rt; "{name}: {cases} cases, {differ} differ")
+        }
+        Err(e) => eprintln!(rt; "{name}: {e}"),
     }
 }
 
-fn replay(name: &[u8]) {
-    let fd = os::open_read(name);
-    if fd < 0 {
-        os::fail(name);
-        return;
-    }
-    let tally = replay_cases(fd, name);
-    libc::close(fd);
-    io::write_all(STDOUT_FILENO, name);
-    io::write_all(STDOUT_FILENO, b": ");
-    io::print_decimal(STDOUT_FILENO, tally.cases);
-    io::write_all(STDOUT_FILENO, b" cases, ");
-    io::print_decimal(STDOUT_FILENO, tally.differ);
-    io::write_all(STDOUT_FILENO, b" differ\n");
-}
-
-fn main() {
-    replay(b"pieces.bin");
-    replay(b"small.bin");
-    replay(b"large.bin");
+fn main(rt: HostRuntime) -> io::Result<()> {
+    replay(&rt, "pieces.bin")?;
+    replay(&rt, "small.bin")?;
+    replay(&rt, "large.bin")
 }

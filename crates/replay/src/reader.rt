@@ -1,7 +1,9 @@
 // Cases read from a file: words of eight bytes, little-endian.
-ghost use Rattle.std.specs.Prelude.{◌+◌, ◌≤◌, length};
+ghost use Rattle.std.specs.Prelude.{◌+◌, ◌≤◌, length, IfOk};
 
 use crate::case::{Outcome, compare};
+use std::io;
+use std::io::Read;
 use words::WORD_BYTES;
 
 // The words of the longest case that is taken. The longest stored one has 11,182.
@@ -43,31 +45,46 @@ fn room() -> [u8; BYTES] {
     [0; BYTES]
 }
 
+// Reads until `buf` is full or the input ends, and answers how many bytes it put at the start of `buf`.
+fn read_full<R: Read>(input: &mut R, buf: &mut [u8]) -> io::Result<usize>
+    ensures { IfOk result (λ n. n ≤ length buf.new) }
+{
+    let mut done = 0;
+    while done < buf.len() {
+        let n = input.read(&mut buf[done..])?;
+        if n == 0 {
+            break;
+        }
+        done += n;
+    }
+    Ok(done)
+}
+
 // Reads the n words of a case.
-fn read_words(fd: i32, n: usize) -> Outcome
+fn read_words<R: Read>(input: &mut R, n: usize) -> io::Result<Outcome>
     requires { n ≤ 12288 }
 {
     let mut bytes = room();
-    let got = io::read_full(fd, &mut bytes[0..WORD_BYTES * n]);
+    let got = read_full(input, &mut bytes[0..WORD_BYTES * n])?;
     if got < WORD_BYTES * n {
-        return Outcome::Unread;
+        return Ok(Outcome::Unread);
     }
     let words = decode(bytes, n);
-    compare(&words[0..n])
+    Ok(compare(&words[0..n]))
 }
 
-pub fn next(fd: i32) -> Outcome {
+pub fn next<R: Read>(input: &mut R) -> io::Result<Outcome> {
     let mut head = [0u8; WORD_BYTES];
-    let got = io::read_full(fd, &mut head);
+    let got = read_full(input, &mut head)?;
     if got == 0 {
-        return Outcome::End;
+        return Ok(Outcome::End);
     }
     if got < WORD_BYTES {
-        return Outcome::Unread;
+        return Ok(Outcome::Unread);
     }
     let n = word(&head, 0);
     if n > WORDS as u64 {
-        return Outcome::Unread;
+        return Ok(Outcome::Unread);
     }
-    read_words(fd, n as usize)
+    read_words(input, n as usize)
 }

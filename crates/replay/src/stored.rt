@@ -14,7 +14,7 @@ pub const NONE: u32 = ABSENT as u32;
 const CELLS: usize = 6;
 
 // An answer's number, how many entries it has, and where the cells of its chart and of its findings start.
-#[derive(Drop)]
+#[derive(Clone, Copy)]
 pub struct Stored {
     pub number: u64,
     pub nodes: u32,
