@@ -9,7 +9,7 @@ pub enum Truth {
 }
 
 // What looking something up finds: the node of a label or of an offset's code; or nothing.
-#[derive(Drop)]
+#[derive(Clone, Copy)]
 pub enum Found {
     At(usize),
     Nothing,
@@ -37,7 +37,7 @@ pub enum Verdict {
 }
 
 // How many entries a chart has.
-#[derive(Drop)]
+#[derive(Clone, Copy)]
 pub struct Counts {
     pub nodes: usize,
     pub codes: usize,

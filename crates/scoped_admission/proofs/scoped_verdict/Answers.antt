@@ -20,14 +20,14 @@ sheet c = c.args.sheet.now
 abbrev uses : (c : After-pair_verdict-pair) → List ℕ
 uses c = c.args.uses.now
 
-abbrev pair_tests : (c : After-pair_verdict-pair) → List Test
-pair_tests c = (pair_tests c) c.args.short (sheet c) (uses c)
+abbrev before_9 : (c : After-pair_verdict-pair) → List Test
+before_9 c = pair_tests c.args.short (sheet c) (uses c)
 
 -- the test behind them
 abbrev from_9 : (c : After-pair_verdict-pair) → List Test
 from_9 c = (BadScope, bad_scopes (sheet c) (uses c) c.args.scopes.now) ∷ []
 
-pair_is : (c : After-pair_verdict-pair) → first_applying (pair_tests c) ≡ c.pair_verdict-pair.result
+pair_is : (c : After-pair_verdict-pair) → first_applying (before_9 c) ≡ c.pair_verdict-pair.result
 unfolding pair_verdict
 pair_is c = sym c.pair_verdict-pair.ensures
 
@@ -38,11 +38,11 @@ admitted_pair c = pair_is (goal.at.In_default c).After-pair_verdict-pair ∙ c.i
 
 behind_8 : (c : In_default) → scoped_verdict c.args.short (sheet (goal.at.In_default c).After-pair_verdict-pair) (uses (goal.at.In_default c).After-pair_verdict-pair) c.args.scopes.now ≡ first_applying (from_9 (goal.at.In_default c).After-pair_verdict-pair)
 unfolding scoped_verdict scoped_tests
-behind_8 c = admitted_before (pair_tests (goal.at.In_default c).After-pair_verdict-pair) (from_9 (goal.at.In_default c).After-pair_verdict-pair) (pair_is (goal.at.In_default c).After-pair_verdict-pair ∙ c.in_default.is)
+behind_8 c = admitted_before (before_9 (goal.at.In_default c).After-pair_verdict-pair) (from_9 (goal.at.In_default c).After-pair_verdict-pair) (pair_is (goal.at.In_default c).After-pair_verdict-pair ∙ c.in_default.is)
 
 pub returns-in-Refused : goal.returns-in-Refused
 unfolding scoped_verdict scoped_tests
-returns-in-Refused c = sym (refused_before (pair_tests (goal.at.returns-in-Refused c).After-pair_verdict-pair) (from_9 (goal.at.returns-in-Refused c).After-pair_verdict-pair) _ (pair_is (goal.at.returns-in-Refused c).After-pair_verdict-pair ∙ c.in-Refused.is))
+returns-in-Refused c = sym (refused_before (before_9 (goal.at.returns-in-Refused c).After-pair_verdict-pair) (from_9 (goal.at.returns-in-Refused c).After-pair_verdict-pair) _ (pair_is (goal.at.returns-in-Refused c).After-pair_verdict-pair ∙ c.in-Refused.is))
 
 pub scope_is_bad-requires : goal.scope_is_bad-requires
 scope_is_bad-requires c =
