@@ -1,4 +1,4 @@
-/* Waldimu's calls for a unit's C code. Link libwaldimu.a, which `rt staticlib waldimu` makes from proved crates for
+/* Waldimu's calls for a unit's C code. Link libwaldimu.a, which `rt lib` in crates/waldimu makes from proved crates, for
    x86-64. Documents 01 and 02 are the authority for what a sheet is, what a call writes and why it is refused; this says
    it in short. All words and cells have 64 bits. examples/unit.c and examples/unit.rs show the calls in use.
 
