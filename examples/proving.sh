@@ -31,7 +31,7 @@ for name; do
     fi
     order "$name" >"$said.order"
     total=$(grep -c . "$said.order") || :
-    echo "rt $verb in crates/$name: $total crates. From nothing that takes some ten minutes or more; each is named as its proof begins."
+    echo "rt $verb in crates/$name: $total crates. From nothing that takes minutes; each is named as its proof begins."
     # The status of rt is lost behind a pipe, so it is written down.
     {
         status=0
