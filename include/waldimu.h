@@ -11,7 +11,8 @@
    writes the first cells of each column, as many as the result word tells; those behind them keep their content. Nothing
    is allocated or kept. Of the C library only memset is needed.
 
-   THE STACK. The proofs say nothing of it. In KB of 1,000 bytes, measured by compare/stack.c, the most found last:
+   THE STACK. The proofs say nothing of it. In KB of 1,000 bytes, measured by compare/stack.c with the older kit, the most found
+   last:
 
      sheet                     chart  judge    run  label check
      1,024 PLAIN                   2     69     94           18
