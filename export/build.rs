@@ -1,5 +1,5 @@
 //! Links the static library. `WALDIMU_ARCHIVE` names it; without that the one
-//! that `rt staticlib waldimu` leaves in the repository's target folder is taken.
+//! that `rt lib` leaves in the folder of the crate `waldimu` is taken.
 
 use std::env;
 use std::path::PathBuf;
@@ -8,11 +8,11 @@ fn main() {
     println!("cargo::rerun-if-env-changed=WALDIMU_ARCHIVE");
     let here = PathBuf::from(env::var("CARGO_MANIFEST_DIR").expect("cargo sets it"));
     let archive = env::var("WALDIMU_ARCHIVE")
-        .map_or_else(|_| here.join("../target/staticlib/libwaldimu.a"), PathBuf::from);
+        .map_or_else(|_| here.join("../crates/waldimu/out/libwaldimu.a"), PathBuf::from);
     println!("cargo::rerun-if-changed={}", archive.display());
     let Ok(archive) = archive.canonicalize() else {
         println!(
-            "cargo::error=there is no static library at {}: `rt staticlib waldimu` makes it, or WALDIMU_ARCHIVE names it",
+            "cargo::error=there is no static library at {}: `examples/archive.sh` makes it, or WALDIMU_ARCHIVE names it",
             archive.display()
         );
         return;

@@ -1,4 +1,4 @@
-/* Waldimu's calls for a unit's C code. Link libwaldimu.a, which `rt staticlib waldimu` makes from proved crates for
+/* Waldimu's calls for a unit's C code. Link libwaldimu.a, which `rt lib` in crates/waldimu makes from proved crates, for
    x86-64. Documents 01 and 02 are the authority for what a sheet is, what a call writes and why it is refused; this says
    it in short. All words and cells have 64 bits. examples/unit.c and examples/unit.rs show the calls in use.
 
@@ -11,7 +11,8 @@
    writes the first cells of each column, as many as the result word tells; those behind them keep their content. Nothing
    is allocated or kept. Of the C library only memset is needed.
 
-   THE STACK. The proofs say nothing of it. In KB of 1,000 bytes, measured by compare/stack.c, the most found last:
+   THE STACK. The proofs say nothing of it. In KB of 1,000 bytes, measured by compare/stack.c with the older kit, the most found
+   last:
 
      sheet                     chart  judge    run  label check
      1,024 PLAIN                   2     69     94           18

@@ -407,13 +407,18 @@ def picture(title, rows, lines, width, height, notes, style=STYLE):
 
 # The layers of crates, room by room
 
+def name_in(line):
+    """A line's crate: its first word, as behind it may stand what the crate is (`waldimu staticlib: ..`)."""
+    return line.partition(":")[0].split()[0]
+
+
 def read_crates(text):
     """Each crate with those that it uses."""
     crates = {}
     for line in text.splitlines():
         name, colon, uses = line.partition("#")[0].partition(":")
         if colon:
-            crates[name.strip()] = uses.split()
+            crates[name_in(name)] = uses.split()
     return crates
 
 
@@ -426,7 +431,7 @@ def read_rooms(text):
         elif ":" in line:
             room, _, purpose = heading.partition(":")
             crates = rooms.setdefault(room.strip(), (purpose.strip(), []))[1]
-            crates.append(line.partition(":")[0].strip())
+            crates.append(name_in(line))
     return rooms
 
 

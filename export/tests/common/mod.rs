@@ -41,12 +41,29 @@ pub fn is_installed(program: &str) -> bool {
         .is_ok()
 }
 
-/// A folder of its own for a test's files.
-pub fn folder(name: &str) -> std::path::PathBuf {
-    let path = std::path::Path::new(env!("CARGO_TARGET_TMPDIR")).join(name);
+/// A folder of its own for a test's files, which goes with it. It stands outside the checkout, as
+/// a test makes links and `rt ci` refuses any in the checkout.
+pub struct Folder(std::path::PathBuf);
+
+impl std::ops::Deref for Folder {
+    type Target = std::path::Path;
+
+    fn deref(&self) -> &std::path::Path {
+        &self.0
+    }
+}
+
+impl Drop for Folder {
+    fn drop(&mut self) {
+        let _ = std::fs::remove_dir_all(&self.0);
+    }
+}
+
+pub fn folder(name: &str) -> Folder {
+    let path = std::env::temp_dir().join(format!("waldimu-{}-{name}", std::process::id()));
     let _ = std::fs::remove_dir_all(&path);
     std::fs::create_dir_all(&path).expect("a folder for the test");
-    path
+    Folder(path)
 }
 
 /// The scripts that the tests keep, by name.
