@@ -1,0 +1,34 @@
+-- `chart_call::chart` meets its contract: refused, no column was touched; admitted, the columns are wide enough for the graph.
+-- Assumes nothing.
+use borrow.Author.Rules.{rules}
+use mathlib.Core.Path.{◌≡◌, sym, ap, ◌∙◌}
+use mathlib.Core.Bool.{Bool}
+use mathlib.Core.List.{List}
+use Prim.Native.Nat.{ℕ}
+use Rattle.flow.specs.Refusals.{sheet_verdict}
+use Rattle.chart.specs.Lent.{Columns, columns, chart_short}
+use Rattle.chart_call.proofs.Promises.{sheet_admitted, wide_enough, chart_refused, chart_accepted}
+use Rattle.chart_call.proofs.chart.Goals as goal
+use Rattle.chart_call.proofs.chart.Goals.{After-sheet_verdict-verdict}
+
+-- ---- where the verdict is known
+abbrev S : (c : After-sheet_verdict-verdict) → List ℕ
+S c = c.args.sheet.now
+
+abbrev x : (c : After-sheet_verdict-verdict) → Columns
+x c =
+     columns c.args.first.now c.args.second.now c.args.start.now c.args.reachable.now c.args.code_span.now c.args.code_node.now c.args.name_span.now c.args.name_node.now c.args.name_end.now
+
+verdict_is : (c : After-sheet_verdict-verdict) → sheet_verdict (chart_short (x c)) (S c) ≡ c.sheet_verdict-verdict.result
+verdict_is c = sym (c.sheet_verdict-verdict.ensures ∙ ap (λ (b : Bool). sheet_verdict b (S c)) c.chart_short-short.ensures)
+
+pub returns-in-Refused : goal.returns-in-Refused
+returns-in-Refused c = chart_refused (x (goal.at.returns-in-Refused c).After-sheet_verdict-verdict) (S (goal.at.returns-in-Refused c).After-sheet_verdict-verdict) (verdict_is (goal.at.returns-in-Refused c).After-sheet_verdict-verdict ∙ c.in-Refused.is)
+
+pub of_sheet-counts-requires : goal.of_sheet-counts-requires
+of_sheet-counts-requires c =
+    let e = verdict_is (goal.at.of_sheet-counts-requires c).After-sheet_verdict-verdict ∙ c.enum_told-1.given.1 in
+    record { admitted_sheet = sheet_admitted (x (goal.at.of_sheet-counts-requires c).After-sheet_verdict-verdict) (S (goal.at.of_sheet-counts-requires c).After-sheet_verdict-verdict) e; wide = wide_enough (x (goal.at.of_sheet-counts-requires c).After-sheet_verdict-verdict) (S (goal.at.of_sheet-counts-requires c).After-sheet_verdict-verdict) e; }
+
+pub returns : goal.returns
+returns c = chart_accepted (x (goal.at.returns c).After-sheet_verdict-verdict) (S (goal.at.returns c).After-sheet_verdict-verdict) (verdict_is (goal.at.returns c).After-sheet_verdict-verdict ∙ c.enum_told-1.given.1) c.of_sheet-counts.ensures

@@ -1,0 +1,20 @@
+-- `chart_run::run_in` meets its contract: the place among the chart's codes, and the flag of its node.
+-- Assumes nothing.
+use borrow.Author.Rules.{rules}
+use Rattle.flow.specs.Graph.{graph}
+use Rattle.chart_run.proofs.Running.{node_asks, place_is, place_in, place_long, flags_are, ran}
+use Rattle.chart_run.proofs.run_in.Goals as goal
+
+-- ---- the places: from each place back to the one before it
+pub node_at-node-requires : goal.node_at-node-requires
+node_at-node-requires c =
+    let r = node_asks c.requires.admitted_sheet c.of_sheet-counts.ensures in record { codes_in_bounds = r.0; rising = r.1; }
+
+pub can_run-runs-requires : goal.can_run-runs-requires
+can_run-runs-requires c = place_long c.requires.admitted_sheet c.of_sheet-counts.ensures c.args.offset (place_is c.requires.admitted_sheet c.of_sheet-counts.ensures c.args.offset c.node_at-node.ensures)
+
+pub returns : goal.returns
+returns c =
+    let p = place_is c.requires.admitted_sheet c.of_sheet-counts.ensures c.args.offset c.node_at-node.ensures in
+    let S = c.args.sheet.now in
+    ran S c.args.offset p (c.can_run-runs.ensures (graph S) (flags_are c.requires.admitted_sheet c.of_sheet-counts.ensures) (place_in c.requires.admitted_sheet c.of_sheet-counts.ensures c.args.offset p))

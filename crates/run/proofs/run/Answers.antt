@@ -1,0 +1,19 @@
+-- `run::run` meets its contract: refused by the sheet's verdict, or the answer by a chart in columns of its own.
+-- Assumes nothing.
+use borrow.Author.Rules.{rules}
+use mathlib.Core.Path.{sym, ◌∙◌}
+use lib.Dec.{lit≤}
+use Rattle.flow.proofs.Admission.{admitted}
+use Rattle.run.proofs.Running.{run_refused, run_accepted}
+use Rattle.run.proofs.run.Goals as goal
+use Rattle.run.proofs.run.Goals.{Start}
+
+-- ---- the places: from each place back to the one before it
+pub returns-in-Refused : goal.returns-in-Refused
+returns-in-Refused c = run_refused c.args.sheet.now c.args.offset (sym c.sheet_verdict-verdict.ensures ∙ c.in-Refused.is)
+
+pub run_in-requires : goal.run_in-requires
+run_in-requires c = record { admitted_sheet = admitted c.args.sheet.now (sym c.sheet_verdict-verdict.ensures ∙ c.enum_told-1.given.1); wide = record { first = lit≤ tt; second = lit≤ tt; (goal.at.run_in-requires c).Start = lit≤ tt; reachable = lit≤ tt; code_span = lit≤ tt; code_node = lit≤ tt; name_span = lit≤ tt; node_of_name = lit≤ tt; name_end = lit≤ tt }; }
+
+pub returns : goal.returns
+returns c = run_accepted c.args.sheet.now c.args.offset (sym c.sheet_verdict-verdict.ensures ∙ c.enum_told-1.given.1) c.run_in.ensures
