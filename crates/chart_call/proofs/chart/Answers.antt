@@ -27,8 +27,8 @@ returns-in-Refused c = chart_refused (x (goal.at.returns-in-Refused c).After-she
 
 pub of_sheet-counts-requires : goal.of_sheet-counts-requires
 of_sheet-counts-requires c =
-    let e = verdict_is (goal.at.of_sheet-counts-requires c).After-sheet_verdict-verdict ∙ c.enum_told-1.given.1 in
+    let e = verdict_is (goal.at.of_sheet-counts-requires c).After-sheet_verdict-verdict ∙ c.in_default.is in
     record { admitted_sheet = sheet_admitted (x (goal.at.of_sheet-counts-requires c).After-sheet_verdict-verdict) (S (goal.at.of_sheet-counts-requires c).After-sheet_verdict-verdict) e; wide = wide_enough (x (goal.at.of_sheet-counts-requires c).After-sheet_verdict-verdict) (S (goal.at.of_sheet-counts-requires c).After-sheet_verdict-verdict) e; }
 
 pub returns : goal.returns
-returns c = chart_accepted (x (goal.at.returns c).After-sheet_verdict-verdict) (S (goal.at.returns c).After-sheet_verdict-verdict) (verdict_is (goal.at.returns c).After-sheet_verdict-verdict ∙ c.enum_told-1.given.1) c.of_sheet-counts.ensures
+returns c = chart_accepted (x (goal.at.returns c).After-sheet_verdict-verdict) (S (goal.at.returns c).After-sheet_verdict-verdict) (verdict_is (goal.at.returns c).After-sheet_verdict-verdict ∙ c.in_default.is) c.of_sheet-counts.ensures

@@ -51,7 +51,7 @@ clear-requires c = omega (arith, few (goal.at.clear-requires c).After-find_names
 
 pub returns-then-not-any_tracked : goal.returns-then-not-any_tracked
 returns-then-not-any_tracked c =
-    let none = c.any_tracked.ensures (not-true c.any_tracked.result c.if-not-any_tracked.true) in
+    let none = c.any_tracked.ensures c.if-not-any_tracked.true in
     λ S U p. (
       nothing_found S U c.find_names-names.new.facts (counted p c.find_names-names.ensures) (known p c.find_names-names.ensures) none c.args.finding_word.now,
       rw (counted p c.find_names-names.ensures) (zero_figures S U c.find_names-names.new.facts (counted p c.find_names-names.ensures) (known p c.find_names-names.ensures) none (omega (arith, few (goal.at.returns-then-not-any_tracked c).After-find_names-names)) c.clear.ensures),

@@ -1,0 +1,53 @@
+-- `findings::find_all` meets its contract: the parts of the sheet and the uses are what the search for findings asks, and the words that it lists tell the spans.
+-- Assumes nothing.
+use mathlib.Core.Path.{◌≡◌, sym}
+use mathlib.Core.List.{List}
+use Prim.Native.Nat.{ℕ}
+use native.Mathlib.Omega.{arith}
+use lib.ListN.{length, length-map, length-append}
+use Rattle.flow.specs.Sheet.{use_spans}
+use Rattle.flow.specs.Scopes.{use_sheet}
+use Rattle.flow.specs.Locals.{locals}
+use Rattle.flow.specs.Findings.{findings}
+use Rattle.flow.specs.Judge.{words_of}
+use Rattle.flow.proofs.Scopes.{sheet_words, sheet_spans}
+use Rattle.locals.specs.Entries.{Added}
+use Rattle.unassigned.specs.Pass.{Figures}
+use Rattle.local_flow.specs.Sheets.{Sheets}
+use Rattle.findings.proofs.Judging.{in_parts, all_few, known, found}
+use borrow.Author.Rules.{rules}
+use Rattle.findings.proofs.find_all.Goals as goal
+use Rattle.findings.proofs.find_all.Goals.{After-compute-found, After-kinds-kinds}
+
+-- ---- where the parts are taken
+abbrev S : (c : After-kinds-kinds) → List ℕ
+S c = c.args.sheet.now
+
+abbrev ws : (c : After-kinds-kinds) → List ℕ
+ws c = c.args.use_words.now
+
+abbrev ss : (c : After-kinds-kinds) → List ℕ
+ss c = c.args.use_spans.now
+
+-- the use sheet of these two arrays
+abbrev U : (c : After-kinds-kinds) → List ℕ
+U c = use_sheet (ws c) (ss c)
+
+spans_are : (c : After-kinds-kinds) → (ss c) ≡ use_spans (U c)
+spans_are c = sym (sheet_spans (ws c) (ss c) (omega (arith, length-append (ws c) (ss c))))
+
+parts : (c : After-kinds-kinds) →  Sheets (S c) (U c) c.args.counts.nodes c.args.counts.codes c.kinds-kinds.result.now c.args.first.now c.args.second.now c.args.start.now c.args.code_span.now c.args.code_node.now c.args.name_node.now c.args.name_end.now (ws c) (ss c)
+parts c = in_parts c.args.counts c.args.name_span.now c.kinds-kinds.ensures (sym (sheet_words (ws c) (ss c))) (spans_are c) c.requires.searchable
+
+-- ---- where the words are listed
+listed : (c : After-compute-found) →  Added (words_of (findings (S (goal.at.After-compute-found c).After-kinds-kinds) (U (goal.at.After-compute-found c).After-kinds-kinds))) 0 c.args.finding_word.now c.compute-found.result c.compute-found.new.finding_word × Figures (S (goal.at.After-compute-found c).After-kinds-kinds) (U (goal.at.After-compute-found c).After-kinds-kinds) (length (locals (S (goal.at.After-compute-found c).After-kinds-kinds))) c.args.mark.now c.compute-found.new.mark
+listed c = c.compute-found.ensures (S (goal.at.After-compute-found c).After-kinds-kinds) (U (goal.at.After-compute-found c).After-kinds-kinds) (parts (goal.at.After-compute-found c).After-kinds-kinds)
+
+pub compute-found-requires : goal.compute-found-requires
+compute-found-requires c = record { any_sheets = (S (goal.at.compute-found-requires c).After-kinds-kinds, U (goal.at.compute-found-requires c).After-kinds-kinds, parts (goal.at.compute-found-requires c).After-kinds-kinds); room = (omega arith, c.requires.long.2); }
+
+pub write_spans-requires : goal.write_spans-requires
+write_spans-requires c = (known c.requires.admitted_sheet.0 c.requires.admitted_sheet.1 c.args.counts c.args.name_span.now c.requires.searchable (listed (goal.at.write_spans-requires c).After-compute-found).0 (spans_are (goal.at.write_spans-requires c).After-kinds-kinds), omega (arith, (listed (goal.at.write_spans-requires c).After-compute-found).0.counted, length-map (findings (S (goal.at.write_spans-requires c).After-kinds-kinds) (U (goal.at.write_spans-requires c).After-kinds-kinds)) (λ f. f.word), all_few c.requires.admitted_sheet.0 c.requires.admitted_sheet.1))
+
+pub returns : goal.returns
+returns c = found c.requires.admitted_sheet.0 c.requires.admitted_sheet.1 c.args.counts c.args.name_span.now c.requires.searchable (listed (goal.at.returns c).After-compute-found).0 (spans_are (goal.at.returns c).After-kinds-kinds) c.write_spans.ensures (listed (goal.at.returns c).After-compute-found).1
