@@ -1,4 +1,6 @@
 // Admission: for any words the first refusal in the order of precedence, or that the sheets are admitted.
+#![tactic(auto)]
+
 ghost use Rattle.std.specs.Prelude.{◌≡◌, false};
 ghost use Rattle.flow.specs.Refusals.{leading_tests, first_applying, item_tests, sheet_verdict, pair_verdict, bad_use};
 ghost use Rattle.sheet_parts.specs.Parts.{Counted};

@@ -1,4 +1,6 @@
 // The word in which an answer crosses to C.
+#![tactic(auto)]
+
 ghost use Rattle.std.specs.Prelude.{◌≡◌, ◌≤◌, ◌<◌, ◌^◌};
 ghost use Rattle.flow.specs.Refusals.{one};
 ghost use Rattle.flow.specs.Answers.{found_values, chart_told, judge_told, run_told, label_told};

@@ -1,4 +1,6 @@
 // Refusal 3, the table's column of arguments.
+#![tactic(auto)]
+
 ghost use Rattle.std.specs.Prelude.{◌≡◌, ◌&&◌, ◌^◌, ◌%◌, ◌/◌, ltb};
 ghost use Rattle.flow.specs.Kinds.{argument_fits};
 

@@ -1,5 +1,7 @@
 // What holds inside a block, as a struct whose methods take it and hand it back: "Break target, continue target and scope end return to
 // their outer settings when a body closes".
+#![tactic(auto)]
+
 ghost use Rattle.std.specs.Prelude.{◌≡◌};
 ghost use Rattle.block_settings.specs.Settings.{scope_settings, loop_settings};
 

@@ -1,4 +1,6 @@
 // The scan for the labels that stand directly in a block, one item at a time: what the graph's builders and the label check share.
+#![tactic(auto)]
+
 ghost use Rattle.std.specs.Prelude.{◌≡◌, ◌-◌, ◌<◌};
 ghost use Rattle.blocks.specs.Open.{ends_at, depth_after};
 

@@ -1,4 +1,6 @@
 // Both lists of findings, a pass over all locals for each (local_flow.rs).
+#![tactic(auto)]
+
 ghost use Rattle.std.specs.Prelude.{◌+◌, ◌≤◌, length};
 ghost use Rattle.locals.specs.Entries.{Room};
 ghost use Rattle.both_lists.specs.Passes.{AnyPair, Finds, Walks};

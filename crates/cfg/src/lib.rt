@@ -1,4 +1,6 @@
 // The builders of a sheet's graph: a block holds statements, and a statement holds blocks.
+#![tactic(auto)]
+
 ghost use Rattle.std.specs.Prelude.{◌≡◌, true, false, ◌+◌, ◌≤◌, ◌<◌, length, get_or};
 ghost use Rattle.flow.specs.Sheet.{kind_of};
 ghost use Rattle.search.specs.Lent.{held, left};

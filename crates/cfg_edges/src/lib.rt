@@ -1,4 +1,6 @@
 // The edges of a graph that is being built: an edge in its word, and the node that a label's name stands for.
+#![tactic(auto)]
+
 ghost use Rattle.std.specs.Prelude.{◌≡◌, cond, ◌⊎◌, ◌≤◌, ◌<◌, ◌^◌, length};
 ghost use Rattle.flow.specs.Graph.{label_node};
 ghost use Rattle.cfg_edges.specs.Halves.{joined, label_list};

@@ -1,5 +1,7 @@
 // What the builders do to a graph, one step each. While a graph is built, a word holds both successors of a node, a code's word its node and
 // its item, a name's word its node, item and scope end, and a label's word its name and node.
+#![tactic(auto)]
+
 ghost use Rattle.std.specs.Prelude.{◌≡◌, true, false, cond, eqb, List, [], ◌∷◌, ℕ, ◌+◌, ◌≤◌, ◌<◌, ◌^◌, length, get_or};
 ghost use Rattle.flow.specs.Sheet.{kind_of, argument_of};
 ghost use Rattle.flow.specs.Graph.{new_node, advance_to, code, close_into, jump, record_code, declare, connect, set_current, enter_when, unless_true};

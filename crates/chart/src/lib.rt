@@ -1,4 +1,6 @@
 // The chart of an admitted sheet: its graph, built in words and taken apart into the columns that are lent.
+#![tactic(auto)]
+
 ghost use Rattle.std.specs.Prelude.{List, ℕ};
 ghost use Rattle.flow.specs.Admitted.{AdmittedSheet};
 ghost use Rattle.search.specs.Lent.{held};

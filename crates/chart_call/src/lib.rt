@@ -1,4 +1,6 @@
 // The call chart of document 01: it takes any sheet, and answers as its definition does.
+#![tactic(auto)]
+
 ghost use Rattle.chart.specs.Lent.{lent};
 ghost use Rattle.chart_call.specs.Promises.{ChartPromise};
 

@@ -1,4 +1,6 @@
 // What run answers of an admitted sheet, by a chart of it.
+#![tactic(auto)]
+
 ghost use Rattle.std.specs.Prelude.{◌≡◌};
 ghost use Rattle.flow.specs.declared.RunAnswer.TheVariants.{Ran};
 ghost use Rattle.flow.specs.Graph.{graph};

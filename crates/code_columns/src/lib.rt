@@ -1,4 +1,6 @@
 // The words of a built graph's codes, taken apart in place into the columns of its chart: the nodes and spans of codes, and the starts of nodes.
+#![tactic(auto)]
+
 ghost use Rattle.std.specs.Prelude.{◌≡◌, [], ◌∷◌, ◌++◌, map, ℕ, ◌≤◌, ◌<◌, length, get_or, set, take, drop, replicate};
 ghost use Rattle.cfg_edges.specs.Halves.{lo, hi};
 ghost use Rattle.cfg_steps.specs.Columns.{painted};

@@ -1,4 +1,6 @@
 // Refusal 1: each call measures the columns that it is lent.
+#![tactic(auto)]
+
 ghost use Rattle.std.specs.Prelude.{◌≡◌, ◌||◌, [], ◌∷◌, ltb};
 ghost use Rattle.column_lengths.specs.Lengths.{chart_too_short, judge_too_short};
 

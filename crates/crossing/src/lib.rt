@@ -1,4 +1,6 @@
 // Which uses cross a function boundary, by a scope sheet, and their words with the crossing so (scope.rs).
+#![tactic(auto)]
+
 ghost use Rattle.std.specs.Prelude.{◌≡◌, cond, List, ◌++◌, ℕ, ◌+◌, ◌≤◌, ◌<◌, length, get_or, drop, eqb};
 ghost use Rattle.search.specs.Lent.{held, left};
 ghost use Rattle.flow.specs.Sheet.{local_of};

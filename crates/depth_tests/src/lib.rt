@@ -1,4 +1,6 @@
 // Refusal 4, too deep: among some first items the openers outnumber the closers by more than 64.
+#![tactic(auto)]
+
 ghost use Rattle.std.specs.Prelude.{◌≡◌, ◌≤◌, length};
 ghost use Rattle.flow.specs.Sheet.{zip};
 ghost use Rattle.flow.specs.Refusals.{outnumbered};

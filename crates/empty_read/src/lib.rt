@@ -1,4 +1,6 @@
 // A local's first unassigned use: the first read that no write can reach, by the marks of its live walk (local_flow.rs).
+#![tactic(auto)]
+
 ghost use Rattle.std.specs.Prelude.{◌≡◌, [], ℕ, ◌<◌, length};
 ghost use Rattle.search.specs.Lent.{held, left};
 ghost use Rattle.search.specs.Stamps.{flags_of, Stamped};

@@ -1,4 +1,6 @@
 // What the passes over locals ask of each name, in one word a name (local_flow.rs).
+#![tactic(auto)]
+
 ghost use Rattle.std.specs.Prelude.{◌≡◌, Bool, false, not, ◌≤◌, length};
 ghost use Rattle.search.specs.Lent.{held};
 ghost use Rattle.flow.specs.Locals.{Local, no_value, tracked, writes_judged, captured};

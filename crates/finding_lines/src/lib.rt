@@ -1,4 +1,6 @@
 // The lines of findings, written into a lent output.
+#![tactic(auto)]
+
 ghost use Rattle.std.specs.Prelude.{◌≡◌, ◌-◌, ◌≤◌, length};
 ghost use Rattle.flow.specs.Listing;
 ghost use Rattle.line_writer.specs.Output.{Room, Appended};

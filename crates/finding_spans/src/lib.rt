@@ -1,4 +1,6 @@
 // The spans of findings, from their words.
+#![tactic(auto)]
+
 ghost use Rattle.std.specs.Prelude.{◌≡◌, ◌++◌, map, ◌≤◌, length, take, drop};
 ghost use Rattle.search.specs.Lent.{held, left};
 ghost use Rattle.finding_spans.specs.Spans.{span_of, Names, Known};

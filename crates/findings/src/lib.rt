@@ -1,4 +1,6 @@
 // The findings of an admitted pair of sheets, by the chart of the first.
+#![tactic(auto)]
+
 ghost use Rattle.flow.specs.Scopes.{use_sheet};
 ghost use Rattle.flow.specs.Admitted.{AdmittedSheet, AdmittedUses};
 ghost use Rattle.search.specs.Lent.{held};

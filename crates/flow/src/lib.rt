@@ -1,4 +1,5 @@
 // The answers that the definitions of `specs/` and the calls share. No code of its own.
+#![tactic(auto)]
 
 // What a condition is known to be.
 #[derive(Clone, Copy)]

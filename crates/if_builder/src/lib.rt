@@ -1,4 +1,6 @@
 // An IF between two of its arms.
+#![tactic(auto)]
+
 ghost use Rattle.std.specs.Prelude.{◌≡◌, false};
 
 use cfg_steps::GraphBuilder;

@@ -1,4 +1,6 @@
 // Refusal 3, bad item: a kind, an argument, word 1 or a span that is not as the table has it.
+#![tactic(auto)]
+
 ghost use Rattle.std.specs.Prelude.{◌≡◌, ◌&&◌, ◌||◌, not, ◌^◌, ◌≤◌, length, ltb, leb, eqb};
 ghost use Rattle.flow.specs.Sheet.{all, zip, start_of, end_of};
 ghost use Rattle.flow.specs.Kinds.{spanless, item_fits};

@@ -1,4 +1,6 @@
 // Judge: the graph of a sheet and the findings of its locals.
+#![tactic(auto)]
+
 ghost use Rattle.search.specs.Lent.{held};
 ghost use Rattle.chart.specs.Lent.{lent};
 ghost use Rattle.judge.specs.Lent.{JudgePromise, judge_lent};

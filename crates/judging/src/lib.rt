@@ -1,4 +1,6 @@
 // The chart and the findings of an admitted pair of sheets.
+#![tactic(auto)]
+
 ghost use Rattle.std.specs.Prelude.{◌≡◌, false};
 ghost use Rattle.flow.specs.declared.Verdict.TheVariants.{Admitted};
 ghost use Rattle.flow.specs.Refusals.{sheet_verdict};

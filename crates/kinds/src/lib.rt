@@ -1,4 +1,6 @@
 // What a kind word says, asked here and nowhere else: whether an item is code, gives its node a start or is a label that has a name, whether its kind opens, closes or ends a block, what a condition is known to be and may turn out to be, and whether a call raises.
+#![tactic(auto)]
+
 ghost use Rattle.std.specs.Prelude.{◌≡◌, ℕ};
 ghost use Rattle.flow.specs.Kinds.{is_code, opens, closes, literal_truth, raises};
 ghost use Rattle.kinds.specs.Ends.{ends_block};

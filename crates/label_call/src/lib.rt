@@ -1,4 +1,6 @@
 // The label check of document 01, as a call: it takes any sheet, and answers as its definition does.
+#![tactic(auto)]
+
 ghost use Rattle.std.specs.Prelude.{◌≡◌};
 ghost use Rattle.flow.specs.Answers.{label_told};
 ghost use Rattle.flow.specs.Labels.{label_check};

@@ -1,4 +1,6 @@
 // The label check: no two labels of a name stand directly in a block, and every GOTO finds a label.
+#![tactic(auto)]
+
 ghost use Rattle.std.specs.Prelude.{◌≡◌, true, List, ℕ, ◌+◌, ◌<◌, length};
 ghost use Rattle.flow.specs.Sheet.{zip};
 ghost use Rattle.flow.specs.Tree.{tree};

@@ -1,4 +1,6 @@
 // The labels in sight at an item of a walk over a sheet, and whether one is repeated or missed so far.
+#![tactic(auto)]
+
 ghost use Rattle.std.specs.Prelude.{◌≡◌, List, [], ◌∷◌, ℕ, ◌+◌, ◌≤◌, ◌<◌, length, take, drop, set};
 ghost use Rattle.flow.specs.Sheet.{member};
 ghost use Rattle.blocks.specs.Open.{labels_at, labels_here};

@@ -1,4 +1,6 @@
 // Refusal 6, off the line: code that starts before the code before it ends, or ends past the scope end of a block around it.
+#![tactic(auto)]
+
 ghost use Rattle.std.specs.Prelude.{◌≡◌, true, false, cond, ◌&&◌, not, [], ◌∷◌, ◌+◌, ◌%◌, ◌≤◌, ◌<◌, length};
 ghost use Rattle.flow.specs.Sheet.{zip, end_of};
 ghost use Rattle.flow.specs.Kinds.{is_code};

@@ -1,4 +1,6 @@
 // Bytes appended to an output: each function writes from `at` on, and returns the place after.
+#![tactic(auto)]
+
 ghost use Rattle.std.specs.Prelude.{◌≡◌, [], ◌∷◌, ◌++◌, ◌+◌, ◌<◌};
 ghost use Rattle.flow.specs.Listing;
 ghost use Rattle.line_writer.specs.Output.{Room, Appended};

@@ -1,4 +1,6 @@
 // The lines that flowlist prints, written into a lent output.
+#![tactic(auto)]
+
 ghost use Rattle.std.specs.Prelude.{[], ◌≤◌, length};
 ghost use Rattle.flow.specs.Refusals;
 ghost use Rattle.flow.specs.Answers.{count_values, judge_told, findings_told};

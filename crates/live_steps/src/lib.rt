@@ -1,5 +1,7 @@
 // The steps of a live walk: which nodes a live path can enter, and how those after a node are pushed (local_flow.rs).
 // Nodes are marked by a stamp that is new for each local, so that a walk costs what it visits.
+#![tactic(auto)]
+
 ghost use Rattle.std.specs.Prelude.{◌≡◌, ◌&&◌, ◌<◌, ◌≤◌, length, ltb};
 ghost use Rattle.search.specs.Lent.{held, left, st_at};
 ghost use Rattle.search.specs.Worklist.{st};

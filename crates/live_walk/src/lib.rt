@@ -1,4 +1,6 @@
 // The live walk of one local: the nodes that a live path from after a write ends at (local_flow.rs).
+#![tactic(auto)]
+
 ghost use Rattle.std.specs.Prelude.{◌≡◌, ◌<◌, ◌≤◌};
 ghost use Rattle.search.specs.Lent.{held, left, st_at};
 ghost use Rattle.search.specs.Worklist.{st};

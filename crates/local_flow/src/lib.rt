@@ -1,4 +1,6 @@
 // The findings of all locals, from the columns of a chart and a use sheet (local_flow.rs).
+#![tactic(auto)]
+
 ghost use Rattle.std.specs.Prelude.{◌≤◌, length};
 ghost use Rattle.locals.specs.Entries.{Room};
 ghost use Rattle.local_flow.specs.Sheets.{AnySheets, Finds};

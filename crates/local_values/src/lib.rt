@@ -1,4 +1,6 @@
 // The overwritten values of one local: the marks of its next uses, its initial value, its writes (local_flow.rs).
+#![tactic(auto)]
+
 ghost use Rattle.std.specs.Prelude.{[], ◌∷◌, ◌+◌, ◌<◌, ◌≤◌, length, take};
 ghost use Rattle.search.specs.Lent.{held, left};
 ghost use Rattle.use_words.specs.Words.{use_of, uses_in, AllPlaced};

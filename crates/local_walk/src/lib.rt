@@ -1,4 +1,6 @@
 // The walk of one local: how many nodes it visits, and the local's first unassigned use (local_flow.rs).
+#![tactic(auto)]
+
 ghost use Rattle.std.specs.Prelude.{◌≤◌};
 ghost use Rattle.search.specs.Lent.{held, left};
 ghost use Rattle.search.specs.Stamps.{Stamped, Unmarked};

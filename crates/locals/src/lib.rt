@@ -1,4 +1,6 @@
 // What the passes over locals share: a local's declaration, its part of the uses, and the list of findings that they write (local_flow.rs).
+#![tactic(auto)]
+
 ghost use Rattle.std.specs.Prelude.{◌≡◌, [], ◌∷◌, ◌<◌, length, get_or};
 ghost use Rattle.search.specs.Lent.{held};
 ghost use Rattle.locals.specs.Columns.{Cut, held_part};

@@ -1,4 +1,6 @@
 // Where the nodes of a loop stand, by the first of them: in a row, as they are made.
+#![tactic(auto)]
+
 ghost use Rattle.std.specs.Prelude.{◌≡◌, ◌+◌, ◌≤◌};
 
 // Where BREAK and CONTINUE go.

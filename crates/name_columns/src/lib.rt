@@ -1,4 +1,6 @@
 // The words of a built graph's names, taken apart in place into the columns of its chart: nodes, spans and scope ends.
+#![tactic(auto)]
+
 ghost use Rattle.std.specs.Prelude.{◌≡◌, ◌++◌, map, ℕ, ◌≤◌, ◌<◌, length, get_or, set, take, drop};
 ghost use Rattle.cfg_edges.specs.Halves.{hi};
 ghost use Rattle.cfg_steps.specs.Columns.{node_of_name, name_item};

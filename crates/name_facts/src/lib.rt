@@ -1,4 +1,6 @@
 // The facts of each name of a sheet, found by the words of its items (local_flow.rs).
+#![tactic(auto)]
+
 ghost use Rattle.std.specs.Prelude.{◌≡◌, ◌/◌, ◌<◌, ◌≤◌, length};
 ghost use Rattle.search.specs.Lent.{held, left};
 ghost use Rattle.facts.specs.Facts.{facts_of};

@@ -1,4 +1,6 @@
 // Refusal 7, bad name: a NAME span empty, outside its LOCAL, or starting before the previous NAME of that LOCAL ends.
+#![tactic(auto)]
+
 ghost use Rattle.std.specs.Prelude.{◌≡◌, not, ◌≤◌, length};
 ghost use Rattle.flow.specs.Sheet.{zip};
 ghost use Rattle.flow.specs.Refusals.{name_fits, names_fit};

@@ -1,4 +1,6 @@
 // Refusal 5, bad nesting: openers and closers that do not pair, arms outside an IF, and neighbours that may not stand side by side.
+#![tactic(auto)]
+
 ghost use Rattle.std.specs.Prelude.{◌≡◌, true, false, ◌&&◌, not, [], ◌∷◌, ◌+◌, ◌≤◌, length};
 ghost use Rattle.flow.specs.Sheet.{member, zip};
 ghost use Rattle.flow.specs.Kinds.{kinds, opens};

@@ -1,4 +1,6 @@
 // Which nodes see a read or a pure write of a local ahead, found backwards from its uses (local_flow.rs).
+#![tactic(auto)]
+
 ghost use Rattle.std.specs.Prelude.{◌≡◌, ◌<◌, ◌≤◌, length, get_or};
 ghost use Rattle.search.specs.Stamps.{Fresh, Stamped, Unmarked, stamp_all};
 ghost use Rattle.search.specs.Lent.{held, left, st_at};

@@ -1,4 +1,6 @@
 // The words of a built graph's nodes, taken apart in place into the columns of its chart: successors, and reachable flags.
+#![tactic(auto)]
+
 ghost use Rattle.std.specs.Prelude.{◌≡◌, ◌++◌, map, ◌≤◌, ◌<◌, length, get_or, set, take, drop};
 ghost use Rattle.flow.specs.Graph.{entry_node};
 ghost use Rattle.cfg_edges.specs.Halves.{lo, hi};

@@ -1,4 +1,6 @@
 // The number of a refusal, and of each answer, as code.
+#![tactic(auto)]
+
 ghost use Rattle.std.specs.Prelude.{◌≡◌, [], ◌≤◌};
 ghost use Rattle.flow.specs.Refusals;
 ghost use Rattle.flow.specs.Answers.{tells, chart_told, run_told, judge_told, label_told};

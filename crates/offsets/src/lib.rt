@@ -1,4 +1,6 @@
 // The node of an offset, and whether its code can run (cfg.rs).
+#![tactic(auto)]
+
 ghost use Rattle.std.specs.Prelude.{◌≡◌, true, List, ℕ, ◌≤◌, length, take};
 ghost use Rattle.flow.specs.Graph.{Graph, node_count};
 ghost use Rattle.flow.specs.Reachable.{reachable as reachableFlags, node_among, can_run};

@@ -1,4 +1,6 @@
 // The overwritten findings: values that a later write replaces on some path and no path reads (local_flow.rs).
+#![tactic(auto)]
+
 ghost use Rattle.std.specs.Prelude.{◌+◌, ◌-◌, ◌<◌, ◌≤◌, get_or, take};
 ghost use Rattle.search.specs.Lent.{held, left};
 ghost use Rattle.predecessors.specs.Predecessors.{Linked};

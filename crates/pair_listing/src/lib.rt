@@ -1,4 +1,6 @@
 // A sheet and a use sheet in, the printed lines out.
+#![tactic(auto)]
+
 ghost use Rattle.std.specs.Prelude.{◌≤◌, length};
 ghost use Rattle.flow.specs.Listing.{sheets_print};
 ghost use Rattle.line_writer.specs.Output.{Printed};

@@ -1,4 +1,6 @@
 // The predecessors of each node, as chains through one column of words, and the search's way back along them (local_flow.rs).
+#![tactic(auto)]
+
 ghost use Rattle.std.specs.Prelude.{◌≡◌, List, ℕ, ◌<◌, ◌≤◌, length, get_or, take};
 ghost use Rattle.search.specs.Worklist.{st};
 ghost use Rattle.search.specs.Stamps.{stamp_when, Ready};

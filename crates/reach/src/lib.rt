@@ -1,4 +1,6 @@
 // What can run: the nodes that a path from the entry reaches (cfg.rs).
+#![tactic(auto)]
+
 ghost use Rattle.std.specs.Prelude.{◌≡◌, ◌<◌, ◌≤◌, length, take, drop, ltb};
 ghost use Rattle.search.specs.Worklist.{st, push_all, push_if, Room};
 ghost use Rattle.flow.specs.Graph.{entry_node};

@@ -1,4 +1,6 @@
 // The call run of document 01: it takes any sheet and any offset, and answers as its definition does.
+#![tactic(auto)]
+
 ghost use Rattle.run.specs.Promises.{RunPromise};
 
 use chart_run::run_in;

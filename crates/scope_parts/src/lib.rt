@@ -1,4 +1,6 @@
 // The parts of a scope sheet: two arrays, and behind them a scope number a word, of names and then of uses.
+#![tactic(auto)]
+
 ghost use Rattle.std.specs.Prelude.{◌≡◌};
 ghost use Rattle.flow.specs.Scopes.{scope_kinds, parent_words, scope_numbers};
 ghost use Rattle.scope_parts.specs.Parts.{ScopesCounted};

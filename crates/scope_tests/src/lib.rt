@@ -1,4 +1,6 @@
 // Refusal 9, bad scope: "the scope sheet's count, length or a kind is wrong, a parent isn't a lower number, or a use or name gives a scope not in it".
+#![tactic(auto)]
+
 ghost use Rattle.std.specs.Prelude.{◌≡◌, ◌≤◌};
 ghost use Rattle.flow.specs.Sheet.{all};
 ghost use Rattle.flow.specs.Scopes.{is_below, parents_lower, scopes_wrong};

@@ -1,4 +1,6 @@
 // Admission of a sheet, a use sheet and a scope sheet: the verdict of the pair, and behind it refusal 9.
+#![tactic(auto)]
+
 ghost use Rattle.std.specs.Prelude.{◌≡◌};
 ghost use Rattle.flow.specs.Scopes.{bad_scopes, scoped_verdict};
 ghost use Rattle.flow.specs.Admitted.{AdmittedSheet, AdmittedUses};

@@ -1,4 +1,6 @@
 // The findings of an admitted pair, with the crossings of its uses as a scope sheet has them, where one comes.
+#![tactic(auto)]
+
 ghost use Rattle.std.specs.Prelude.{◌≡◌, false};
 ghost use Rattle.search.specs.Lent.{held};
 ghost use Rattle.flow.specs.Sheet.{items};

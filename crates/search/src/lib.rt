@@ -1,4 +1,6 @@
 // Searches in a graph: definitions and laws that every search of the repository cites, and the worklist that each search drives.
+#![tactic(auto)]
+
 ghost use Rattle.std.specs.Prelude.{◌≡◌, ◌++◌, ◌<◌, ◌≤◌, length, get_or, drop, replicate};
 ghost use Rattle.search.specs.Worklist.{st, push, Room};
 ghost use Rattle.search.specs.Stamps.{stamp_push};

@@ -1,4 +1,6 @@
 // "the two arrays are parts of one lent sheet": each array as a part that starts inside its sheet.
+#![tactic(auto)]
+
 ghost use Rattle.std.specs.Prelude.{◌≡◌};
 ghost use Rattle.flow.specs.Sheet.{kind_words, span_words, use_words, use_spans};
 ghost use Rattle.sheet_parts.specs.Parts.{Counted};

@@ -1,4 +1,6 @@
 // The tables and both lists of a pair, in memory of one of two sizes.
+#![tactic(auto)]
+
 ghost use Rattle.std.specs.Prelude.{◌≤◌, length};
 ghost use Rattle.locals.specs.Entries.{Room};
 ghost use Rattle.sized_flow.specs.Given.{AnyGiven, FindsGiven};

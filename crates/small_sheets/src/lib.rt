@@ -1,4 +1,6 @@
 // Which sheets are judged in little memory.
+#![tactic(auto)]
+
 ghost use Rattle.std.specs.Prelude.{◌≡◌, true, ◌≤◌};
 
 // So many nodes, names and uses a small sheet has at most.

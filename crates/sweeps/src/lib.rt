@@ -1,4 +1,6 @@
 // What the tests of items share: the laws of a sweep (`proofs/Sweep.antt`), which those of refusals 3 to 8 are, and what a test adds to a count.
+#![tactic(auto)]
+
 ghost use Rattle.std.specs.Prelude.{◌≡◌};
 ghost use Rattle.flow.specs.Refusals;
 

@@ -1,4 +1,6 @@
 // The unassigned findings: for each local without a value its first read that no write can reach (local_flow.rs).
+#![tactic(auto)]
+
 ghost use Rattle.std.specs.Prelude.{◌≡◌, ◌+◌, ◌<◌, ◌≤◌, length, set};
 ghost use Rattle.search.specs.Lent.{held, left};
 ghost use Rattle.search.specs.Stamps.{Unmarked};

@@ -1,4 +1,6 @@
 // Refusal 8, bad use: a local number not below the names, a high part that is no kind and crossing, or a span with its start past its end.
+#![tactic(auto)]
+
 ghost use Rattle.std.specs.Prelude.{◌≡◌, not, [], ◌∷◌, ◌≤◌, length};
 ghost use Rattle.flow.specs.Sheet.{member, zip};
 ghost use Rattle.flow.specs.Refusals.{name_count, use_fits, uses_fit};

@@ -1,4 +1,6 @@
 // A use in one word, as the walks over a local's uses take it: what they ask of it stands together.
+#![tactic(auto)]
+
 ghost use Rattle.std.specs.Prelude.{◌≡◌, ◌&&◌, ◌<◌, eqb};
 ghost use Rattle.flow.specs.declared.Found.TheVariants.{At};
 ghost use Rattle.flow.specs.Sheet.{local_of, use_kind_of, crossing_of};

@@ -1,4 +1,6 @@
 // A local's uses by node, and which of its writes are overwritten unread, by the marks of what is ahead (local_flow.rs).
+#![tactic(auto)]
+
 ghost use Rattle.std.specs.Prelude.{◌≡◌, ◌&&◌, ◌+◌, ◌<◌, ◌≤◌, length, get_or, drop, ltb, eqb};
 ghost use Rattle.search.specs.Stamps.{flags_of};
 ghost use Rattle.search.specs.Lent.{held};

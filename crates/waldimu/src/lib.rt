@@ -1,4 +1,6 @@
 // The calls for a unit's C code. A slice crosses as a pointer and a count of words, an answer as one word.
+#![tactic(auto)]
+
 ghost use Rattle.search.specs.Lent.{held};
 ghost use Rattle.chart.specs.Lent.{lent};
 ghost use Rattle.judge.specs.Lent.{judge_lent};

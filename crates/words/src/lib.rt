@@ -1,4 +1,6 @@
 // The numbers that words are made of, which code names and never spells out: kinds, exits, the fields of a word, what is absent, and the most that a sheet has.
+#![tactic(auto)]
+
 pub mod exit;
 pub mod finding;
 pub mod kind;

@@ -50,7 +50,9 @@ says c f e = on_items f (sheet c) c.kinds-kinds.ensures c.spans-spans.ensures e
 -- ---- each test, and the verdict of those behind it where it passes
 item_is : (c : After-bad_item) → bad_item (sheet (goal.at.After-bad_item c).After-spans-spans) ≡ c.bad_item.result
 unfolding bad_item
-item_is c = says (goal.at.After-bad_item c).After-spans-spans (λ (is : List Item). not (ltb (outer_end (sheet (goal.at.After-bad_item c).After-spans-spans)) (2 ^ 32) && all item_fits is)) c.bad_item.ensures
+item_is c =
+    let d = (goal.at.After-bad_item c).After-spans-spans in
+    says d (λ (is : List Item). not (ltb (outer_end (sheet d)) (2 ^ 32) && all item_fits is)) c.bad_item.ensures
 
 behind_3 : (c : Else-bad_item) → first_applying (item_tests (sheet (goal.at.Else-bad_item c).After-spans-spans)) ≡ first_applying (from_4 (sheet (goal.at.Else-bad_item c).After-spans-spans))
 unfolding item_tests
@@ -72,7 +74,9 @@ behind_5 c = behind_4 (goal.at.Else-bad_nesting c).Else-too_deep ∙ passes_firs
 
 line_is : (c : After-off_the_line) → off_the_line (sheet (goal.at.After-off_the_line c).After-spans-spans) ≡ c.off_the_line.result
 unfolding off_the_line
-line_is c = says (goal.at.After-off_the_line c).After-spans-spans (λ (is : List Item). not (in_order 0 is && inside_scopes (outer_end (sheet (goal.at.After-off_the_line c).After-spans-spans) ∷ []) is)) c.off_the_line.ensures
+line_is c =
+    let d = (goal.at.After-off_the_line c).After-spans-spans in
+    says d (λ (is : List Item). not (in_order 0 is && inside_scopes (outer_end (sheet d) ∷ []) is)) c.off_the_line.ensures
 
 behind_6 : (c : Else-off_the_line) → first_applying (item_tests (sheet (goal.at.Else-off_the_line c).After-spans-spans)) ≡ first_applying (from_7 (sheet (goal.at.Else-off_the_line c).After-spans-spans))
 behind_6 c = behind_5 (goal.at.Else-off_the_line c).Else-bad_nesting ∙ passes_first _ _ (line_is (goal.at.Else-off_the_line c).After-off_the_line ∙ c.if-off_the_line.false)
@@ -96,13 +100,13 @@ pub returns-then-too_deep : goal.returns-then-too_deep
 returns-then-too_deep c = sym (behind_3 (goal.at.returns-then-too_deep c).Else-bad_item ∙ applies_first _ _ (depth_is (goal.at.returns-then-too_deep c).After-too_deep ∙ c.if-too_deep.true))
 
 pub bad_nesting-requires : goal.bad_nesting-requires
-bad_nesting-requires c = record { kinds_len = lengths (goal.at.bad_nesting-requires c).After-spans-spans; spans_value = sym c.too_deep.ensures ∙ c.if-too_deep.false; }
+bad_nesting-requires c = record { kinds_len = lengths (goal.at.bad_nesting-requires c).After-spans-spans; spans_value = sym c.too_deep.ensures ∙ c.if-too_deep.false }
 
 pub returns-then-bad_nesting : goal.returns-then-bad_nesting
 returns-then-bad_nesting c = sym (behind_4 (goal.at.returns-then-bad_nesting c).Else-too_deep ∙ applies_first _ _ (nesting_is (goal.at.returns-then-bad_nesting c).After-bad_nesting ∙ c.if-bad_nesting.true))
 
 pub off_the_line-requires : goal.off_the_line-requires
-off_the_line-requires c = record { kinds_len = lengths (goal.at.off_the_line-requires c).After-spans-spans; spans_value = sym c.too_deep.ensures ∙ c.if-too_deep.false; spans_value_2 = (and_both _ _ (not-false _ (sym c.bad_nesting.ensures ∙ c.if-bad_nesting.false))).0; }
+off_the_line-requires c = record { kinds_len = lengths (goal.at.off_the_line-requires c).After-spans-spans; spans_value = sym c.too_deep.ensures ∙ c.if-too_deep.false; spans_value_2 = (and_both _ _ (not-false _ (sym c.bad_nesting.ensures ∙ c.if-bad_nesting.false))).0 }
 
 pub returns-then-off_the_line : goal.returns-then-off_the_line
 returns-then-off_the_line c = sym (behind_5 (goal.at.returns-then-off_the_line c).Else-bad_nesting ∙ applies_first _ _ (line_is (goal.at.returns-then-off_the_line c).After-off_the_line ∙ c.if-off_the_line.true))

@@ -35,18 +35,24 @@ leading_are c = sym (c.leading_verdict-leading.ensures ∙ ap (λ (b : Bool). fi
 
 -- where they pass
 well : (c : In_default) → (miscount 2 (sheet (goal.at.In_default c).After-leading_verdict-leading) ≡ false) × (miscount 1 (uses (goal.at.In_default c).After-leading_verdict-leading) ≡ false)
-well c = neither (miscount 2 (sheet (goal.at.In_default c).After-leading_verdict-leading)) _ (passed (leading (goal.at.In_default c).After-leading_verdict-leading) (leading_are (goal.at.In_default c).After-leading_verdict-leading ∙ c.in_default.is) 2)
+well c =
+    let d = (goal.at.In_default c).After-leading_verdict-leading in
+    neither (miscount 2 (sheet d)) _ (passed (leading d) (leading_are d ∙ c.in_default.is) 2)
 
 behind_7 : (c : In_default) → pair_verdict (short (goal.at.In_default c).After-leading_verdict-leading) (sheet (goal.at.In_default c).After-leading_verdict-leading) (uses (goal.at.In_default c).After-leading_verdict-leading) ≡ first_applying (from_8 (goal.at.In_default c).After-leading_verdict-leading)
 unfolding pair_verdict pair_tests
-behind_7 c = admitted_before (leading (goal.at.In_default c).After-leading_verdict-leading) (from_8 (goal.at.In_default c).After-leading_verdict-leading) (leading_are (goal.at.In_default c).After-leading_verdict-leading ∙ c.in_default.is)
+behind_7 c =
+    let d = (goal.at.In_default c).After-leading_verdict-leading in
+    admitted_before (leading d) (from_8 d) (leading_are d ∙ c.in_default.is)
 
 pub leading_verdict-leading-requires : goal.leading_verdict-leading-requires
 leading_verdict-leading-requires c = λ e. counted 2 _ (neither _ _ (sym c.either_miscounted.ensures ∙ e)).0
 
 pub returns-in-Refused : goal.returns-in-Refused
 unfolding pair_verdict pair_tests
-returns-in-Refused c = sym (refused_before (leading (goal.at.returns-in-Refused c).After-leading_verdict-leading) (from_8 (goal.at.returns-in-Refused c).After-leading_verdict-leading) _ (leading_are (goal.at.returns-in-Refused c).After-leading_verdict-leading ∙ c.in-Refused.is))
+returns-in-Refused c =
+    let d = (goal.at.returns-in-Refused c).After-leading_verdict-leading in
+    sym (refused_before (leading d) (from_8 d) _ (leading_are d ∙ c.in-Refused.is))
 
 pub use_is_bad-requires : goal.use_is_bad-requires
 use_is_bad-requires c = (counted 2 _ (well c).0, counted 1 _ (well c).1)

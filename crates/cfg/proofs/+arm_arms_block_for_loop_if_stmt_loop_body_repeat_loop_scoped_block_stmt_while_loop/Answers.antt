@@ -28,7 +28,7 @@ pub arm-bounds-kinds-at : goal.arm-bounds-kinds-at
 arm-bounds-kinds-at t c = c.requires.at_arm.2
 
 pub arm-arm_test-h-requires : goal.arm-arm_test-h-requires
-arm-arm_test-h-requires t c = record { by_index = (_, _, (good_item (c.args.s.builder.item + 1) (omega arith) (omega arith) c.requires.at_arm.1)); nodes_bound = (omega (arith, elseif_room c.args.kinds.now c.args.kinds.now refl c.args.s.builder c.requires.at_arm.2 c.requires.at_arm.4 c.if-w-eq-ELSEIF.true), omega arith, omega arith, c.requires.test_lt_nodes.0); }
+arm-arm_test-h-requires t c = record { by_index = (_, _, (good_item (c.args.s.builder.item + 1) (omega arith) (omega arith) c.requires.at_arm.1)); nodes_bound = (omega (arith, elseif_room c.args.kinds.now c.args.kinds.now refl c.args.s.builder c.requires.at_arm.2 c.requires.at_arm.4 c.if-w-eq-ELSEIF.true), omega arith, omega arith, c.requires.test_lt_nodes.0) }
 
 pub arm-scoped_block-b-requires : goal.arm-scoped_block-b-requires
 arm-scoped_block-b-requires t c =
@@ -39,7 +39,7 @@ pub arm-close_into-c-requires : goal.arm-close_into-c-requires
 arm-close_into-c-requires t c =
     let hd = c.arm_test-h.ensures c.args.kinds.now _ _ (good_item (c.args.s.builder.item + 1) (omega arith) (omega arith) c.requires.at_arm.1) (code_starts _ 6 c.if-w-eq-ELSEIF.true (lit≤ tt)) in
     let s = (c.scoped_block-b.ensures c.args.kinds.now refl).moved in
-    record { standing = stands s.good; target_lt_nodes = omega (arith, s.grown.nodes, hd.nodes); }
+    record { standing = stands s.good; target_lt_nodes = omega (arith, s.grown.nodes, hd.nodes) }
 
 pub arm-returns-then-w-eq-ELSEIF : goal.arm-returns-then-w-eq-ELSEIF
 arm-returns-then-w-eq-ELSEIF t c =
@@ -57,7 +57,7 @@ arm-scoped_block-b-requires-2 t c =
 pub arm-close_into-c-requires-2 : goal.arm-close_into-c-requires-2
 arm-close_into-c-requires-2 t c =
     let s = (c.scoped_block-b-2.ensures c.args.kinds.now refl).moved in
-    record { standing = stands s.good; target_lt_nodes = omega (arith, s.grown.nodes); }
+    record { standing = stands s.good; target_lt_nodes = omega (arith, s.grown.nodes) }
 
 pub arm-returns : goal.arm-returns
 arm-returns t c =
@@ -90,7 +90,7 @@ arms-past-requires t c = let g = c.loop-at.invariant.1 c.args.kinds.now refl in 
 pub arms-arms_end-requires : goal.arms-arms_end-requires
 arms-arms_end-requires t c =
     let g = c.loop-at.invariant.1 c.args.kinds.now refl in
-    record { by_index = (_, _, _, (good_item c.past.result (omega arith) (omega arith) g.moved.good)); test_lt_nodes = (g.tested, omega (arith, g.moved.grown.nodes)); }
+    record { by_index = (_, _, _, (good_item c.past.result (omega arith) (omega arith) g.moved.good)); test_lt_nodes = (g.tested, omega (arith, g.moved.grown.nodes)) }
 
 pub arms-returns : goal.arms-returns
 arms-returns t c =
@@ -134,7 +134,7 @@ pub for_loop-bounds-kinds-i : goal.for_loop-bounds-kinds-i
 for_loop-bounds-kinds-i t c = c.requires.4
 
 pub for_loop-for_head-h-requires : goal.for_loop-for_head-h-requires
-for_loop-for_head-h-requires t c = record { by_index = (_, _, c.requires.1); nodes_bound = (omega (arith, for_room c.args.kinds.now c.args.kinds.now refl c.args.i c.requires.4 c.args.b c.requires.6 c.requires.5), c.requires.3, omega arith); }
+for_loop-for_head-h-requires t c = record { by_index = (_, _, c.requires.1); nodes_bound = (omega (arith, for_room c.args.kinds.now c.args.kinds.now refl c.args.i c.requires.4 c.args.b c.requires.6 c.requires.5), c.requires.3, omega arith) }
 
 pub for_loop-loop_body-s-requires : goal.for_loop-loop_body-s-requires
 for_loop-loop_body-s-requires t c =
@@ -150,7 +150,7 @@ pub for_loop-past-requires : goal.for_loop-past-requires
 for_loop-past-requires t c = (c.loop_body-s.ensures c.args.kinds.now refl).moved.within
 
 pub for_loop-loop_end-requires : goal.for_loop-loop_end-requires
-for_loop-loop_end-requires t c = record { by_index = (_, _, _, good_item c.past.result c.past.ensures.0 (omega arith) (c.loop_body-s.ensures c.args.kinds.now refl).moved.good); head_bound = omega (arith, (c.for_head-h.ensures c.args.kinds.now _ _ c.requires.1 (code_starts _ 4 c.requires.5 (lit≤ tt))).nodes, (c.loop_body-s.ensures c.args.kinds.now refl).moved.grown.nodes); }
+for_loop-loop_end-requires t c = record { by_index = (_, _, _, good_item c.past.result c.past.ensures.0 (omega arith) (c.loop_body-s.ensures c.args.kinds.now refl).moved.good); head_bound = omega (arith, (c.for_head-h.ensures c.args.kinds.now _ _ c.requires.1 (code_starts _ 4 c.requires.5 (lit≤ tt))).nodes, (c.loop_body-s.ensures c.args.kinds.now refl).moved.grown.nodes) }
 
 pub for_loop-returns : goal.for_loop-returns
 for_loop-returns t c = λ ss e. for_opened c.args.kinds.now ss e c.requires.0.few c.args.i c.requires.4 _ _ c.requires.5 refl c.requires.2 c.requires.1 (c.requires.0.tidy ss e _ c.requires.4 (omega arith) (omega arith)) (c.for_head-h.ensures c.args.kinds.now _ _ c.requires.1 (code_starts _ 4 c.requires.5 (lit≤ tt))) (c.loop_body-s.ensures ss e) c.past.ensures.2 c.past.ensures.3 c.past.ensures.1 c.past.ensures.0 (c.loop_end.ensures c.args.kinds.now _ _ _ (good_item c.past.result c.past.ensures.0 (omega arith) (c.loop_body-s.ensures c.args.kinds.now refl).moved.good))
@@ -161,7 +161,7 @@ pub if_stmt-bounds-kinds-i : goal.if_stmt-bounds-kinds-i
 if_stmt-bounds-kinds-i t c = c.requires.4
 
 pub if_stmt-code_and_after-h-requires : goal.if_stmt-code_and_after-h-requires
-if_stmt-code_and_after-h-requires t c = record { by_index = (_, _, c.requires.1); nodes_bound = (omega (arith, if_room c.args.kinds.now c.args.kinds.now refl c.args.i c.requires.4 c.args.b c.requires.6 c.requires.5), c.requires.3, omega arith); }
+if_stmt-code_and_after-h-requires t c = record { by_index = (_, _, c.requires.1); nodes_bound = (omega (arith, if_room c.args.kinds.now c.args.kinds.now refl c.args.i c.requires.4 c.args.b c.requires.6 c.requires.5), c.requires.3, omega arith) }
 
 pub if_stmt-scoped_block-s-requires : goal.if_stmt-scoped_block-s-requires
 if_stmt-scoped_block-s-requires t c =
@@ -171,7 +171,7 @@ if_stmt-scoped_block-s-requires t c =
 pub if_stmt-close_into-c-requires : goal.if_stmt-close_into-c-requires
 if_stmt-close_into-c-requires t c =
     let s = (c.scoped_block-s.ensures c.args.kinds.now refl).moved in
-    record { standing = stands s.good; target_lt_nodes = omega (arith, s.grown.nodes, (c.code_and_after-h.ensures c.args.kinds.now _ _ c.requires.1 (code_starts _ 5 c.requires.5 (lit≤ tt))).nodes); }
+    record { standing = stands s.good; target_lt_nodes = omega (arith, s.grown.nodes, (c.code_and_after-h.ensures c.args.kinds.now _ _ c.requires.1 (code_starts _ 5 c.requires.5 (lit≤ tt))).nodes) }
 
 pub if_stmt-arms-r-requires : goal.if_stmt-arms-r-requires
 if_stmt-arms-r-requires t c =
@@ -201,7 +201,7 @@ loop_body-scoped_block-s-requires t c = let s = good_loop c.args.break_target c.
 pub loop_body-close_into-r-requires : goal.loop_body-close_into-r-requires
 loop_body-close_into-r-requires t c =
     let s = (c.scoped_block-s.ensures c.args.kinds.now refl).moved in
-    record { standing = stands s.good; target_lt_nodes = omega (arith, s.grown.nodes, ap (λ (w : GraphBuilder). w.nodes) c.enter_loop-t.ensures); }
+    record { standing = stands s.good; target_lt_nodes = omega (arith, s.grown.nodes, ap (λ (w : GraphBuilder). w.nodes) c.enter_loop-t.ensures) }
 
 pub loop_body-returns : goal.loop_body-returns
 loop_body-returns t c = λ ss e. let s = c.scoped_block-s.ensures ss e in looped _ ss c.requires.sane.1 c.args.scope_end c.args.break_target c.args.continue_target _ _ _ _ (scoped_loop _ ss c.args.b c.args.scope_end c.args.break_target c.args.continue_target c.enter_loop-t.ensures s) (c.close_into-r.ensures _ _ _ _ s.moved.good) c.return_to.ensures
@@ -212,7 +212,7 @@ pub repeat_loop-bounds-kinds-i : goal.repeat_loop-bounds-kinds-i
 repeat_loop-bounds-kinds-i t c = c.requires.4
 
 pub repeat_loop-repeat_head-h-requires : goal.repeat_loop-repeat_head-h-requires
-repeat_loop-repeat_head-h-requires t c = record { by_index = (_, _, _, c.requires.1); nodes_bound = omega (arith, repeat_room c.args.kinds.now c.args.kinds.now refl c.args.i c.requires.4 c.args.b c.requires.6 c.requires.5); }
+repeat_loop-repeat_head-h-requires t c = record { by_index = (_, _, _, c.requires.1); nodes_bound = omega (arith, repeat_room c.args.kinds.now c.args.kinds.now refl c.args.i c.requires.4 c.args.b c.requires.6 c.requires.5) }
 
 pub repeat_loop-loop_body-s-requires : goal.repeat_loop-loop_body-s-requires
 repeat_loop-loop_body-s-requires t c =
@@ -231,7 +231,7 @@ pub repeat_loop-repeat_end-requires : goal.repeat_loop-repeat_end-requires
 repeat_loop-repeat_end-requires t c =
     let ca = closed_at c.args.kinds.now c.args.kinds.now refl c.loop_body-s.result.item (open_at c.args.kinds.now c.args.kinds.now (c.args.i + 1)) (c.loop_body-s.ensures c.args.kinds.now refl).ended ((c.loop_body-s.ensures c.args.kinds.now refl).shut ∙ ap (λ j. bare (open_at c.args.kinds.now c.args.kinds.now j)) ((c.repeat_head-h.ensures c.args.kinds.now _ _ _ c.requires.1).item ∙ c.requires.2)) (c.requires.0.tidy c.args.kinds.now refl _ c.requires.4 (omega arith) (omega arith)) (c.requires.0.closed c.args.kinds.now refl _ c.requires.4 c.requires.5) in
     let bd = (c.loop_body-s.ensures c.args.kinds.now refl).moved in
-    record { by_index = (_, _, good_item c.past.result c.past.ensures.0 (omega arith) (c.loop_body-s.ensures c.args.kinds.now refl).moved.good); body_bound = (omega (arith, (c.repeat_head-h.ensures c.args.kinds.now _ _ _ c.requires.1).nodes, bd.grown.nodes), omega (arith, bd.good.codes, c.past.ensures.2 ca.0), omega (arith, c.past.ensures.2 ca.0)); }
+    record { by_index = (_, _, good_item c.past.result c.past.ensures.0 (omega arith) (c.loop_body-s.ensures c.args.kinds.now refl).moved.good); body_bound = (omega (arith, (c.repeat_head-h.ensures c.args.kinds.now _ _ _ c.requires.1).nodes, bd.grown.nodes), omega (arith, bd.good.codes, c.past.ensures.2 ca.0), omega (arith, c.past.ensures.2 ca.0)) }
 
 pub repeat_loop-returns : goal.repeat_loop-returns
 repeat_loop-returns t c =
@@ -242,7 +242,7 @@ repeat_loop-returns t c =
 -- ---- scoped_block
 
 pub scoped_block-enter_block-e-requires : goal.scoped_block-enter_block-e-requires
-scoped_block-enter_block-e-requires t c = record { item_in_bounds = (rw c.enter_scope-t.ensures c.requires.2, c.requires.0.few, c.requires.0.labels); by_index = (_, _, good_scope c.args.scope_end c.enter_scope-t.ensures c.requires.4 c.requires.1); by_index_2 = λ ss e. rw c.enter_scope-t.ensures (omega (arith, c.requires.3 ss e, labels_inside (open_at c.args.kinds.now ss c.args.b.item).top.body)); }
+scoped_block-enter_block-e-requires t c = record { item_in_bounds = (rw c.enter_scope-t.ensures c.requires.2, c.requires.0.few, c.requires.0.labels); by_index = (_, _, good_scope c.args.scope_end c.enter_scope-t.ensures c.requires.4 c.requires.1); by_index_2 = λ ss e. rw c.enter_scope-t.ensures (omega (arith, c.requires.3 ss e, labels_inside (open_at c.args.kinds.now ss c.args.b.item).top.body)) }
 
 pub scoped_block-block-r-requires : goal.scoped_block-block-r-requires
 scoped_block-block-r-requires t c = let g = good_scope c.args.scope_end c.enter_scope-t.ensures c.requires.4 c.requires.1 in let n = entered_scope c.args.kinds.now c.args.kinds.now c.args.b c.args.scope_end c.enter_scope-t.ensures (c.enter_block-e.ensures c.args.kinds.now _ _ refl g) in (omega (arith, n.item), (c.requires.0, n.good, omega (arith, n.item), λ ss e. entered_room _ ss c.requires.1 c.args.scope_end (entered_scope c.args.kinds.now ss c.args.b c.args.scope_end c.enter_scope-t.ensures (c.enter_block-e.ensures ss _ _ e g)) (c.requires.3 ss e)))
@@ -289,7 +289,7 @@ pub stmt-returns-then-kind-eq-IF : goal.stmt-returns-then-kind-eq-IF
 stmt-returns-then-kind-eq-IF t c = λ ss e. opened_stepped c.args.kinds.now ss e c.requires.0.few c.requires.1 c.requires.2 (c.if_stmt.ensures ss e)
 
 pub stmt-simple_stmt-requires : goal.stmt-simple_stmt-requires
-stmt-simple_stmt-requires t c = record { good = good_item (c.args.b.item + 1) (omega arith) (omega arith) c.requires.1; w_bound = (simple_room c.args.kinds.now c.args.kinds.now refl _ c.requires.2 c.args.b c.requires.4 c.requires.1.nodes (simple_kind _ c.if-kind-eq-DO.false c.if-kind-eq-WHILE.false c.if-kind-eq-REPEAT.false c.if-kind-eq-FOR.false c.if-kind-eq-IF.false c.requires.3), omega arith, omega arith, omega arith, simple_kind _ c.if-kind-eq-DO.false c.if-kind-eq-WHILE.false c.if-kind-eq-REPEAT.false c.if-kind-eq-FOR.false c.if-kind-eq-IF.false c.requires.3 8 (lit≤ tt) (lit≤ tt), simple_kind _ c.if-kind-eq-DO.false c.if-kind-eq-WHILE.false c.if-kind-eq-REPEAT.false c.if-kind-eq-FOR.false c.if-kind-eq-IF.false c.requires.3 9 (lit≤ tt) (lit≤ tt)); }
+stmt-simple_stmt-requires t c = record { good = good_item (c.args.b.item + 1) (omega arith) (omega arith) c.requires.1; w_bound = (simple_room c.args.kinds.now c.args.kinds.now refl _ c.requires.2 c.args.b c.requires.4 c.requires.1.nodes (simple_kind _ c.if-kind-eq-DO.false c.if-kind-eq-WHILE.false c.if-kind-eq-REPEAT.false c.if-kind-eq-FOR.false c.if-kind-eq-IF.false c.requires.3), omega arith, omega arith, omega arith, simple_kind _ c.if-kind-eq-DO.false c.if-kind-eq-WHILE.false c.if-kind-eq-REPEAT.false c.if-kind-eq-FOR.false c.if-kind-eq-IF.false c.requires.3 8 (lit≤ tt) (lit≤ tt), simple_kind _ c.if-kind-eq-DO.false c.if-kind-eq-WHILE.false c.if-kind-eq-REPEAT.false c.if-kind-eq-FOR.false c.if-kind-eq-IF.false c.requires.3 9 (lit≤ tt) (lit≤ tt)) }
 
 pub stmt-returns : goal.stmt-returns
 stmt-returns t c = λ ss e. simple_stepped c.args.kinds.now ss e c.requires.0.few c.requires.1 c.requires.2 _ (simple_kind _ c.if-kind-eq-DO.false c.if-kind-eq-WHILE.false c.if-kind-eq-REPEAT.false c.if-kind-eq-FOR.false c.if-kind-eq-IF.false c.requires.3) (c.simple_stmt.ensures c.args.kinds.now refl)
@@ -300,7 +300,7 @@ pub while_loop-bounds-kinds-i : goal.while_loop-bounds-kinds-i
 while_loop-bounds-kinds-i t c = c.requires.4
 
 pub while_loop-while_head-h-requires : goal.while_loop-while_head-h-requires
-while_loop-while_head-h-requires t c = record { by_index = (_, _, c.requires.1); nodes_bound = (omega (arith, while_room c.args.kinds.now c.args.kinds.now refl c.args.i c.requires.4 c.args.b c.requires.6 c.requires.5), c.requires.3, omega arith); }
+while_loop-while_head-h-requires t c = record { by_index = (_, _, c.requires.1); nodes_bound = (omega (arith, while_room c.args.kinds.now c.args.kinds.now refl c.args.i c.requires.4 c.args.b c.requires.6 c.requires.5), c.requires.3, omega arith) }
 
 pub while_loop-loop_body-s-requires : goal.while_loop-loop_body-s-requires
 while_loop-loop_body-s-requires t c =
@@ -316,7 +316,7 @@ pub while_loop-past-requires : goal.while_loop-past-requires
 while_loop-past-requires t c = (c.loop_body-s.ensures c.args.kinds.now refl).moved.within
 
 pub while_loop-loop_end-requires : goal.while_loop-loop_end-requires
-while_loop-loop_end-requires t c = record { by_index = (_, _, _, good_item c.past.result c.past.ensures.0 (omega arith) (c.loop_body-s.ensures c.args.kinds.now refl).moved.good); head_bound = omega (arith, (c.while_head-h.ensures c.args.kinds.now _ _ c.requires.1 (code_starts _ 2 c.requires.5 (lit≤ tt))).nodes, (c.loop_body-s.ensures c.args.kinds.now refl).moved.grown.nodes); }
+while_loop-loop_end-requires t c = record { by_index = (_, _, _, good_item c.past.result c.past.ensures.0 (omega arith) (c.loop_body-s.ensures c.args.kinds.now refl).moved.good); head_bound = omega (arith, (c.while_head-h.ensures c.args.kinds.now _ _ c.requires.1 (code_starts _ 2 c.requires.5 (lit≤ tt))).nodes, (c.loop_body-s.ensures c.args.kinds.now refl).moved.grown.nodes) }
 
 pub while_loop-returns : goal.while_loop-returns
 while_loop-returns t c = λ ss e. while_opened c.args.kinds.now ss e c.requires.0.few c.args.i c.requires.4 _ _ _ c.requires.5 c.literal_truth-truth.ensures refl c.requires.2 c.requires.1 (c.requires.0.tidy ss e _ c.requires.4 (omega arith) (omega arith)) (c.while_head-h.ensures c.args.kinds.now _ _ c.requires.1 (code_starts _ 2 c.requires.5 (lit≤ tt))) (c.loop_body-s.ensures ss e) c.past.ensures.2 c.past.ensures.3 c.past.ensures.1 c.past.ensures.0 (c.loop_end.ensures c.args.kinds.now _ _ _ (good_item c.past.result c.past.ensures.0 (omega arith) (c.loop_body-s.ensures c.args.kinds.now refl).moved.good))

@@ -14,7 +14,7 @@ scoped_block-s-requires c = (c.requires.0, first_good _ _ _ _ _ c.requires.1 c.s
 pub close_into-requires : goal.close_into-requires
 close_into-requires c =
     let s = (c.scoped_block-s.ensures c.args.kinds.now refl).moved in
-    record { standing = stands s.good; target_lt_nodes = omega (arith, s.good.exits); }
+    record { standing = stands s.good; target_lt_nodes = omega (arith, s.good.exits) }
 
 pub returns : goal.returns
 returns c = λ ss e. let sc = c.scoped_block-s.ensures ss e in whole _ _ _ _ _ c.requires.1 c.start_nodes.ensures _ ss _ sc (c.close_into.ensures c.args.kinds.now _ _ _ sc.moved.good)

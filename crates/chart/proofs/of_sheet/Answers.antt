@@ -17,7 +17,11 @@ parts : (c : After-spans-spans) → PartsOf (S c) c.kinds-kinds.result.now c.spa
 parts c = sheet_parts (S c) c.requires.admitted_sheet c.kinds-kinds.ensures c.spans-spans.ensures
 
 pub write_chart-requires : goal.write_chart-requires
-write_chart-requires c = record { by_index = (S (goal.at.write_chart-requires c).After-spans-spans, parts (goal.at.write_chart-requires c).After-spans-spans); wide = c.requires.wide; }
+write_chart-requires c =
+    let d = (goal.at.write_chart-requires c).After-spans-spans in
+    record { by_index = (S d, parts d); wide = c.requires.wide }
 
 pub returns : goal.returns
-returns c = c.write_chart.ensures (S (goal.at.returns c).After-spans-spans) (parts (goal.at.returns c).After-spans-spans)
+returns c =
+    let d = (goal.at.returns c).After-spans-spans in
+    c.write_chart.ensures (S d) (parts d)

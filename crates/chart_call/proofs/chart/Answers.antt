@@ -17,18 +17,23 @@ S c = c.args.sheet.now
 
 abbrev x : (c : After-sheet_verdict-verdict) → Columns
 x c =
-     columns c.args.first.now c.args.second.now c.args.start.now c.args.reachable.now c.args.code_span.now c.args.code_node.now c.args.name_span.now c.args.name_node.now c.args.name_end.now
+    columns c.args.first.now c.args.second.now c.args.start.now c.args.reachable.now c.args.code_span.now c.args.code_node.now c.args.name_span.now c.args.name_node.now c.args.name_end.now
 
 verdict_is : (c : After-sheet_verdict-verdict) → sheet_verdict (chart_short (x c)) (S c) ≡ c.sheet_verdict-verdict.result
 verdict_is c = sym (c.sheet_verdict-verdict.ensures ∙ ap (λ (b : Bool). sheet_verdict b (S c)) c.chart_short-short.ensures)
 
 pub returns-in-Refused : goal.returns-in-Refused
-returns-in-Refused c = chart_refused (x (goal.at.returns-in-Refused c).After-sheet_verdict-verdict) (S (goal.at.returns-in-Refused c).After-sheet_verdict-verdict) (verdict_is (goal.at.returns-in-Refused c).After-sheet_verdict-verdict ∙ c.in-Refused.is)
+returns-in-Refused c =
+    let d = (goal.at.returns-in-Refused c).After-sheet_verdict-verdict in
+    chart_refused (x d) (S d) (verdict_is d ∙ c.in-Refused.is)
 
 pub of_sheet-counts-requires : goal.of_sheet-counts-requires
 of_sheet-counts-requires c =
-    let e = verdict_is (goal.at.of_sheet-counts-requires c).After-sheet_verdict-verdict ∙ c.in_default.is in
-    record { admitted_sheet = sheet_admitted (x (goal.at.of_sheet-counts-requires c).After-sheet_verdict-verdict) (S (goal.at.of_sheet-counts-requires c).After-sheet_verdict-verdict) e; wide = wide_enough (x (goal.at.of_sheet-counts-requires c).After-sheet_verdict-verdict) (S (goal.at.of_sheet-counts-requires c).After-sheet_verdict-verdict) e; }
+    let d = (goal.at.of_sheet-counts-requires c).After-sheet_verdict-verdict in
+    let e = verdict_is d ∙ c.in_default.is in
+    record { admitted_sheet = sheet_admitted (x d) (S d) e; wide = wide_enough (x d) (S d) e }
 
 pub returns : goal.returns
-returns c = chart_accepted (x (goal.at.returns c).After-sheet_verdict-verdict) (S (goal.at.returns c).After-sheet_verdict-verdict) (verdict_is (goal.at.returns c).After-sheet_verdict-verdict ∙ c.in_default.is) c.of_sheet-counts.ensures
+returns c =
+    let d = (goal.at.returns c).After-sheet_verdict-verdict in
+    chart_accepted (x d) (S d) (verdict_is d ∙ c.in_default.is) c.of_sheet-counts.ensures

@@ -8,7 +8,7 @@ use Rattle.chart_run.proofs.run_in.Goals as goal
 -- ---- the places: from each place back to the one before it
 pub node_at-node-requires : goal.node_at-node-requires
 node_at-node-requires c =
-    let r = node_asks c.requires.admitted_sheet c.of_sheet-counts.ensures in record { codes_in_bounds = r.0; rising = r.1; }
+    let r = node_asks c.requires.admitted_sheet c.of_sheet-counts.ensures in record { codes_in_bounds = r.0; rising = r.1 }
 
 pub can_run-runs-requires : goal.can_run-runs-requires
 can_run-runs-requires c = place_long c.requires.admitted_sheet c.of_sheet-counts.ensures c.args.offset (place_is c.requires.admitted_sheet c.of_sheet-counts.ensures c.args.offset c.node_at-node.ensures)

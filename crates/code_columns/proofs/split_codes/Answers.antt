@@ -12,7 +12,6 @@ use Rattle.code_columns.proofs.Starts.{paint_more, paint_all}
 use Rattle.code_columns.proofs.split_codes.Invariants.{span}
 use Rattle.code_columns.proofs.split_codes.Goals as goal
 
-
 pub loop-k-init : goal.loop-k-init
 unfolding painted
 loop-k-init c = (omega arith, none, none, refl, refl)
@@ -22,7 +21,7 @@ loop-k-init c = (omega arith, none, none, refl, refl)
 pub split_code-requires : goal.split_code-requires
 split_code-requires c =
     let w = c.requires.by_index c.loop-k.k c.loop-k-test.true in
-    record { k_in_bounds = omega arith; code_within = rw (still c.loop-k.invariant.1) (record { node = omega arith; kind = w.kind; span = w.span }); }
+    record { k_in_bounds = omega arith; code_within = rw (still c.loop-k.invariant.1) (record { node = omega arith; kind = w.kind; span = w.span }) }
 
 pub loop-k-preserved : goal.loop-k-preserved
 loop-k-preserved c =
@@ -46,4 +45,4 @@ shape_of-start c = c.loop-k.invariant.3 ∙ c.clear.auto.s
 pub returns : goal.returns
 returns c =
     let e : c.loop-k.k ≡ c.args.codes = omega arith in
-    record { code_node_after = rw (← e) c.loop-k.invariant.1.cells; code_span_after = rw (← e) c.loop-k.invariant.2.cells; start_after = paint_all c.args.kinds.now c.args.spans.now c.args.code_node.now c.args.start.now c.args.n c.requires.codes_in_bounds.0 (λ k q. (c.requires.by_index k q).node) e c.clear.ensures c.loop-k.invariant.4; }
+    record { code_node_after = rw (← e) c.loop-k.invariant.1.cells; code_span_after = rw (← e) c.loop-k.invariant.2.cells; start_after = paint_all c.args.kinds.now c.args.spans.now c.args.code_node.now c.args.start.now c.args.n c.requires.codes_in_bounds.0 (λ k q. (c.requires.by_index k q).node) e c.clear.ensures c.loop-k.invariant.4 }

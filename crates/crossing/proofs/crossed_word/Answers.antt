@@ -17,7 +17,7 @@ bounds-numbers-names c = omega (arith, numbers_long c.requires.admitted_scopes.0
 
 pub crosses_function_boundary-crosses-requires : goal.crosses_function_boundary-crosses-requires
 crosses_function_boundary-crosses-requires c =
-    let r = chain_asks c.requires.admitted_scopes.0 c.args.notes.now c.scope_numbers-numbers.ensures c.parent_words-parents.ensures c.requires.scopes_noted.0 (local_of c.args.word) c.args.u c.requires.scopes_noted.2 c.requires.scopes_noted.1 in record { scope_in_bounds = r.0; lower = r.1; }
+    let r = chain_asks c.requires.admitted_scopes.0 c.args.notes.now c.scope_numbers-numbers.ensures c.parent_words-parents.ensures c.requires.scopes_noted.0 (local_of c.args.word) c.args.u c.requires.scopes_noted.2 c.requires.scopes_noted.1 in record { scope_in_bounds = r.0; lower = r.1 }
 
 pub returns : goal.returns
 returns c =

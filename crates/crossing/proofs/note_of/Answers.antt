@@ -41,10 +41,12 @@ far_note : (c : Else-parent-eq0) → Note c.args.kinds.now (ps c) (jump_in (get_
 far_note c = c.requires.lower.1 _ (omega (arith, (below c), jump_low (low c) (parent_note c)))
 
 over_few : (c : After-function_at-over) → c.function_at-over.result ≤ 512
-over_few c =  function_few (eqb (get_or c.args.kinds.now (s (goal.at.After-function_at-over c).Else-parent-eq0) 0) FUNCTION) (s (goal.at.After-function_at-over c).Else-parent-eq0) (function_in (get_or (ns (goal.at.After-function_at-over c).Else-parent-eq0) (p (goal.at.After-function_at-over c).Else-parent-eq0) 0)) (few (goal.at.After-function_at-over c).Else-parent-eq0) (above_few (low (goal.at.After-function_at-over c).Else-parent-eq0) (parent_note (goal.at.After-function_at-over c).Else-parent-eq0) (omega (arith, below (goal.at.After-function_at-over c).Else-parent-eq0, few (goal.at.After-function_at-over c).Else-parent-eq0))) c.function_at-over.ensures
+over_few c =
+    let d = (goal.at.After-function_at-over c).Else-parent-eq0 in
+    function_few (eqb (get_or c.args.kinds.now (s d) 0) FUNCTION) (s d) (function_in (get_or (ns d) (p d) 0)) (few d) (above_few (low d) (parent_note d) (omega (arith, below d, few d))) c.function_at-over.ensures
 
 root_few : (c : After-function_at-function) → c.function_at-function.result ≤ 512
-root_few c =  function_few (eqb (get_or c.args.kinds.now c.args.s 0) FUNCTION) c.args.s 0 (omega arith) (omega arith) c.function_at-function.ensures
+root_few c = function_few (eqb (get_or c.args.kinds.now c.args.s 0) FUNCTION) c.args.s 0 (omega arith) (omega arith) c.function_at-function.ensures
 
 pub overflow_mul-result : goal.overflow_mul-result
 overflow_mul-result c = omega (arith, root_few c)
@@ -62,7 +64,9 @@ pub bounds-notes-parent : goal.bounds-notes-parent
 bounds-notes-parent c = omega (arith, below (goal.at.bounds-notes-parent c).Else-parent-eq0)
 
 pub bounds-notes-up : goal.bounds-notes-up
-bounds-notes-up c = omega (arith, jump_low (low (goal.at.bounds-notes-up c).Else-parent-eq0) (parent_note (goal.at.bounds-notes-up c).Else-parent-eq0), below (goal.at.bounds-notes-up c).Else-parent-eq0)
+bounds-notes-up c =
+    let d = (goal.at.bounds-notes-up c).Else-parent-eq0 in
+    omega (arith, jump_low (low d) (parent_note d), below d)
 
 pub overflow_mul-result-then-length-further-3 : goal.overflow_mul-result-then-length-further-3
 overflow_mul-result-then-length-further-3 c = omega (arith, over_few (goal.at.overflow_mul-result-then-length-further-3 c).After-function_at-over, below (goal.at.overflow_mul-result-then-length-further-3 c).Else-parent-eq0)
@@ -71,7 +75,9 @@ pub overflow_add-result-then-length-further-3 : goal.overflow_add-result-then-le
 overflow_add-result-then-length-further-3 c = omega (arith, over_few (goal.at.overflow_add-result-then-length-further-3 c).After-function_at-over, below (goal.at.overflow_add-result-then-length-further-3 c).Else-parent-eq0)
 
 pub returns-then-length-further : goal.returns-then-length-further
-returns-then-length-further c = note_far _ _ _ (low (goal.at.returns-then-length-further c).Else-parent-eq0) (few (goal.at.returns-then-length-further c).Else-parent-eq0) c.if-parent-eq0.false _ (omega arith) (parent_note (goal.at.returns-then-length-further c).Else-parent-eq0) (far_note (goal.at.returns-then-length-further c).Else-parent-eq0) c.function_at-over.ensures
+returns-then-length-further c =
+    let d = (goal.at.returns-then-length-further c).Else-parent-eq0 in
+    note_far _ _ _ (low d) (few d) c.if-parent-eq0.false _ (omega arith) (parent_note d) (far_note d) c.function_at-over.ensures
 
 pub overflow_add-result-2 : goal.overflow_add-result-2
 overflow_add-result-2 c = omega (arith, over_few (goal.at.overflow_add-result-2 c).After-function_at-over, below (goal.at.overflow_add-result-2 c).Else-parent-eq0)
@@ -83,4 +89,6 @@ pub overflow_add-result-3 : goal.overflow_add-result-3
 overflow_add-result-3 c = omega (arith, over_few (goal.at.overflow_add-result-3 c).After-function_at-over, below (goal.at.overflow_add-result-3 c).Else-parent-eq0)
 
 pub returns : goal.returns
-returns c = note_up _ _ _ (low (goal.at.returns c).Else-parent-eq0) (few (goal.at.returns c).Else-parent-eq0) c.if-parent-eq0.false (parent_note (goal.at.returns c).Else-parent-eq0) c.function_at-over.ensures
+returns c =
+    let d = (goal.at.returns c).Else-parent-eq0 in
+    note_up _ _ _ (low d) (few d) c.if-parent-eq0.false (parent_note d) c.function_at-over.ensures

@@ -12,7 +12,7 @@ pub loop-s-init : goal.loop-s-init
 loop-s-init c = (omega arith, refl, λ s h. absurd (omega arith))
 
 pub note_of-note-requires : goal.note_of-note-requires
-note_of-note-requires c = record { s_in_bounds = (c.loop-s-test.true, c.requires.0, c.requires.1, omega arith); lower = (c.requires.3, c.loop-s.invariant.2); }
+note_of-note-requires c = record { s_in_bounds = (c.loop-s-test.true, c.requires.0, c.requires.1, omega arith); lower = (c.requires.3, c.loop-s.invariant.2) }
 
 pub loop-s-preserved : goal.loop-s-preserved
 loop-s-preserved c = (omega arith, length-set c.loop-s.notes c.loop-s.s _ ∙ c.loop-s.invariant.1, noted_one c.args.kinds.now c.args.parents.now c.loop-s.notes c.loop-s.s c.note_of-note.result (omega arith) c.loop-s.invariant.2 c.note_of-note.ensures)

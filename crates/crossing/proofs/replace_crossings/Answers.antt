@@ -40,7 +40,7 @@ pub bounds-use_words-u : goal.bounds-use_words-u
 bounds-use_words-u c = c.loop-u-test.true
 
 pub crossed_word-requires : goal.crossed_word-requires
-crossed_word-requires c = record { admitted_scopes = c.requires.admitted_scopes; scopes_noted = (all_noted (goal.at.crossed_word-requires c).After-note_scopes, c.loop-u-test.true, c.requires.use_words_in_bounds.1 _ c.loop-u-test.true); }
+crossed_word-requires c = record { admitted_scopes = c.requires.admitted_scopes; scopes_noted = (all_noted (goal.at.crossed_word-requires c).After-note_scopes, c.loop-u-test.true, c.requires.use_words_in_bounds.1 _ c.loop-u-test.true) }
 
 pub offset_bounds-words-u : goal.offset_bounds-words-u
 offset_bounds-words-u c = omega (arith, few (goal.at.offset_bounds-words-u c).In-loop-u)

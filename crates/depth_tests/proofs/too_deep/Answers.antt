@@ -25,8 +25,7 @@ pub overflow_add-closers-in-loop-i : goal.overflow_add-closers-in-loop-i
 overflow_add-closers-in-loop-i c = omega (arith, one_most c.is_closer.result)
 
 pub loop-i-preserved : goal.loop-i-preserved
-loop-i-preserved c =
-    (
+loop-i-preserved c = (
   omega (arith, one_most c.is_opener.result),
   omega (arith, one_most c.is_closer.result),
   rw (c.one-openers.ensures ∙ ap one c.is_opener.ensures, c.one-closers.ensures ∙ ap one c.is_closer.ensures) (onward c.loop-i.invariant.2 c.requires.0 c.loop-i-test.true (ap not (le-ltb _ _ c.if-closers-openers.false))),

@@ -41,26 +41,30 @@ as_long : (c : After-test_and_mark) → length c.test_and_mark.new.visited ≡ l
 as_long c = c.test_and_mark.auto.visited ∙ c.loop-i.invariant.0
 
 bounded : (c : After-test_and_mark) → Stamped (stamp c) c.args.visited.now → Stamped (stamp c) c.test_and_mark.new.visited
-bounded c f = subst (Stamped (stamp c)) (marked c) (bounded_if (stamp c) (node_in (word (goal.at.After-test_and_mark c).In-loop-i)) c.loop-i.visited (is_write (use_of (word (goal.at.After-test_and_mark c).In-loop-i))) (inside (goal.at.After-test_and_mark c).In-loop-i) (c.loop-i.invariant.1 f))
+bounded c f =
+    let d = (goal.at.After-test_and_mark c).In-loop-i in
+    subst (Stamped (stamp c)) (marked c) (bounded_if (stamp c) (node_in (word d)) c.loop-i.visited (is_write (use_of (word d))) (inside d) (c.loop-i.invariant.1 f))
 
 -- ---- where the read is empty
 pub shape_of-visited-then-test_and_mark : goal.shape_of-visited-then-test_and_mark
 shape_of-visited-then-test_and_mark c = as_long (goal.at.shape_of-visited-then-test_and_mark c).After-test_and_mark
 
 pub returns-then-test_and_mark : goal.returns-then-test_and_mark
-returns-then-test_and_mark c = record { by_index = λ n p. ap (λ (x : ℕ). x + 1) c.number_of.ensures ∙ found c.args.stamp n c.loop-i.visited c.args.mine.now c.loop-i.i c.loop-i-test.true (sym (told (goal.at.returns-then-test_and_mark c).After-test_and_mark n p) ∙ c.if-test_and_mark.true) ∙ ap code_of (sym (c.loop-i.invariant.2 n p)); stamped = bounded (goal.at.returns-then-test_and_mark c).After-test_and_mark; }
+returns-then-test_and_mark c =
+    let d = (goal.at.returns-then-test_and_mark c).After-test_and_mark in
+    record { by_index = λ n p. ap (λ (x : ℕ). x + 1) c.number_of.ensures ∙ found c.args.stamp n c.loop-i.visited c.args.mine.now c.loop-i.i c.loop-i-test.true (sym (told d n p) ∙ c.if-test_and_mark.true) ∙ ap code_of (sym (c.loop-i.invariant.2 n p)); stamped = bounded d }
 
 -- ---- after a turn
 pub loop-i-preserved : goal.loop-i-preserved
 loop-i-preserved c =
-    (
-      as_long (goal.at.loop-i-preserved c).After-test_and_mark,
-      bounded (goal.at.loop-i-preserved c).After-test_and_mark,
-      λ n p. c.loop-i.invariant.2 n p ∙ passed c.args.stamp n c.loop-i.visited c.args.mine.now c.loop-i.i c.loop-i-test.true p (inside (goal.at.loop-i-preserved c).In-loop-i) (sym (told (goal.at.loop-i-preserved c).After-test_and_mark n p) ∙ c.if-test_and_mark.false) ∙ ap (λ (x : List ℕ). first_empty_read (flags_of c.args.stamp n x) [] (uses_in (drop (c.loop-i.i + 1) c.args.mine.now))) (marked (goal.at.loop-i-preserved c).After-test_and_mark),
+    let d = (goal.at.loop-i-preserved c).After-test_and_mark in (
+      as_long d,
+      bounded d,
+      λ n p. c.loop-i.invariant.2 n p ∙ passed c.args.stamp n c.loop-i.visited c.args.mine.now c.loop-i.i c.loop-i-test.true p (inside (goal.at.loop-i-preserved c).In-loop-i) (sym (told d n p) ∙ c.if-test_and_mark.false) ∙ ap (λ (x : List ℕ). first_empty_read (flags_of c.args.stamp n x) [] (uses_in (drop (c.loop-i.i + 1) c.args.mine.now))) (marked d),
     )
 
 pub shape_of-visited : goal.shape_of-visited
 shape_of-visited c = c.loop-i.invariant.0
 
 pub returns : goal.returns
-returns c = record { by_index = λ n p. ended c.args.stamp n c.loop-i.visited c.args.mine.now c.loop-i.i c.loop-i-test.false ∙ ap code_of (sym (c.loop-i.invariant.2 n p)); stamped = c.loop-i.invariant.1; }
+returns c = record { by_index = λ n p. ended c.args.stamp n c.loop-i.visited c.args.mine.now c.loop-i.i c.loop-i-test.false ∙ ap code_of (sym (c.loop-i.invariant.2 n p)); stamped = c.loop-i.invariant.1 }

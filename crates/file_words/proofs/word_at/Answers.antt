@@ -16,7 +16,7 @@ loop-k-init c = (omega arith, refl)
 
 short : (c : In-loop-k) → c.loop-k.word < 2 ^ 56
 short c =
-     let l = c.loop-k in
+    let l = c.loop-k in
     fits c.args.bytes.now c.args.at l.k c.loop-k-test.true l.invariant.0 l.invariant.1 (λ i. (c.shared_slice_known-1.given i).fits)
 
 pub overflow_mul-word : goal.overflow_mul-word

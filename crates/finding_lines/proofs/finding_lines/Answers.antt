@@ -31,16 +31,22 @@ below : (c : In-loop-i) → c.loop-i.i < length (given (goal.at.In-loop-i c).Sta
 below c = omega (arith, count (goal.at.In-loop-i c).Start)
 
 finding : (c : In-loop-i) → get_or (given (goal.at.In-loop-i c).Start) c.loop-i.i no_finding ≡ record { word = get_or c.args.words.now c.loop-i.i 0; span = get_or c.args.spans.now c.loop-i.i 0 }
-finding c =  row c.args.n c.args.words.now c.args.spans.now c.requires.n_in_bounds.0 c.requires.n_in_bounds.1 c.loop-i.i no_finding c.loop-i-test.true
+finding c = row c.args.n c.args.words.now c.args.spans.now c.requires.n_in_bounds.0 c.requires.n_in_bounds.1 c.loop-i.i no_finding c.loop-i-test.true
 
 pub finding_line-next-requires : goal.finding_line-next-requires
-finding_line-next-requires c = rw (finding (goal.at.finding_line-next-requires c).In-loop-i) at (room c.loop-i.invariant no_finding (below (goal.at.finding_line-next-requires c).In-loop-i))
+finding_line-next-requires c =
+    let d = (goal.at.finding_line-next-requires c).In-loop-i in
+    rw (finding d) at (room c.loop-i.invariant no_finding (below d))
 
 pub loop-i-preserved : goal.loop-i-preserved
-loop-i-preserved c = turn c.loop-i.invariant no_finding (below (goal.at.loop-i-preserved c).In-loop-i) (rw (finding (goal.at.loop-i-preserved c).In-loop-i) c.finding_line-next.ensures)
+loop-i-preserved c =
+    let d = (goal.at.loop-i-preserved c).In-loop-i in
+    turn c.loop-i.invariant no_finding (below d) (rw (finding d) c.finding_line-next.ensures)
 
 pub shape_of-output : goal.shape_of-output
 shape_of-output c = long c.loop-i.invariant
 
 pub returns : goal.returns
-returns c = rw (findings_pieces (given (goal.at.returns c).Start)) (all c.loop-i.invariant (omega (arith, count (goal.at.returns c).Start)))
+returns c =
+    let d = (goal.at.returns c).Start in
+    rw (findings_pieces (given d)) (all c.loop-i.invariant (omega (arith, count d)))

@@ -16,13 +16,12 @@ pub span_of-requires : goal.span_of-requires
 span_of-requires c = c.requires.0.each c.loop-i.i c.loop-i-test.true
 
 pub loop-i-preserved : goal.loop-i-preserved
-loop-i-preserved c =
-    (
-      omega arith,
-      length-set c.loop-i.finding_span c.loop-i.i c.span_of.result ∙ c.loop-i.invariant.1,
-      ap (set c.loop-i.finding_span c.loop-i.i) c.span_of.ensures ∙ ap (λ (x : List ℕ). set x c.loop-i.i (span_of c.args.use_span.now c.args.name_span.now (get_or c.args.finding_word.now c.loop-i.i 0))) c.loop-i.invariant.2
-          ∙ written_next (span_of c.args.use_span.now c.args.name_span.now) c.args.finding_word.now c.args.finding_span.now c.loop-i.i (omega arith) (omega arith),
-    )
+loop-i-preserved c = (
+  omega arith,
+  length-set c.loop-i.finding_span c.loop-i.i c.span_of.result ∙ c.loop-i.invariant.1,
+  ap (set c.loop-i.finding_span c.loop-i.i) c.span_of.ensures ∙ ap (λ (x : List ℕ). set x c.loop-i.i (span_of c.args.use_span.now c.args.name_span.now (get_or c.args.finding_word.now c.loop-i.i 0))) c.loop-i.invariant.2
+      ∙ written_next (span_of c.args.use_span.now c.args.name_span.now) c.args.finding_word.now c.args.finding_span.now c.loop-i.i (omega arith) (omega arith),
+)
 
 pub shape_of-finding_span : goal.shape_of-finding_span
 shape_of-finding_span c = c.loop-i.invariant.1

@@ -30,7 +30,8 @@ answers c b e = rw ((is_admitted c), e)
 
 fine_is : (c : After-labels_fine) → labels_fine (words (goal.at.After-labels_fine c).In_default) ≡ c.labels_fine.result
 fine_is c =
-     sym (labels_fine_law (words (goal.at.After-labels_fine c).In_default) (is_admitted (goal.at.After-labels_fine c).In_default) _ c.kinds-kinds.ensures c.labels_fine.result c.labels_fine.ensures)
+    let d = (goal.at.After-labels_fine c).In_default in
+    sym (labels_fine_law (words d) (is_admitted d) _ c.kinds-kinds.ensures c.labels_fine.result c.labels_fine.ensures)
 
 pub returns-in-Refused : goal.returns-in-Refused
 unfolding label_check
@@ -40,7 +41,9 @@ pub kinds-kinds-requires : goal.kinds-kinds-requires
 kinds-kinds-requires c = record { few = (facts c).few; long = (facts c).words }
 
 pub labels_fine-requires : goal.labels_fine-requires
-labels_fine-requires c = checkable (words (goal.at.labels_fine-requires c).In_default) (is_admitted (goal.at.labels_fine-requires c).In_default) _ c.kinds-kinds.ensures
+labels_fine-requires c =
+    let d = (goal.at.labels_fine-requires c).In_default in
+    checkable (words d) (is_admitted d) _ c.kinds-kinds.ensures
 
 pub returns-then-labels_fine : goal.returns-then-labels_fine
 returns-then-labels_fine c = sym (answers (goal.at.returns-then-labels_fine c).In_default _ (fine_is (goal.at.returns-then-labels_fine c).After-labels_fine ∙ c.if-labels_fine.true))

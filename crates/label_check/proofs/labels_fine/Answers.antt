@@ -25,13 +25,13 @@ begun c ss e = walk_start c.args.kinds.now ss e c.requires zeros zeros long long
 
 pub enter-s-requires : goal.enter-s-requires
 enter-s-requires c =
-    let r = enter_asked c.requires c.labels_end-end.ensures (omega arith) (begun (goal.at.enter-s-requires c).Start) in record { unlabelled = r.0; base_le_count = r.1.0; by_index = r.1.1; }
+    let r = enter_asked c.requires c.labels_end-end.ensures (omega arith) (begun (goal.at.enter-s-requires c).Start) in record { unlabelled = r.0; base_le_count = r.1.0; by_index = r.1.1 }
 
 pub loop-j-init : goal.loop-j-init
 loop-j-init c = (omega arith, c.labels_end-end.ensures, λ ss e. entered_after (begun (goal.at.loop-j-init c).Start ss e) refl (c.enter-s.ensures ss e))
 
 pub step-s-requires : goal.step-s-requires
-step-s-requires c = record { checkable = (c.requires, c.loop-j.invariant.1, c.loop-j-test.true, not-false _ c.if-not-s.false); by_index = λ ss e. (c.loop-j.invariant.2 ss e).fine (not-false _ c.if-not-s.false); }
+step-s-requires c = record { checkable = (c.requires, c.loop-j.invariant.1, c.loop-j-test.true, not-false _ c.if-not-s.false); by_index = λ ss e. (c.loop-j.invariant.2 ss e).fine (not-false _ c.if-not-s.false) }
 
 pub loop-j-preserved : goal.loop-j-preserved
 loop-j-preserved c = (omega arith, c.loop-j.invariant.1, c.step-s.ensures)

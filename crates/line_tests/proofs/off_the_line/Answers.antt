@@ -19,15 +19,14 @@ use Rattle.line_tests.proofs.off_the_line.Goals.{In-loop-i}
 
 nested_here : (c : In-loop-i) → Nested (c.loop-i.count - 1) (item c.args.kinds.now c.args.spans.now c.loop-i.i ∷ rest c.args.kinds.now c.args.spans.now (c.loop-i.i + 1))
 nested_here c =
-     subst (Nested (c.loop-i.count - 1)) (rest_next c.args.kinds.now c.args.spans.now c.loop-i.i c.requires.kinds_len.0 c.loop-i-test.true) c.loop-i.invariant.2
+    subst (Nested (c.loop-i.count - 1)) (rest_next c.args.kinds.now c.args.spans.now c.loop-i.i c.requires.kinds_len.0 c.loop-i-test.true) c.loop-i.invariant.2
 
 room_here : (c : In-loop-i) → Room c.loop-i.count (get_or c.args.kinds.now c.loop-i.i 0 % 256)
 room_here c = nested_room c.loop-i.count _ _ c.loop-i.invariant.1 (nested_here c)
 
 -- ---- the places: from each place back to the one before it
 pub loop-i-init : goal.loop-i-init
-loop-i-init c =
-    (
+loop-i-init c = (
   record { ends_long = refl; lows_long = refl; lowest = refl },
   omega arith,
   record { opened = []; counted = refl; pairs = c.requires.spans_value_2; few = c.requires.spans_value },
@@ -35,13 +34,13 @@ loop-i-init c =
 )
 
 pub item_held-requires : goal.item_held-requires
-item_held-requires c = record { room = room_here (goal.at.item_held-requires c).In-loop-i; scopes = c.loop-i.invariant.0; code_value = c.is_code-code.ensures _; }
+item_held-requires c = record { room = room_here (goal.at.item_held-requires c).In-loop-i; scopes = c.loop-i.invariant.0; code_value = c.is_code-code.ensures _ }
 
 pub returns-then-not-item_held : goal.returns-then-not-item_held
 returns-then-not-item_held c = rw (fails c.loop-i.invariant.3 c.requires.kinds_len.0 c.loop-i-test.true (sym c.item_held.ensures ∙ c.if-not-item_held.true))
 
 pub scopes_after-count-requires : goal.scopes_after-count-requires
-scopes_after-count-requires c = record { room = room_here (goal.at.scopes_after-count-requires c).In-loop-i; scopes = c.loop-i.invariant.0; }
+scopes_after-count-requires c = record { room = room_here (goal.at.scopes_after-count-requires c).In-loop-i; scopes = c.loop-i.invariant.0 }
 
 pub loop-i-preserved : goal.loop-i-preserved
 loop-i-preserved c =

@@ -39,7 +39,9 @@ line-next-requires c = graph_room (goal.at.line-next-requires c).Start
 
 -- ---- where the first line is written
 pub line-requires : goal.line-requires
-line-requires c = then_room (graph_room (goal.at.line-requires c).Start) c.line-next.ensures (exits_line (goal.at.line-requires c).Start) (head_room (goal.at.line-requires c).Start)
+line-requires c =
+    let d = (goal.at.line-requires c).Start in
+    then_room (graph_room d) c.line-next.ensures (exits_line d) (head_room d)
 
 pub returns : goal.returns
 returns c = rw head_report (both (graph_room (goal.at.returns c).Start) c.line-next.ensures c.line.ensures)

@@ -24,15 +24,20 @@ rest c = finding_lines (first_findings c.args.n c.args.words.now c.args.spans.no
 -- ---- where the columns are known to hold words
 all_room : (c : After-shared_slice_known-3-1) → Room (first (goal.at.After-shared_slice_known-3-1 c).Start ++ rest (goal.at.After-shared_slice_known-3-1 c).Start) 0 c.args.output.now
 all_room c =
-     let h = head_long (count_values c.args.counts) c.args.reachable.now in
+    let d = (goal.at.After-shared_slice_known-3-1 c).Start in
+    let h = head_long (count_values c.args.counts) c.args.reachable.now in
     let t = findings_long c.args.n c.args.words.now c.args.spans.now (λ i. (c.shared_slice_known-2-1.given i).fits) (λ i. (c.shared_slice_known-3-1.given i).fits) in
-    from_start (first (goal.at.After-shared_slice_known-3-1 c).Start ++ rest (goal.at.After-shared_slice_known-3-1 c).Start) (rw length-append (omega arith)) c.requires.n_bound.1
+    from_start (first d ++ rest d) (rw length-append (omega arith)) c.requires.n_bound.1
 
 first_fits : (c : After-shared_slice_known-3-1) → Room (first (goal.at.After-shared_slice_known-3-1 c).Start) 0 c.args.output.now
-first_fits c = first_room (first (goal.at.After-shared_slice_known-3-1 c).Start) (rest (goal.at.After-shared_slice_known-3-1 c).Start) (all_room c)
+first_fits c =
+    let d = (goal.at.After-shared_slice_known-3-1 c).Start in
+    first_room (first d) (rest d) (all_room c)
 
 pub finding_lines-requires : goal.finding_lines-requires
-finding_lines-requires c = record { n_in_bounds = (c.requires.in_bounds.1, c.requires.in_bounds.2); room = then_room (first_fits (goal.at.finding_lines-requires c).After-shared_slice_known-3-1) c.head_lines-next.ensures (rest (goal.at.finding_lines-requires c).Start) (all_room (goal.at.finding_lines-requires c).After-shared_slice_known-3-1); }
+finding_lines-requires c =
+    let d = (goal.at.finding_lines-requires c).After-shared_slice_known-3-1 in
+    record { n_in_bounds = (c.requires.in_bounds.1, c.requires.in_bounds.2); room = then_room (first_fits d) c.head_lines-next.ensures (rest (goal.at.finding_lines-requires c).Start) (all_room d) }
 
 pub returns : goal.returns
 returns c = rw (← whole_report) (printed (both (first_fits (goal.at.returns c).After-shared_slice_known-3-1) c.head_lines-next.ensures c.finding_lines.ensures))

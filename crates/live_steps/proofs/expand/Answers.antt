@@ -21,7 +21,7 @@ after c = st c.push_alive.new.visited c.push_alive.new.stack c.push_alive.result
 
 ready : (c : After-push_alive-t) → Ready c.args.stamp c.args.n (between c)
 ready c =
-     let a = c.args in
+    let a = c.args in
     still_ready a.n a.first.now a.second.now a.start.now (declared a.declaration) a.stamp c.at-a.result {s = held (goal.at.After-push_alive-t c).Start} {t = between c} c.requires.ready.0 c.push_alive-t.ensures
 
 pub push_alive-requires : goal.push_alive-requires

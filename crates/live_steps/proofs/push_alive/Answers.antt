@@ -11,7 +11,7 @@ pub insert-requires : goal.insert-requires
 insert-requires c =
     let h = c.if-v-n.true in
     let r = c.requires.0 in
-    record { v_in_bounds = (omega (arith, h, r.long), omega (arith, h)); top_in_bounds = λ q. omega (arith, push_room c.args.stamp c.args.n c.args.v h r q, r.fits.stack_long); }
+    record { v_in_bounds = (omega (arith, h, r.long), omega (arith, h)); top_in_bounds = λ q. omega (arith, push_room c.args.stamp c.args.n c.args.v h r q, r.fits.stack_long) }
 
 pub returns-then-is_alive_at : goal.returns-then-is_alive_at
 returns-then-is_alive_at c = simp (lt-ltb _ _ c.if-v-n.true, sym c.is_alive_at.ensures ∙ c.if-is_alive_at.true) c.insert.ensures

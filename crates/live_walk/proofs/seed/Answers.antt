@@ -19,14 +19,14 @@ loop-i-init c = (refl, refl, c.requires.ready.0, refl)
 
 -- ---- a turn
 pub expand_write-top-requires : goal.expand_write-top-requires
-expand_write-top-requires c = record { ready = (c.loop-i.invariant.2, c.requires.ready.1); long = (c.requires.long.0, c.requires.long.1 c.loop-i.i c.loop-i-test.true); }
+expand_write-top-requires c = record { ready = (c.loop-i.invariant.2, c.requires.ready.1); long = (c.requires.long.0, c.requires.long.1 c.loop-i.i c.loop-i-test.true) }
 
 -- ---- after a turn
 abbrev here : At-loop-i → State
 here c = st c.loop-i.visited c.loop-i.stack c.loop-i.top
 
 abbrev after : After-expand_write-top → State
-after c =  st c.expand_write-top.new.visited c.expand_write-top.new.stack c.expand_write-top.result
+after c = st c.expand_write-top.new.visited c.expand_write-top.new.stack c.expand_write-top.result
 
 abbrev decl : Start → Declaration
 decl c = declared c.args.declaration
@@ -37,11 +37,13 @@ used c = use_of (get_or c.args.mine.now c.loop-i.i 0)
 
 pub loop-i-preserved : goal.loop-i-preserved
 loop-i-preserved c =
-    (
+    let d = (goal.at.loop-i-preserved c).At-loop-i in
+    let b = (goal.at.loop-i-preserved c).Start in
+    let a = (goal.at.loop-i-preserved c).After-expand_write-top in (
       c.expand_write-top.auto.visited ∙ c.loop-i.invariant.0,
       c.expand_write-top.auto.stack ∙ c.loop-i.invariant.1,
-      write_ready c.args.n c.args.first.now c.args.second.now c.args.start.now (decl (goal.at.loop-i-preserved c).Start) c.args.stamp (used (goal.at.loop-i-preserved c).At-loop-i) {s = here (goal.at.loop-i-preserved c).At-loop-i} {t = after (goal.at.loop-i-preserved c).After-expand_write-top} c.loop-i.invariant.2 c.expand_write-top.ensures,
-      seed_step c.args.n c.args.first.now c.args.second.now c.args.start.now (decl (goal.at.loop-i-preserved c).Start) c.args.mine.now c.args.stamp c.loop-i.i (here (goal.at.loop-i-preserved c).At-loop-i) c.loop-i-test.true (after (goal.at.loop-i-preserved c).After-expand_write-top) c.expand_write-top.ensures ∙ c.loop-i.invariant.3,
+      write_ready c.args.n c.args.first.now c.args.second.now c.args.start.now (decl b) c.args.stamp (used d) {s = here d} {t = after a} c.loop-i.invariant.2 c.expand_write-top.ensures,
+      seed_step c.args.n c.args.first.now c.args.second.now c.args.start.now (decl b) c.args.mine.now c.args.stamp c.loop-i.i (here d) c.loop-i-test.true (after a) c.expand_write-top.ensures ∙ c.loop-i.invariant.3,
     )
 
 pub shape_of-visited : goal.shape_of-visited

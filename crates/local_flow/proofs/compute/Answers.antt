@@ -26,11 +26,11 @@ long c = omega (arith, few c, length-replicate {A = ℕ} 1024 0)
 
 abbrev SheetsHere : After-find_names-names → List ℕ → List ℕ → Type 0
 SheetsHere c S U =
-     Sheets S U c.args.n c.args.codes c.args.kinds.now c.args.first.now c.args.second.now c.args.start.now c.args.code_span.now c.args.code_node.now c.args.name_node.now c.args.name_end.now c.args.use_word.now c.args.use_span.now
+    Sheets S U c.args.n c.args.codes c.args.kinds.now c.args.first.now c.args.second.now c.args.start.now c.args.code_span.now c.args.code_node.now c.args.name_node.now c.args.name_end.now c.args.use_word.now c.args.use_span.now
 
 abbrev GivenHere : After-find_names-names → List ℕ → List ℕ → Type 0
 GivenHere c S U =
-     Given S U c.args.n c.args.codes c.find_names-names.result c.args.first.now c.args.second.now c.args.start.now c.args.code_span.now c.args.code_node.now c.args.name_node.now c.args.name_end.now c.args.use_word.now c.args.use_span.now c.find_names-names.new.facts
+    Given S U c.args.n c.args.codes c.find_names-names.result c.args.first.now c.args.second.now c.args.start.now c.args.code_span.now c.args.code_node.now c.args.name_node.now c.args.name_end.now c.args.use_word.now c.args.use_span.now c.find_names-names.new.facts
 
 given_here : (c : After-find_names-names) → (S U : List ℕ) → SheetsHere c S U → GivenHere c S U
 given_here c S U p = given p c.find_names-names.ensures (long c)
@@ -60,13 +60,13 @@ returns-then-not-any_tracked c =
 pub compute_small-requires : goal.compute_small-requires
 compute_small-requires c =
     let small = c.is_small.ensures c.if-is_small.true in
-    record { any_given = (c.requires.any_sheets.0, c.requires.any_sheets.1, given_here (goal.at.compute_small-requires c).After-find_names-names c.requires.any_sheets.0 c.requires.any_sheets.1 c.requires.any_sheets.2); room = (c.requires.room.0, c.requires.room.1, small.0, small.1, small.2); }
+    record { any_given = (c.requires.any_sheets.0, c.requires.any_sheets.1, given_here (goal.at.compute_small-requires c).After-find_names-names c.requires.any_sheets.0 c.requires.any_sheets.1 c.requires.any_sheets.2); room = (c.requires.room.0, c.requires.room.1, small.0, small.1, small.2) }
 
 pub returns-then-is_small : goal.returns-then-is_small
 returns-then-is_small c = found (goal.at.returns-then-is_small c).After-find_names-names c.compute_small.ensures
 
 pub compute_large-requires : goal.compute_large-requires
-compute_large-requires c = record { any_given = (c.requires.any_sheets.0, c.requires.any_sheets.1, given_here (goal.at.compute_large-requires c).After-find_names-names c.requires.any_sheets.0 c.requires.any_sheets.1 c.requires.any_sheets.2); room = c.requires.room; }
+compute_large-requires c = record { any_given = (c.requires.any_sheets.0, c.requires.any_sheets.1, given_here (goal.at.compute_large-requires c).After-find_names-names c.requires.any_sheets.0 c.requires.any_sheets.1 c.requires.any_sheets.2); room = c.requires.room }
 
 pub returns : goal.returns
 returns c = found (goal.at.returns c).After-find_names-names c.compute_large.ensures

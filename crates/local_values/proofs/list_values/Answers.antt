@@ -6,4 +6,4 @@ use borrow.Author.Rules.{rules}
 use Rattle.local_values.proofs.list_values.Goals as goal
 
 pub returns : goal.returns
-returns c = record { adds = added_more c.push_initial-count.ensures.adds (omega arith) c.list_writes.ensures.adds; upper_bound = omega arith; }
+returns c = record { adds = added_more c.push_initial-count.ensures.adds (omega arith) c.list_writes.ensures.adds; upper_bound = omega arith }

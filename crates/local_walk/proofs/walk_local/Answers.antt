@@ -17,7 +17,10 @@ first_unassigned_use-requires c = λ i h. lt_of_lt_of_le (c.requires.long.1 i h)
 
 pub returns : goal.returns
 returns c =
-    record { tells = record {
+    record {
+      tells = record {
         nodes = c.live_walk-nodes.ensures.count;
         first = c.first_unassigned_use.ensures.by_index c.args.n c.requires.long.1 ∙ ap (λ (l : List ℕ). code_of (first_empty_read l [] (uses_in c.args.mine.now))) c.live_walk-nodes.ensures.marks;
-      }; stamped = c.first_unassigned_use.ensures.stamped c.live_walk-nodes.ensures.stamped; }
+      };
+      stamped = c.first_unassigned_use.ensures.stamped c.live_walk-nodes.ensures.stamped;
+    }

@@ -5,4 +5,4 @@ use borrow.Author.Rules.{rules}
 use Rattle.name_columns.proofs.split_name.Goals as goal
 
 pub returns : goal.returns
-returns c = record { name_node_after = rw c.node_of_name.ensures; name_span_after = refl; name_end_after = refl; }
+returns c = record { name_node_after = rw c.node_of_name.ensures; name_span_after = refl; name_end_after = refl }

@@ -30,7 +30,7 @@ returns-then-not-may_follow c = rw (fails c.loop-i.invariant.3 c.requires.kinds_
 pub open_after-depth-requires : goal.open_after-depth-requires
 open_after-depth-requires c =
     let few = from_here (outnumbered c.loop-i.depth 0) c.args.kinds.now c.args.spans.now c.loop-i.i c.requires.kinds_len.0 c.loop-i-test.true c.loop-i.invariant.2 in
-    record { opened_len = (c.loop-i.invariant.0, c.loop-i.invariant.1, most c.loop-i.depth (item c.args.kinds.now c.args.spans.now c.loop-i.i) _ few); opened_value = sym c.may_stand.ensures ∙ c.if-not-may_stand.false; }
+    record { opened_len = (c.loop-i.invariant.0, c.loop-i.invariant.1, most c.loop-i.depth (item c.args.kinds.now c.args.spans.now c.loop-i.i) _ few); opened_value = sym c.may_stand.ensures ∙ c.if-not-may_stand.false }
 
 pub loop-i-preserved : goal.loop-i-preserved
 loop-i-preserved c =

@@ -17,7 +17,7 @@ loop-i-init c = (omega arith, refl, used_none c.args.stamp c.args.sorted.now c.a
 -- the node that is marked
 node_below : (c : After-node_of) → c.node_of.result < length c.loop-i.used
 node_below c =
-     omega (arith, c.requires.0 c.loop-i.i c.loop-i-test.true)
+    omega (arith, c.requires.0 c.loop-i.i c.loop-i-test.true)
 
 pub offset_bounds-used-node_of : goal.offset_bounds-used-node_of
 offset_bounds-used-node_of c = omega (arith, node_below c)

@@ -39,14 +39,18 @@ pub loop-i-init : goal.loop-i-init
 loop-i-init c = (omega arith, ready_empty c.args.stamp c.args.n c.args.marks.now c.args.stack.now c.requires.n_bound.2 c.requires.n_bound.3, refl, refl, refl)
 
 pub push_start-top-requires : goal.push_start-top-requires
-push_start-top-requires c = record { i_in_bounds = (c.loop-i-test.true, omega (arith, below (goal.at.push_start-top-requires c).In-loop-i), omega (arith, below (goal.at.push_start-top-requires c).In-loop-i)); top_in_bounds = λ q. omega (arith, push_room c.args.stamp c.args.n (place (goal.at.push_start-top-requires c).In-loop-i) (below (goal.at.push_start-top-requires c).In-loop-i) c.loop-i.invariant.1 q); }
+push_start-top-requires c =
+    let d = (goal.at.push_start-top-requires c).In-loop-i in
+    record { i_in_bounds = (c.loop-i-test.true, omega (arith, below d), omega (arith, below d)); top_in_bounds = λ q. omega (arith, push_room c.args.stamp c.args.n (place d) (below d) c.loop-i.invariant.1 q) }
 
 pub loop-i-preserved : goal.loop-i-preserved
 loop-i-preserved c =
+    let d = (goal.at.loop-i-preserved c).In-loop-i in
+    let a = (goal.at.loop-i-preserved c).At-loop-i in
     let b : Bool = starts_here c.args.start.now (declared c.args.declaration) c.args.sorted.now c.args.pure c.loop-i.i in (
       omega arith,
-      all_ready c.args.stamp c.args.n (cons_if b (place (goal.at.loop-i-preserved c).In-loop-i) []) (when_nodes c.args.n b (place (goal.at.loop-i-preserved c).In-loop-i) (below (goal.at.loop-i-preserved c).In-loop-i)) c.loop-i.invariant.1 (c.push_start-top.ensures ∙ when_one c.args.stamp b (place (goal.at.loop-i-preserved c).In-loop-i) (here (goal.at.loop-i-preserved c).At-loop-i)),
-      starts_turn c.args.start.now (declared c.args.declaration) c.args.sorted.now c.args.pure c.args.stamp c.loop-i.i (empty (goal.at.loop-i-preserved c).Start) (here (goal.at.loop-i-preserved c).At-loop-i) (after (goal.at.loop-i-preserved c).After-push_start-top) c.loop-i.invariant.2 c.push_start-top.ensures,
+      all_ready c.args.stamp c.args.n (cons_if b (place d) []) (when_nodes c.args.n b (place d) (below d)) c.loop-i.invariant.1 (c.push_start-top.ensures ∙ when_one c.args.stamp b (place d) (here a)),
+      starts_turn c.args.start.now (declared c.args.declaration) c.args.sorted.now c.args.pure c.args.stamp c.loop-i.i (empty (goal.at.loop-i-preserved c).Start) (here a) (after (goal.at.loop-i-preserved c).After-push_start-top) c.loop-i.invariant.2 c.push_start-top.ensures,
       c.marks-1.given ∙ c.loop-i.invariant.3,
       c.stack-1.given ∙ c.loop-i.invariant.4,
     )

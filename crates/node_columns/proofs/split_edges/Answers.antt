@@ -11,12 +11,11 @@ pub loop-i-init : goal.loop-i-init
 loop-i-init c = (omega arith, none, none)
 
 pub loop-i-preserved : goal.loop-i-preserved
-loop-i-preserved c =
-    (
-      omega arith,
-      turn c.loop-i.invariant.1 c.loop-i.invariant.1 (omega arith) (omega arith) c.split_edge.ensures.first_after,
-      turn c.loop-i.invariant.1 c.loop-i.invariant.2 (omega arith) (omega arith) c.split_edge.ensures.second_after,
-    )
+loop-i-preserved c = (
+  omega arith,
+  turn c.loop-i.invariant.1 c.loop-i.invariant.1 (omega arith) (omega arith) c.split_edge.ensures.first_after,
+  turn c.loop-i.invariant.1 c.loop-i.invariant.2 (omega arith) (omega arith) c.split_edge.ensures.second_after,
+)
 
 pub shape_of-first : goal.shape_of-first
 shape_of-first c = c.loop-i.invariant.1.long
@@ -27,4 +26,4 @@ shape_of-second c = c.loop-i.invariant.2.long
 pub returns : goal.returns
 returns c =
     let e : c.loop-i.i ≡ c.args.n = omega arith in
-    record { first_after = rw (← e) c.loop-i.invariant.1.cells; second_after = rw (← e) c.loop-i.invariant.2.cells; }
+    record { first_after = rw (← e) c.loop-i.invariant.1.cells; second_after = rw (← e) c.loop-i.invariant.2.cells }

@@ -14,7 +14,7 @@ returns-then-code_span-index c = λ e. absurd (false≢true e)
 pub returns-then-index-gt0 : goal.returns-then-index-gt0
 returns-then-index-gt0 c =
     λ e.
- let before = through c.args.codes c.args.code_span.now c.args.offset (c.args.index - 1) c.requires.1 (omega arith) (leb-true _ _ e) in
+    let before = through c.args.codes c.args.code_span.now c.args.offset (c.args.index - 1) c.requires.1 (omega arith) (leb-true _ _ e) in
     record { within = omega arith; before = λ i h. before i (omega arith); past = λ h. omega arith }
 
 pub returns-else-index-gt0 : goal.returns-else-index-gt0

@@ -14,7 +14,7 @@ loop-low-init c = (omega arith, omega arith, (λ i h. absurd (omega arith)), (λ
 pub loop-low-preserved-then-code_span-middle : goal.loop-low-preserved-then-code_span-middle
 loop-low-preserved-then-code_span-middle c =
     let m : ℕ = c.loop-low.low + (c.loop-low.high - c.loop-low.low) / 2 in
- (omega arith, omega arith, through c.args.codes c.args.code_span.now c.args.offset m c.requires.1 (omega arith) (omega arith), c.loop-low.invariant.3)
+    (omega arith, omega arith, through c.args.codes c.args.code_span.now c.args.offset m c.requires.1 (omega arith) (omega arith), c.loop-low.invariant.3)
 
 pub loop-low-preserved : goal.loop-low-preserved
 loop-low-preserved c = (omega arith, omega arith, c.loop-low.invariant.2, (λ h. omega arith))

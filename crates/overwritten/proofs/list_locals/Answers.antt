@@ -19,18 +19,20 @@ abbrev stood : Start → List ℕ → List ℕ → Type 0
 stood c S U = Pass (uses_by_node S U c.args.n) S U c.args.n c.args.names c.args.first.now c.args.second.now c.args.start.now c.args.name_node.now c.args.name_end.now c.args.facts.now c.args.starts.now c.args.by_node.now
 
 within : (c : Start) (ℓ : ℕ) → ℓ ≤ c.args.names → get_or c.args.starts.now ℓ 0 ≤ 1024
-within c ℓ h =  omega (arith, c.requires.any_pass.2.table.parts.within ℓ h)
+within c ℓ h = omega (arith, c.requires.any_pass.2.table.parts.within ℓ h)
 
 pub loop-local-init : goal.loop-local-init
 loop-local-init c = (done_none (stood (goal.at.loop-local-init c).Start) c.args.starts.now c.args.n c.args.names c.args.before c.args.finding_word.now c.requires.all_unmarked.0, refl, refl, refl, refl)
 
 pub add_local-count-requires : goal.add_local-count-requires
-add_local-count-requires c = record { any_pass = (c.requires.any_pass, c.loop-local-test.true); linked = c.requires.linked; all_unmarked = c.loop-local.invariant.0.unmarked; room = room_here (stood (goal.at.add_local-count-requires c).Start) c.args.starts.now c.args.n c.args.names c.args.before c.args.finding_word.now 1024 c.requires.all_unmarked.1 c.requires.any_pass.2.table.parts.rising (within (goal.at.add_local-count-requires c).Start) c.loop-local.invariant.0 c.loop-local-test.true; }
+add_local-count-requires c =
+    let d = (goal.at.add_local-count-requires c).Start in
+    record { any_pass = (c.requires.any_pass, c.loop-local-test.true); linked = c.requires.linked; all_unmarked = c.loop-local.invariant.0.unmarked; room = room_here (stood d) c.args.starts.now c.args.n c.args.names c.args.before c.args.finding_word.now 1024 c.requires.all_unmarked.1 c.requires.any_pass.2.table.parts.rising (within d) c.loop-local.invariant.0 c.loop-local-test.true }
 
 pub loop-local-preserved : goal.loop-local-preserved
 loop-local-preserved c =
-    (
-      done_turn (stood (goal.at.loop-local-preserved c).Start) c.args.starts.now c.args.n c.args.names c.args.before c.args.finding_word.now 1024 c.requires.all_unmarked.1 c.requires.any_pass.2.table.parts.rising (within (goal.at.loop-local-preserved c).Start) c.loop-local.invariant.0 c.loop-local-test.true c.add_local-count.ensures.upper_bound c.add_local-count.ensures.all_unmarked_2 c.finding_word-1.given c.add_local-count.ensures.adds_one,
+    let d = (goal.at.loop-local-preserved c).Start in (
+      done_turn (stood d) c.args.starts.now c.args.n c.args.names c.args.before c.args.finding_word.now 1024 c.requires.all_unmarked.1 c.requires.any_pass.2.table.parts.rising (within d) c.loop-local.invariant.0 c.loop-local-test.true c.add_local-count.ensures.upper_bound c.add_local-count.ensures.all_unmarked_2 c.finding_word-1.given c.add_local-count.ensures.adds_one,
       c.used-1.given ∙ c.loop-local.invariant.1,
       c.reads-1.given ∙ c.loop-local.invariant.2,
       c.writes-1.given ∙ c.loop-local.invariant.3,

@@ -29,17 +29,19 @@ after c = st c.push_back-top.new.marks c.push_back-top.new.stack c.push_back-top
 -- the node on the chain, and what is left after it
 first : (c : In-loop-e) → First c.args.n c.args.chain.now c.loop-e.e c.loop-e.invariant.2.left
 first c =
-     first_of c.args.n c.args.chain.now c.loop-e.e c.loop-e.invariant.2.left c.loop-e.invariant.2.on c.loop-e-test.true
+    first_of c.args.n c.args.chain.now c.loop-e.e c.loop-e.invariant.2.left c.loop-e.invariant.2.on c.loop-e-test.true
 
 -- ---- before the loop
 pub loop-e-init : goal.loop-e-init
-loop-e-init c = (refl, refl, left_start c.args.n c.args.chain.now c.args.stamp (test (goal.at.loop-e-init c).Start) c.args.code (entry (goal.at.loop-e-init c).Start) c.requires.by_index c.requires.ready)
+loop-e-init c =
+    let d = (goal.at.loop-e-init c).Start in
+    (refl, refl, left_start c.args.n c.args.chain.now c.args.stamp (test d) c.args.code (entry d) c.requires.by_index c.requires.ready)
 
 -- ---- a turn
 pub push_back-top-requires : goal.push_back-top-requires
 push_back-top-requires c =
     let h = (first (goal.at.push_back-top-requires c).In-loop-e).node in
-    record { v_in_bounds = (omega (arith, h), omega (arith, h), omega (arith, h), omega (arith, h)); top_in_bounds = λ q. omega (arith, push_room c.args.stamp c.args.n (node_of_edge c.loop-e.e) h c.loop-e.invariant.2.ready q); }
+    record { v_in_bounds = (omega (arith, h), omega (arith, h), omega (arith, h), omega (arith, h)); top_in_bounds = λ q. omega (arith, push_room c.args.stamp c.args.n (node_of_edge c.loop-e.e) h c.loop-e.invariant.2.ready q) }
 
 pub edge_after-e-requires : goal.edge_after-e-requires
 edge_after-e-requires c = (omega arith, omega (arith, (first (goal.at.edge_after-e-requires c).In-loop-e).node))
@@ -49,10 +51,10 @@ loop-e-smaller c = rw c.edge_after-e.ensures (first (goal.at.loop-e-smaller c).I
 
 pub loop-e-preserved : goal.loop-e-preserved
 loop-e-preserved c =
-    (
+    let d = (goal.at.loop-e-preserved c).Start in (
       c.marks-1.given ∙ c.loop-e.invariant.0,
       c.stack-1.given ∙ c.loop-e.invariant.1,
-      left_turn c.args.n c.args.chain.now c.args.stamp (test (goal.at.loop-e-preserved c).Start) c.args.code c.loop-e.e c.edge_after-e.result (entry (goal.at.loop-e-preserved c).Start) (here (goal.at.loop-e-preserved c).At-loop-e) (after (goal.at.loop-e-preserved c).After-push_back-top) c.loop-e.invariant.2 (first (goal.at.loop-e-preserved c).In-loop-e) c.edge_after-e.ensures c.push_back-top.ensures,
+      left_turn c.args.n c.args.chain.now c.args.stamp (test d) c.args.code c.loop-e.e c.edge_after-e.result (entry d) (here (goal.at.loop-e-preserved c).At-loop-e) (after (goal.at.loop-e-preserved c).After-push_back-top) c.loop-e.invariant.2 (first (goal.at.loop-e-preserved c).In-loop-e) c.edge_after-e.ensures c.push_back-top.ensures,
     )
 
 -- ---- after the loop
@@ -63,4 +65,6 @@ pub shape_of-stack : goal.shape_of-stack
 shape_of-stack c = c.loop-e.invariant.1
 
 pub returns : goal.returns
-returns c = left_end c.args.n c.args.chain.now c.args.stamp (test (goal.at.returns c).Start) c.args.code c.loop-e.e (entry (goal.at.returns c).Start) (here (goal.at.returns c).At-loop-e) c.loop-e.invariant.2 (omega arith)
+returns c =
+    let d = (goal.at.returns c).Start in
+    left_end c.args.n c.args.chain.now c.args.stamp (test d) c.args.code c.loop-e.e (entry d) (here (goal.at.returns c).At-loop-e) c.loop-e.invariant.2 (omega arith)

@@ -29,14 +29,17 @@ after c = st c.push_node.new.marks c.push_node.new.stack c.push_node.result
 
 room : (c : After-push_node-t) → Room c.args.n (between c)
 room c =
-     (if_moved c.args.n c.at-a.result (before (goal.at.After-push_node-t c).Start) (between c) (λ v. ltb v c.args.n) (ltb-true _ _) c.requires.room c.push_node-t.ensures).fits
+    (if_moved c.args.n c.at-a.result (before (goal.at.After-push_node-t c).Start) (between c) (λ v. ltb v c.args.n) (ltb-true _ _) c.requires.room c.push_node-t.ensures).fits
 
 pub push_node-requires : goal.push_node-requires
 push_node-requires c = room (goal.at.push_node-requires c).After-push_node-t
 
 pub returns : goal.returns
 returns c =
+    let d = (goal.at.returns c).After-push_node-t in
+    let b = (goal.at.returns c).Start in
+    let a = (goal.at.returns c).After-push_node in
     let n = c.args.n in
-    two_pushes (λ v. ltb v n) _ _ (before (goal.at.returns c).Start) (between (goal.at.returns c).After-push_node-t) (after (goal.at.returns c).After-push_node)
-    (cell n c.args.u c.at-a.result c.args.first.now (before (goal.at.returns c).Start) (between (goal.at.returns c).After-push_node-t) c.requires.n_in_bounds.2 c.requires.n_in_bounds.0 c.at-a.ensures c.push_node-t.ensures)
-    (cell n c.args.u c.at-b.result c.args.second.now (between (goal.at.returns c).After-push_node-t) (after (goal.at.returns c).After-push_node) c.requires.n_in_bounds.2 c.requires.n_in_bounds.1 c.at-b.ensures c.push_node.ensures)
+    two_pushes (λ v. ltb v n) _ _ (before b) (between d) (after a)
+    (cell n c.args.u c.at-a.result c.args.first.now (before b) (between d) c.requires.n_in_bounds.2 c.requires.n_in_bounds.0 c.at-a.ensures c.push_node-t.ensures)
+    (cell n c.args.u c.at-b.result c.args.second.now (between d) (after a) c.requires.n_in_bounds.2 c.requires.n_in_bounds.1 c.at-b.ensures c.push_node.ensures)

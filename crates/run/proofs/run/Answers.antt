@@ -13,7 +13,7 @@ pub returns-in-Refused : goal.returns-in-Refused
 returns-in-Refused c = run_refused c.args.sheet.now c.args.offset (sym c.sheet_verdict-verdict.ensures ∙ c.in-Refused.is)
 
 pub run_in-requires : goal.run_in-requires
-run_in-requires c = record { admitted_sheet = admitted c.args.sheet.now (sym c.sheet_verdict-verdict.ensures ∙ c.in_default.is); wide = record { first = lit≤ tt; second = lit≤ tt; start = lit≤ tt; reachable = lit≤ tt; code_span = lit≤ tt; code_node = lit≤ tt; name_span = lit≤ tt; node_of_name = lit≤ tt; name_end = lit≤ tt }; }
+run_in-requires c = record { admitted_sheet = admitted c.args.sheet.now (sym c.sheet_verdict-verdict.ensures ∙ c.in_default.is); wide = record { first = lit≤ tt; second = lit≤ tt; start = lit≤ tt; reachable = lit≤ tt; code_span = lit≤ tt; code_node = lit≤ tt; name_span = lit≤ tt; node_of_name = lit≤ tt; name_end = lit≤ tt } }
 
 pub returns : goal.returns
 returns c = run_accepted c.args.sheet.now c.args.offset (sym c.sheet_verdict-verdict.ensures ∙ c.in_default.is) c.run_in.ensures

@@ -54,16 +54,24 @@ pub scope_kinds-requires : goal.scope_kinds-requires
 scope_kinds-requires c = has_parts c
 
 pub returns-then-not-all_below : goal.returns-then-not-all_below
-returns-then-not-all_below c = kind_wrong _ _ (C (goal.at.returns-then-not-all_below c).Else-scopes-count) (some (goal.at.returns-then-not-all_below c).Else-scopes-count) (few (goal.at.returns-then-not-all_below c).Else-scopes-count) c.if-scopes-count.false (kinds_told (goal.at.returns-then-not-all_below c).After-all_below c.if-not-all_below.true)
+returns-then-not-all_below c =
+    let d = (goal.at.returns-then-not-all_below c).Else-scopes-count in
+    kind_wrong _ _ (C d) (some d) (few d) c.if-scopes-count.false (kinds_told (goal.at.returns-then-not-all_below c).After-all_below c.if-not-all_below.true)
 
 pub parent_words-requires : goal.parent_words-requires
 parent_words-requires c = has_parts (goal.at.parent_words-requires c).Else-scopes-count
 
 pub returns-then-not-parents_lower : goal.returns-then-not-parents_lower
-returns-then-not-parents_lower c = parent_wrong _ _ (C (goal.at.returns-then-not-parents_lower c).Else-scopes-count) (some (goal.at.returns-then-not-parents_lower c).Else-scopes-count) (few (goal.at.returns-then-not-parents_lower c).Else-scopes-count) c.if-scopes-count.false (kinds_are (goal.at.returns-then-not-parents_lower c).After-parents_lower) (parents_told (goal.at.returns-then-not-parents_lower c).After-parents_lower c.if-not-parents_lower.true)
+returns-then-not-parents_lower c =
+    let d = (goal.at.returns-then-not-parents_lower c).Else-scopes-count in
+    let b = (goal.at.returns-then-not-parents_lower c).After-parents_lower in
+    parent_wrong _ _ (C d) (some d) (few d) c.if-scopes-count.false (kinds_are b) (parents_told b c.if-not-parents_lower.true)
 
 pub scope_numbers-requires : goal.scope_numbers-requires
 scope_numbers-requires c = has_parts (goal.at.scope_numbers-requires c).Else-scopes-count
 
 pub returns : goal.returns
-returns c = ap not (c.all_below-2.ensures ∙ ap (all (is_below (count_word (C (goal.at.returns c).Else-scopes-count)))) c.scope_numbers.ensures) ∙ number_wrong _ _ (C (goal.at.returns c).Else-scopes-count) (some (goal.at.returns c).Else-scopes-count) (few (goal.at.returns c).Else-scopes-count) c.if-scopes-count.false (kinds_are (goal.at.returns c).After-parents_lower) (parents_told (goal.at.returns c).After-parents_lower c.if-not-parents_lower.false)
+returns c =
+    let d = (goal.at.returns c).Else-scopes-count in
+    let b = (goal.at.returns c).After-parents_lower in
+    ap not (c.all_below-2.ensures ∙ ap (all (is_below (count_word (C d)))) c.scope_numbers.ensures) ∙ number_wrong _ _ (C d) (some d) (few d) c.if-scopes-count.false (kinds_are b) (parents_told b c.if-not-parents_lower.false)

@@ -38,15 +38,20 @@ admitted_pair c = pair_is (goal.at.In_default c).After-pair_verdict-pair ∙ c.i
 
 behind_8 : (c : In_default) → scoped_verdict c.args.short (sheet (goal.at.In_default c).After-pair_verdict-pair) (uses (goal.at.In_default c).After-pair_verdict-pair) c.args.scopes.now ≡ first_applying (from_9 (goal.at.In_default c).After-pair_verdict-pair)
 unfolding scoped_verdict scoped_tests
-behind_8 c = admitted_before (before_9 (goal.at.In_default c).After-pair_verdict-pair) (from_9 (goal.at.In_default c).After-pair_verdict-pair) (pair_is (goal.at.In_default c).After-pair_verdict-pair ∙ c.in_default.is)
+behind_8 c =
+    let d = (goal.at.In_default c).After-pair_verdict-pair in
+    admitted_before (before_9 d) (from_9 d) (pair_is d ∙ c.in_default.is)
 
 pub returns-in-Refused : goal.returns-in-Refused
 unfolding scoped_verdict scoped_tests
-returns-in-Refused c = sym (refused_before (before_9 (goal.at.returns-in-Refused c).After-pair_verdict-pair) (from_9 (goal.at.returns-in-Refused c).After-pair_verdict-pair) _ (pair_is (goal.at.returns-in-Refused c).After-pair_verdict-pair ∙ c.in-Refused.is))
+returns-in-Refused c =
+    let d = (goal.at.returns-in-Refused c).After-pair_verdict-pair in
+    sym (refused_before (before_9 d) (from_9 d) _ (pair_is d ∙ c.in-Refused.is))
 
 pub scope_is_bad-requires : goal.scope_is_bad-requires
 scope_is_bad-requires c =
-    let j = of_pair _ (sheet (goal.at.scope_is_bad-requires c).After-pair_verdict-pair) (uses (goal.at.scope_is_bad-requires c).After-pair_verdict-pair) (admitted_pair c) in (admitted (sheet (goal.at.scope_is_bad-requires c).After-pair_verdict-pair) j.sheet, j.uses)
+    let d = (goal.at.scope_is_bad-requires c).After-pair_verdict-pair in
+    let j = of_pair _ (sheet d) (uses d) (admitted_pair c) in (admitted (sheet d) j.sheet, j.uses)
 
 pub returns-then-scope_is_bad : goal.returns-then-scope_is_bad
 returns-then-scope_is_bad c = sym (behind_8 (goal.at.returns-then-scope_is_bad c).In_default ∙ applies_first _ _ (sym c.scope_is_bad.ensures ∙ c.if-scope_is_bad.true))

@@ -7,10 +7,10 @@ use Rattle.sized_flow.proofs.compute_large.Goals as goal
 
 -- ---- the places: as the call begins, and after the tables are made
 pub make_tables-requires : goal.make_tables-requires
-make_tables-requires c = record { code_table = (c.requires.any_given.2.columns.code_table, c.requires.any_given.2.columns.use_table); n_nonzero = (omega arith, c.requires.any_given.2.columns.charted.few, c.requires.any_given.2.columns.named.few); room = tables_room 1600 1024 c.requires.any_given.2.facts_long c.requires.any_given.2.columns.charted.few (omega arith) c.requires.any_given.2.columns.use_table.few; }
+make_tables-requires c = record { code_table = (c.requires.any_given.2.columns.code_table, c.requires.any_given.2.columns.use_table); n_nonzero = (omega arith, c.requires.any_given.2.columns.charted.few, c.requires.any_given.2.columns.named.few); room = tables_room 1600 1024 c.requires.any_given.2.facts_long c.requires.any_given.2.columns.charted.few (omega arith) c.requires.any_given.2.columns.use_table.few }
 
 pub list_findings-requires : goal.list_findings-requires
-list_findings-requires c = record { any_pair = (c.requires.any_given.0, c.requires.any_given.1, pair c.requires.any_given.2 (c.make_tables.ensures c.requires.any_given.0 c.requires.any_given.1 c.requires.any_given.2.columns.sources c.requires.any_given.2.facts_are)); walks = walking_room 1600 c.requires.any_given.2.columns.charted.few; room = (omega arith, omega arith); }
+list_findings-requires c = record { any_pair = (c.requires.any_given.0, c.requires.any_given.1, pair c.requires.any_given.2 (c.make_tables.ensures c.requires.any_given.0 c.requires.any_given.1 c.requires.any_given.2.columns.sources c.requires.any_given.2.facts_are)); walks = walking_room 1600 c.requires.any_given.2.columns.charted.few; room = (omega arith, omega arith) }
 
 pub returns : goal.returns
 returns c = λ S U q. c.list_findings.ensures S U (pair q (c.make_tables.ensures S U q.columns.sources q.facts_are))

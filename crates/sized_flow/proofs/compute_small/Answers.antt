@@ -7,10 +7,10 @@ use Rattle.sized_flow.proofs.compute_small.Goals as goal
 
 -- ---- the places: as the call begins, and after the tables are made
 pub make_tables-requires : goal.make_tables-requires
-make_tables-requires c = record { code_table = (c.requires.any_given.2.columns.code_table, c.requires.any_given.2.columns.use_table); n_nonzero = (omega arith, c.requires.any_given.2.columns.charted.few, c.requires.any_given.2.columns.named.few); room = tables_room 128 128 c.requires.any_given.2.facts_long c.requires.room.2 c.requires.room.3 c.requires.room.4; }
+make_tables-requires c = record { code_table = (c.requires.any_given.2.columns.code_table, c.requires.any_given.2.columns.use_table); n_nonzero = (omega arith, c.requires.any_given.2.columns.charted.few, c.requires.any_given.2.columns.named.few); room = tables_room 128 128 c.requires.any_given.2.facts_long c.requires.room.2 c.requires.room.3 c.requires.room.4 }
 
 pub list_findings-requires : goal.list_findings-requires
-list_findings-requires c = record { any_pair = (c.requires.any_given.0, c.requires.any_given.1, pair c.requires.any_given.2 (c.make_tables.ensures c.requires.any_given.0 c.requires.any_given.1 c.requires.any_given.2.columns.sources c.requires.any_given.2.facts_are)); walks = walking_room 128 c.requires.room.2; room = (omega arith, omega arith); }
+list_findings-requires c = record { any_pair = (c.requires.any_given.0, c.requires.any_given.1, pair c.requires.any_given.2 (c.make_tables.ensures c.requires.any_given.0 c.requires.any_given.1 c.requires.any_given.2.columns.sources c.requires.any_given.2.facts_are)); walks = walking_room 128 c.requires.room.2; room = (omega arith, omega arith) }
 
 pub returns : goal.returns
 returns c = λ S U q. c.list_findings.ensures S U (pair q (c.make_tables.ensures S U q.columns.sources q.facts_are))

@@ -15,7 +15,7 @@ pub push_walked-requires : goal.push_walked-requires
 push_walked-requires c = (c.requires.unmarked.2, c.requires.unmarked.3, told_small c.args.mine.now c.walk_local-walked.ensures.tells, omega arith)
 
 pub returns-then-due : goal.returns-then-due
-returns-then-due c = record { adds = rw (← told_words c.walk_local-walked.ensures.tells c.if-due.true c.args.local) c.push_walked.ensures.adds; mark_value = c.push_walked.ensures.mark_value ∙ ap (set c.args.mark.now c.args.local) (told_visits c.walk_local-walked.ensures.tells c.if-due.true); unmarked_2 = unmarked_after (omega arith) c.requires.unmarked.0 c.walk_local-walked.ensures.stamped c.walk_local-walked.auto.visited c.walk_local-walked.auto.stack; }
+returns-then-due c = record { adds = rw (← told_words c.walk_local-walked.ensures.tells c.if-due.true c.args.local) c.push_walked.ensures.adds; mark_value = c.push_walked.ensures.mark_value ∙ ap (set c.args.mark.now c.args.local) (told_visits c.walk_local-walked.ensures.tells c.if-due.true); unmarked_2 = unmarked_after (omega arith) c.requires.unmarked.0 c.walk_local-walked.ensures.stamped c.walk_local-walked.auto.visited c.walk_local-walked.auto.stack }
 
 pub returns-else-due : goal.returns-else-due
-returns-else-due c = record { adds = rw (c.if-due.false, words_none c.args.local 0 refl) (added_none _ _); mark_value = rw c.if-due.false refl; unmarked_2 = unmarked_still (omega arith) c.requires.unmarked.0; }
+returns-else-due c = record { adds = rw (c.if-due.false, words_none c.args.local 0 refl) (added_none _ _); mark_value = rw c.if-due.false refl; unmarked_2 = unmarked_still (omega arith) c.requires.unmarked.0 }

@@ -31,17 +31,16 @@ bounds-facts-local c = lt_of_lt_of_le c.loop-local-test.true c.requires.any_pass
 pub list_local-count-requires : goal.list_local-count-requires
 list_local-count-requires c =
     let l = c.loop-local.invariant.1 c.requires.any_pass.0 c.requires.any_pass.1 c.requires.any_pass.2 in
-    record { unmarked = (c.loop-local.invariant.0.unmarked, c.requires.any_pass.2.charted.few, lt_of_lt_of_le c.loop-local-test.true c.requires.any_pass.2.named.few, omega (arith, l.figures.long)); long = (c.requires.any_pass.2.charted.long, rw c.part_of-mine.ensures (c.requires.any_pass.2.table.parts.placed c.loop-local.local c.loop-local-test.true)); room = omega (arith, listing_few _ _ l, listing_long _ _ l (omega arith)); }
+    record { unmarked = (c.loop-local.invariant.0.unmarked, c.requires.any_pass.2.charted.few, lt_of_lt_of_le c.loop-local-test.true c.requires.any_pass.2.named.few, omega (arith, l.figures.long)); long = (c.requires.any_pass.2.charted.long, rw c.part_of-mine.ensures (c.requires.any_pass.2.table.parts.placed c.loop-local.local c.loop-local-test.true)); room = omega (arith, listing_few _ _ l, listing_long _ _ l (omega arith)) }
 
 pub loop-local-preserved : goal.loop-local-preserved
-loop-local-preserved c =
-    (
-      going_more c.loop-local.invariant.0 c.loop-local-test.true c.list_local-count.ensures.unmarked_2 c.list_local-count.auto.visited c.list_local-count.auto.stack,
-      λ S U p.
-          let due = c.is_due-due.ensures (local_at S c.loop-local.local) (all_found (uses_of S U c.loop-local.local)) (p.table.known.facts_are c.loop-local.local c.loop-local-test.true) in
-          let there = declared_at p.named c.loop-local.local c.loop-local-test.true c.declaration_at-declaration.result c.declaration_at-declaration.ensures.0 c.declaration_at-declaration.ensures.1 in
-          listing_more S U (c.loop-local.invariant.1 S U p) (omega arith) (omega arith) (rw (local_words p c.loop-local.local c.loop-local-test.true _ due _ there _ c.part_of-mine.ensures) at c.list_local-count.ensures.adds) (c.list_local-count.ensures.mark_value ∙ ap (set c.loop-local.mark c.loop-local.local) (local_figure p c.loop-local.local c.loop-local-test.true _ due _ there _ c.part_of-mine.ensures)),
-    )
+loop-local-preserved c = (
+  going_more c.loop-local.invariant.0 c.loop-local-test.true c.list_local-count.ensures.unmarked_2 c.list_local-count.auto.visited c.list_local-count.auto.stack,
+  λ S U p.
+      let due = c.is_due-due.ensures (local_at S c.loop-local.local) (all_found (uses_of S U c.loop-local.local)) (p.table.known.facts_are c.loop-local.local c.loop-local-test.true) in
+      let there = declared_at p.named c.loop-local.local c.loop-local-test.true c.declaration_at-declaration.result c.declaration_at-declaration.ensures.0 c.declaration_at-declaration.ensures.1 in
+      listing_more S U (c.loop-local.invariant.1 S U p) (omega arith) (omega arith) (rw (local_words p c.loop-local.local c.loop-local-test.true _ due _ there _ c.part_of-mine.ensures) at c.list_local-count.ensures.adds) (c.list_local-count.ensures.mark_value ∙ ap (set c.loop-local.mark c.loop-local.local) (local_figure p c.loop-local.local c.loop-local-test.true _ due _ there _ c.part_of-mine.ensures)),
+)
 
 -- the pass is over when `local` is `names`
 all_listed : (c : After-loop-local) → c.loop-local.local ≡ c.args.names
@@ -49,7 +48,7 @@ all_listed c = omega arith
 
 -- what is listed of the sheets that the columns stand for
 abbrev ours : (c : At-loop-local) → Listing c.requires.any_pass.0 c.requires.any_pass.1 c.loop-local.local c.args.finding_word.now c.args.mark.now c.loop-local.finding_word c.loop-local.mark c.loop-local.count
-ours c =  c.loop-local.invariant.1 c.requires.any_pass.0 c.requires.any_pass.1 c.requires.any_pass.2
+ours c = c.loop-local.invariant.1 c.requires.any_pass.0 c.requires.any_pass.1 c.requires.any_pass.2
 
 pub shape_of-visited : goal.shape_of-visited
 shape_of-visited c = c.loop-local.invariant.0.visited_long
@@ -64,4 +63,4 @@ pub shape_of-mark : goal.shape_of-mark
 shape_of-mark c = (ours (goal.at.shape_of-mark c).At-loop-local).figures.long
 
 pub returns : goal.returns
-returns c = record { lists_unassigned = λ S U p. let l = rw (all_listed c) at (c.loop-local.invariant.1 S U p) in (l.listed, l.figures); upper_bound = omega (arith, all_listed c, listing_few _ _ (ours (goal.at.returns c).At-loop-local)); }
+returns c = record { lists_unassigned = λ S U p. let l = rw (all_listed c) at (c.loop-local.invariant.1 S U p) in (l.listed, l.figures); upper_bound = omega (arith, all_listed c, listing_few _ _ (ours (goal.at.returns c).At-loop-local)) }

@@ -9,7 +9,7 @@ use borrow.Author.Rules.{rules}
 use Rattle.unassigned.proofs.push_walked.Goals as goal
 
 pub returns-then-first-eq0 : goal.returns-then-first-eq0
-returns-then-first-eq0 c = record { adds = rw (words_none _ _ c.if-first-eq0.true) (added_none _ _); mark_value = refl; }
+returns-then-first-eq0 c = record { adds = rw (words_none _ _ c.if-first-eq0.true) (added_none _ _); mark_value = refl }
 
 pub returns-else-first-eq0 : goal.returns-else-first-eq0
-returns-else-first-eq0 c = record { adds = rw (words_one c.args.local c.args.walked.first (2 * c.args.local + 4294967296 * c.args.walked.first) c.if-first-eq0.false (omega arith)) c.push_finding.ensures; mark_value = refl; }
+returns-else-first-eq0 c = record { adds = rw (words_one c.args.local c.args.walked.first (2 * c.args.local + 4294967296 * c.args.walked.first) c.if-first-eq0.false (omega arith)) c.push_finding.ensures; mark_value = refl }

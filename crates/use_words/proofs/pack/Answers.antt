@@ -31,12 +31,12 @@ packs c e =
 
 pub returns-then-word-eq1 : goal.returns-then-word-eq1
 returns-then-word-eq1 c =
-    let r = packs (goal.at.returns-then-word-eq1 c).Start (rw (c.if-captured.true, eq-eqb _ 1 c.if-word-eq1.true)) in record { result_value = r.0; result_value_2 = r.1; }
+    let r = packs (goal.at.returns-then-word-eq1 c).Start (rw (c.if-captured.true, eq-eqb _ 1 c.if-word-eq1.true)) in record { result_value = r.0; result_value_2 = r.1 }
 
 pub returns-else-word-eq1 : goal.returns-else-word-eq1
 returns-else-word-eq1 c =
-    let r = packs (goal.at.returns-else-word-eq1 c).Start (rw (c.if-captured.true, ne_eqb _ 1 c.if-word-eq1.false) (omega arith)) in record { result_value = r.0; result_value_2 = r.1; }
+    let r = packs (goal.at.returns-else-word-eq1 c).Start (rw (c.if-captured.true, ne_eqb _ 1 c.if-word-eq1.false) (omega arith)) in record { result_value = r.0; result_value_2 = r.1 }
 
 pub returns-else-captured : goal.returns-else-captured
 returns-else-captured c =
-    let r = packs (goal.at.returns-else-captured c).Start (rw c.if-captured.false (omega arith)) in record { result_value = r.0; result_value_2 = r.1; }
+    let r = packs (goal.at.returns-else-captured c).Start (rw c.if-captured.false (omega arith)) in record { result_value = r.0; result_value_2 = r.1 }

@@ -13,13 +13,17 @@ use Rattle.uses_by_node.proofs.is_overwritten_unread.Goals.{Start}
 
 -- where the call began, seen from where the reads ahead are known
 abbrev graph : Start → Graph
-graph c =  chart c.args.n c.args.first.now c.args.second.now []
+graph c = chart c.args.n c.args.first.now c.args.second.now []
 
 abbrev marks : Start → Ahead
-marks c =  record { reads = flags_of c.args.stamp c.args.n c.args.reads.now; writes = flags_of c.args.stamp c.args.n c.args.writes.now }
+marks c = record { reads = flags_of c.args.stamp c.args.n c.args.reads.now; writes = flags_of c.args.stamp c.args.n c.args.writes.now }
 
 pub returns-then-is_ahead : goal.returns-then-is_ahead
-returns-then-is_ahead c = read_ahead (graph (goal.at.returns-then-is_ahead c).Start) (marks (goal.at.returns-then-is_ahead c).Start) c.args.v (sym c.is_ahead.ensures ∙ c.if-is_ahead.true)
+returns-then-is_ahead c =
+    let d = (goal.at.returns-then-is_ahead c).Start in
+    read_ahead (graph d) (marks d) c.args.v (sym c.is_ahead.ensures ∙ c.if-is_ahead.true)
 
 pub returns-else-is_ahead : goal.returns-else-is_ahead
-returns-else-is_ahead c = c.is_ahead-else-is_ahead.ensures ∙ unread_ahead (graph (goal.at.returns-else-is_ahead c).Start) (marks (goal.at.returns-else-is_ahead c).Start) c.args.v (sym c.is_ahead.ensures ∙ c.if-is_ahead.false)
+returns-else-is_ahead c =
+    let d = (goal.at.returns-else-is_ahead c).Start in
+    c.is_ahead-else-is_ahead.ensures ∙ unread_ahead (graph d) (marks d) c.args.v (sym c.is_ahead.ensures ∙ c.if-is_ahead.false)

@@ -10,7 +10,7 @@ use Rattle.cfg_steps.proofs.GraphBuilder.arm_test.Goals as goal
 
 pub code-requires : goal.code-requires
 code-requires c =
-    let r = may_code _ (move_did [] _ _ _ _ _ c.requires.by_index.2 _ (inl c.requires.nodes_bound.3)).good c.requires.nodes_bound.0 c.requires.nodes_bound.1 c.requires.nodes_bound.2 in record { standing = r.0; nodes_in_bounds = r.1.0; codes_in_bounds = r.1.1; }
+    let r = may_code _ (move_did [] _ _ _ _ _ c.requires.by_index.2 _ (inl c.requires.nodes_bound.3)).good c.requires.nodes_bound.0 c.requires.nodes_bound.1 c.requires.nodes_bound.2 in record { standing = r.0; nodes_in_bounds = r.1.0; codes_in_bounds = r.1.1 }
 
 pub returns : goal.returns
 returns c = λ ks n l ok q. let d = move_did ks _ _ _ n l ok _ (inl c.requires.nodes_bound.3) in did_trans d (c.code.ensures.by_index ks n l d.good q)

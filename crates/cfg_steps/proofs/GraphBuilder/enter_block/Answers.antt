@@ -30,11 +30,12 @@ pub returns-then-ends_at : goal.returns-then-ends_at
 returns-then-ends_at c = λ ss k n e ok. scan_ended e (c.loop-j.invariant.2 ss k n e ok) c.loop-j-test.true (sym c.ends_at.ensures ∙ c.if-ends_at.true)
 
 pub label_here-b-requires : goal.label_here-b-requires
-label_here-b-requires c = record { by_index = (_, _, (scanned (goal.at.label_here-b-requires c).At-loop-j).entered.good); depth_bound = (scan_room refl (scanned (goal.at.label_here-b-requires c).At-loop-j) c.loop-j-test.true (sym c.ends_at.ensures ∙ c.if-ends_at.false) c.args.self.nodes (scanned (goal.at.label_here-b-requires c).At-loop-j).entered.nodes (c.requires.by_index_2 _ refl), c.requires.item_in_bounds.2 _ c.loop-j-test.true); }
+label_here-b-requires c =
+    let d = (goal.at.label_here-b-requires c).At-loop-j in
+    record { by_index = (_, _, (scanned d).entered.good); depth_bound = (scan_room refl (scanned d) c.loop-j-test.true (sym c.ends_at.ensures ∙ c.if-ends_at.false) c.args.self.nodes (scanned d).entered.nodes (c.requires.by_index_2 _ refl), c.requires.item_in_bounds.2 _ c.loop-j-test.true) }
 
 pub loop-j-preserved : goal.loop-j-preserved
-loop-j-preserved c =
-    (
+loop-j-preserved c = (
   omega arith,
   depth_step _ c.loop-j.depth c.loop-j.j c.depth_after-depth.ensures (omega arith),
   λ ss k n e ok. rw c.depth_after-depth.ensures (scan_more e (c.loop-j.invariant.2 ss k n e ok) c.loop-j-test.true (sym c.ends_at.ensures ∙ c.if-ends_at.false) (entered_trans (c.label_here-b.ensures _ k n (c.loop-j.invariant.2 ss k n e ok).entered.good))),

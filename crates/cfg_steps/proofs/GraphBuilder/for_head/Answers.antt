@@ -16,7 +16,7 @@ use Rattle.cfg_steps.proofs.GraphBuilder.for_head.Goals as goal
 pub advance_to-a-requires : goal.advance_to-a-requires
 advance_to-a-requires c =
     let d = c.code_and_after-h.ensures [] _ _ c.requires.by_index.2 refl in
-    record { standing = stands d.good; node_lt_nodes = omega (arith, d.nodes); }
+    record { standing = stands d.good; node_lt_nodes = omega (arith, d.nodes) }
 
 pub new_node-requires : goal.new_node-requires
 new_node-requires c = let d = c.code_and_after-h.ensures [] _ _ c.requires.by_index.2 refl in let e = c.advance_to-a.ensures [] _ _ _ d.good in (omega (arith, e.good.wide_edges, d.nodes, e.nodes), omega (arith, d.nodes, e.nodes))

@@ -19,7 +19,7 @@ pub new_label-requires : goal.new_label-requires
 new_label-requires c =
     let labelled = sym c.is_label.ensures ∙ c.if-not-is_label.false in
     let h = ap length (here_named c.args.w c.args.depth c.if-depth-ne0.false labelled) in
-    record { by_index = c.requires.by_index; nodes_bound = (omega (arith, h), c.requires.depth_bound.1 (label_kind _ labelled)); }
+    record { by_index = c.requires.by_index; nodes_bound = (omega (arith, h), c.requires.depth_bound.1 (label_kind _ labelled)) }
 
 pub returns : goal.returns
 returns c = λ ks k n ok. rw (here_named _ _ c.if-depth-ne0.false (sym c.is_label.ensures ∙ c.if-not-is_label.false)) (c.new_label.ensures ks k n ok)

@@ -16,10 +16,10 @@ pub returns-in_default : goal.returns-in_default
 returns-in_default c = λ ks n ok q. did_as refl (λ ss g. labelled_lost _ _ _ g (sym c.label_node.ensures ∙ c.in_default.is)) (did_none ks _ _ ok)
 
 pub record_code-t-requires : goal.record_code-t-requires
-record_code-t-requires c = record { codes_in_bounds = (omega arith, c.requires.codes_lt_item.0); i_lt_item = (c.requires.codes_lt_item.1, label_below c.args.name c.requires.by_index.1 (sym c.label_node.ensures ∙ c.in-At.is), c.requires.by_index.1.nodes, c.requires.by_index.1.items); }
+record_code-t-requires c = record { codes_in_bounds = (omega arith, c.requires.codes_lt_item.0); i_lt_item = (c.requires.codes_lt_item.1, label_below c.args.name c.requires.by_index.1 (sym c.label_node.ensures ∙ c.in-At.is), c.requires.by_index.1.nodes, c.requires.by_index.1.items) }
 
 pub advance_to-requires : goal.advance_to-requires
-advance_to-requires c = record { standing = stands_as c.record_code-t.ensures.nodes_value.0 c.record_code-t.ensures.nodes_value.1 (stands c.requires.by_index.1); node_lt_nodes = rw c.record_code-t.ensures.nodes_value.0 (label_below c.args.name c.requires.by_index.1 (sym c.label_node.ensures ∙ c.in-At.is)); }
+advance_to-requires c = record { standing = stands_as c.record_code-t.ensures.nodes_value.0 c.record_code-t.ensures.nodes_value.1 (stands c.requires.by_index.1); node_lt_nodes = rw c.record_code-t.ensures.nodes_value.0 (label_below c.args.name c.requires.by_index.1 (sym c.label_node.ensures ∙ c.in-At.is)) }
 
 pub returns : goal.returns
 returns c =

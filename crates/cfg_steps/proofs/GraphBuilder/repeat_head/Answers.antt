@@ -20,7 +20,7 @@ advance_to-requires c =
     let d = c.new_node-b.ensures [] _ _ _ c.requires.by_index.3 in
     let e = c.new_node-c.ensures [] _ _ _ d.good in
     let f = c.new_node-a.ensures [] _ _ _ e.good in
-    record { standing = stands f.good; node_lt_nodes = omega (arith, d.nodes, e.nodes, f.nodes); }
+    record { standing = stands f.good; node_lt_nodes = omega (arith, d.nodes, e.nodes, f.nodes) }
 
 pub returns : goal.returns
 returns c =

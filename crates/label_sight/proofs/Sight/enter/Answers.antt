@@ -29,8 +29,7 @@ label_here-s-requires c =
     )
 
 pub loop-j-preserved : goal.loop-j-preserved
-loop-j-preserved c =
-    (
+loop-j-preserved c = (
   depth_step _ _ _ c.depth_after-depth.ensures c.loop-j.invariant.0,
   λ ss e. rw c.depth_after-depth.ensures (scan_more e (c.loop-j.invariant.1 ss e) (omega arith) (sym c.ends_at.ensures ∙ c.if-ends_at.false) (entered_trans c.label_here-s.ensures)),
 )
