@@ -1,5 +1,4 @@
 -- `admission::sheet_verdict` meets its contract. Assumes nothing.
-use borrow.Author.Rules.{rules}
 use mathlib.Core.Path.{sym, ◌∙◌}
 use Rattle.flow.specs.Refusals.{sheet_tests, sheet_verdict}
 use Rattle.sheet_parts.proofs.Parts.{counted}

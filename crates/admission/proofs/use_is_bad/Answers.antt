@@ -1,5 +1,4 @@
 -- `admission::use_is_bad` meets its contract: the tests of the parts are those of the two sheets. Assumes nothing.
-use borrow.Author.Rules.{rules}
 use Prim.Native.Nat.{ℕ}
 use mathlib.Core.List.{List}
 use mathlib.Core.Path.{◌≡◌, sym}

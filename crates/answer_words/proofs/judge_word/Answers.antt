@@ -1,5 +1,4 @@
 -- `answer_words::judge_word` meets its contract, by the cases of the answer. Assumes nothing.
-use borrow.Author.Rules.{rules}
 use Rattle.answer_words.proofs.Fields.{refused_counts}
 use Rattle.answer_words.proofs.judge_word.Goals as goal
 

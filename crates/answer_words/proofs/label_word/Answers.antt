@@ -1,5 +1,4 @@
 -- `answer_words::label_word` meets its contract, by the cases of the answer. Assumes nothing.
-use borrow.Author.Rules.{rules}
 use native.Mathlib.Omega.{arith}
 use Rattle.answer_words.proofs.Fields.{refused_label}
 use Rattle.answer_words.proofs.label_word.Goals as goal

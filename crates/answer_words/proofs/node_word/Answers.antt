@@ -1,5 +1,4 @@
 -- `answer_words::node_word` meets its contract. Assumes nothing.
-use borrow.Author.Rules.{rules}
 use native.Mathlib.Omega.{arith}
 use mathlib.Core.Path.{refl}
 use Rattle.answer_words.proofs.node_word.Goals as goal

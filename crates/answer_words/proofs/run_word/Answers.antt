@@ -1,5 +1,4 @@
 -- `answer_words::run_word` meets its contract, by the cases of the answer. Assumes nothing.
-use borrow.Author.Rules.{rules}
 use native.Mathlib.Omega.{arith}
 use mathlib.Core.Path.{refl}
 use Rattle.answer_words.proofs.Fields.{refused_run, run_fields}

@@ -1,6 +1,5 @@
 -- `blocks::depth_after` meets its contract: one case for each test.
 -- Assumes nothing.
-use borrow.Author.Rules.{rules}
 use mathlib.Core.Path.{sym, ◌∙◌}
 use Rattle.blocks.proofs.Scan.{depth_open, depth_close, depth_same}
 use Rattle.blocks.proofs.depth_after.Goals as goal

@@ -2,7 +2,6 @@
 -- Assumes nothing.
 use native.Mathlib.Omega.{arith}
 use Rattle.both_lists.proofs.Both.{lent_on, in_use_order, in_node_order, both_listed}
-use borrow.Author.Rules.{rules}
 use Rattle.both_lists.proofs.list_findings.Goals as goal
 
 -- ---- the places: as the call begins, after the first pass, and after the second

@@ -6,20 +6,17 @@ use Rattle.cfg.proofs.Choices.{armed_none, armed_more, armed_chosen, chosen_last
 use Rattle.cfg.proofs.Statements.{with_item, good_item, with_cursor, good_cursor, while_opened, repeat_opened, for_opened, if_opened, looped_to}
 use Rattle.cfg.proofs.Scopes.{good_scope, entered_scope, good_loop, scoped_loop, entered_room, scoped, looped}
 use Rattle.flow.proofs.Builds.{labels_inside}
-use Rattle.cfg.proofs.Blocks.{Going, going_none, going_room, going_more, going_ended, ender_done, end_done, closed_at}
-use Rattle.cfg.specs.Steps.{bare, Arm, Armed}
+use Rattle.cfg.proofs.Blocks.{going_none, going_room, going_more, going_ended, ender_done, end_done, closed_at}
+use Rattle.cfg.specs.Steps.{bare, Arm}
 use Rattle.cfg_steps.proofs.Simple.{stands}
-use Rattle.cfg_steps.specs.Columns.{cols}
 use Rattle.flow.specs.Sheet.{kind_of}
 use Rattle.blocks.specs.Open.{open_at, Ender}
 use Rattle.cfg_steps.specs.declared.GraphBuilder.{GraphBuilder}
 use Rattle.blocks.proofs.Scan.{ends, ends_not}
 use lib.ListN.{length, get_or}
 use native.Mathlib.Omega.{arith}
-use mathlib.Core.List.{List}
 use mathlib.Core.Path.{◌≡◌, refl, sym, ap, ◌∙◌, subst}
-use borrow.Author.Rules.{rules}
-use Prim.Native.Nat.{ℕ, ◌<◌, ◌≤◌, ◌+◌, ◌-◌, ◌*◌}
+use Prim.Native.Nat.{ℕ, ◌<◌, ◌≤◌, ◌+◌}
 use Rattle.cfg.proofs.+arm_arms_block_for_loop_if_stmt_loop_body_repeat_loop_scoped_block_stmt_while_loop.Goals as goal
 
 -- ---- arm

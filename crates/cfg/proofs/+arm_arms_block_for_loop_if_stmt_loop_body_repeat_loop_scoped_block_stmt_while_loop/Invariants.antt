@@ -1,25 +1,10 @@
-use Rattle.cfg_steps.proofs.Loops.{move_did}
-use mathlib.Core.Logic.{inl}
-use lib.Dec.{lit≤}
-use Rattle.cfg.proofs.Rooms.{do_room, while_room, repeat_room, for_room, if_room, simple_room, elseif_room, else_room, code_starts, close_starts, simple_kind, ended_on, arms_left, at_item}
-use Rattle.cfg.proofs.Choices.{armed_none, armed_more, armed_chosen, chosen_last, arm_else, elseif_built, else_built, opened_stepped, do_stepped, simple_stepped}
-use Rattle.cfg.proofs.Statements.{with_item, good_item, with_cursor, good_cursor, while_opened, repeat_opened, for_opened, if_opened, looped_to}
-use Rattle.cfg.proofs.Scopes.{good_scope, entered_scope, good_loop, scoped_loop, entered_room, scoped, looped}
-use Rattle.flow.proofs.Builds.{labels_inside}
-use Rattle.cfg.proofs.Blocks.{Going, going_none, going_room, going_more, going_ended, ender_done, end_done, closed_at}
-use Rattle.cfg.specs.Steps.{bare, Arm, Armed}
-use Rattle.cfg_steps.proofs.Simple.{stands}
+use Rattle.cfg.proofs.Blocks.{Going}
+use Rattle.cfg.specs.Steps.{Armed}
 use Rattle.cfg_steps.specs.Columns.{cols}
-use Rattle.flow.specs.Sheet.{kind_of}
-use Rattle.blocks.specs.Open.{open_at, Ender}
-use Rattle.cfg_steps.specs.declared.GraphBuilder.{GraphBuilder}
-use Rattle.blocks.proofs.Scan.{ends, ends_not}
-use lib.ListN.{length, get_or}
-use native.Mathlib.Omega.{arith}
+use lib.ListN.{length}
 use mathlib.Core.List.{List}
-use mathlib.Core.Path.{◌≡◌, refl, sym, ap, ◌∙◌, subst}
-use borrow.Author.Rules.{rules}
-use Prim.Native.Nat.{ℕ, ◌<◌, ◌≤◌, ◌+◌, ◌-◌, ◌*◌}
+use mathlib.Core.Path.{◌≡◌}
+use Prim.Native.Nat.{ℕ, ◌+◌, ◌-◌, ◌*◌}
 use Rattle.cfg.proofs.+arm_arms_block_for_loop_if_stmt_loop_body_repeat_loop_scoped_block_stmt_while_loop.Given as goal
 
 abbrev pub decreases-arm : goal.decreases-arm

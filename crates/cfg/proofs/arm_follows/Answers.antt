@@ -5,7 +5,6 @@ use mathlib.Core.Bool.{true, true≢false, false≢true}
 use native.Mathlib.Omega.{arith}
 use Prim.Native.Nat.{ℕ}
 use lib.Dec.{eqb}
-use borrow.Author.Rules.{rules}
 use borrow.Author.Tests.{eqb-true, eqb-false}
 use Rattle.cfg.specs.Steps.{Arm}
 use Rattle.cfg.proofs.Choices.{arm_else}

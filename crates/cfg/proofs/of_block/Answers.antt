@@ -1,6 +1,5 @@
 -- `cfg::of_block` meets its contract: the outermost block from the entry, whose end goes to End.
 -- Assumes nothing.
-use borrow.Author.Rules.{rules}
 use native.Mathlib.Omega.{arith}
 use mathlib.Core.Path.{refl}
 use Rattle.cfg_steps.proofs.Simple.{stands}

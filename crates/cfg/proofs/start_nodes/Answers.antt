@@ -1,6 +1,5 @@
 -- `cfg::start_nodes` meets its contract: six words that hold no successor.
 -- Assumes nothing.
-use borrow.Author.Rules.{rules}
 use native.Mathlib.Omega.{arith}
 use lib.ListN.{length-set}
 use Rattle.cfg.proofs.Sheets.{six}

@@ -1,6 +1,5 @@
 -- `cfg_edges::connect` meets its contract: an edge goes in the first free half of its node's word.
 -- Assumes nothing.
-use borrow.Author.Rules.{rules}
 use native.Mathlib.Omega.{arith}
 use borrow.Author.Tests.{eq-eqb, ne_eqb}
 use lib.ListN.{length}

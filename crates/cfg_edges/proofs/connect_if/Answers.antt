@@ -1,6 +1,5 @@
 -- `cfg_edges::connect_if` meets its contract: an edge, or none.
 -- Assumes nothing.
-use borrow.Author.Rules.{rules}
 use mathlib.Core.Logic.{inl}
 use Rattle.cfg_edges.proofs.connect_if.Goals as goal
 

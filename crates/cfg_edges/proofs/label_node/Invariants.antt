@@ -1,12 +1,9 @@
 -- `cfg_edges::label_node` meets its contract: from the last label on, the first of that name.
 -- Assumes nothing.
 use Prim.Native.Nat.{◌≤◌}
-use mathlib.Core.Path.{◌≡◌, refl, sym, ap, ◌∙◌}
-use native.Mathlib.Omega.{arith}
-use borrow.Author.Tests.{eq-eqb, ne_eqb}
+use mathlib.Core.Path.{◌≡◌}
 use Rattle.flow.specs.Graph.{label_node}
 use Rattle.cfg_edges.specs.Halves.{label_list}
-use Rattle.cfg_edges.proofs.Lookup.{look_step, look_none}
 use Rattle.cfg_edges.proofs.label_node.Given as goal
 
 abbrev pub invariant-loop-k : goal.invariant-loop-k

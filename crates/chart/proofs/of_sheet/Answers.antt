@@ -1,6 +1,5 @@
 -- `chart::of_sheet` meets its contract: the graph of the sheet's parts, in the lent columns.
 -- Assumes nothing.
-use borrow.Author.Rules.{rules}
 use mathlib.Core.List.{List}
 use Prim.Native.Nat.{ℕ}
 use lib.ListN.{get_or}

@@ -1,6 +1,5 @@
 -- `chart::write_chart` meets its contract: each column is what the definition gives, over what stood there before.
 -- Assumes nothing.
-use borrow.Author.Rules.{rules}
 use mathlib.Core.Path.{◌∙◌}
 use Rattle.flow.specs.Graph.{graph}
 use Rattle.chart.proofs.Laid.{as_many, build_asks, nodes_ask, codes_ask, names_ask, firsts, seconds, charted}

@@ -1,6 +1,5 @@
 -- `chart_call::chart` meets its contract: refused, no column was touched; admitted, the columns are wide enough for the graph.
 -- Assumes nothing.
-use borrow.Author.Rules.{rules}
 use mathlib.Core.Path.{◌≡◌, sym, ap, ◌∙◌}
 use mathlib.Core.Bool.{Bool}
 use mathlib.Core.List.{List}

@@ -1,6 +1,5 @@
 -- `chart_run::run_in` meets its contract: the place among the chart's codes, and the flag of its node.
 -- Assumes nothing.
-use borrow.Author.Rules.{rules}
 use Rattle.flow.specs.Graph.{graph}
 use Rattle.chart_run.proofs.Running.{node_asks, place_is, place_in, place_long, flags_are, ran}
 use Rattle.chart_run.proofs.run_in.Goals as goal

@@ -1,7 +1,6 @@
 -- `code_columns::split_code` meets its contract, by whether the code's item gives a start.
 -- Assumes nothing.
 use mathlib.Core.Path.{refl, sym, ◌∙◌}
-use borrow.Author.Rules.{rules}
 use Rattle.cfg_steps.specs.Columns.{painted}
 use Rattle.code_columns.proofs.split_code.Goals as goal
 

@@ -1,13 +1,11 @@
 -- `code_columns::split_codes` meets its contract: at the loop's head the first k words are taken apart, and their starts are set.
 -- Assumes nothing.
-use Prim.Native.Nat.{ℕ, ◌≤◌, ◌<◌, ◌-◌}
+use Prim.Native.Nat.{◌<◌}
 use mathlib.Core.Path.{◌≡◌, refl, ◌∙◌}
-use mathlib.Core.List.{List}
 use native.Mathlib.Omega.{arith}
-use lib.ListN.{length, get_or, take}
-use Rattle.cfg_edges.specs.Halves.{lo, hi}
+use lib.ListN.{length}
 use Rattle.cfg_steps.specs.Columns.{painted}
-use Rattle.node_columns.proofs.Written.{Written, none, still, turn}
+use Rattle.node_columns.proofs.Written.{none, still, turn}
 use Rattle.code_columns.proofs.Starts.{paint_more, paint_all}
 use Rattle.code_columns.proofs.split_codes.Invariants.{span}
 use Rattle.code_columns.proofs.split_codes.Goals as goal

@@ -1,14 +1,12 @@
 -- `code_columns::split_codes` meets its contract: at the loop's head the first k words are taken apart, and their starts are set.
 -- Assumes nothing.
-use Prim.Native.Nat.{ℕ, ◌≤◌, ◌<◌, ◌-◌}
-use mathlib.Core.Path.{◌≡◌, refl, ◌∙◌}
+use Prim.Native.Nat.{ℕ, ◌≤◌, ◌-◌}
+use mathlib.Core.Path.{◌≡◌}
 use mathlib.Core.List.{List}
-use native.Mathlib.Omega.{arith}
 use lib.ListN.{length, get_or, take}
 use Rattle.cfg_edges.specs.Halves.{lo, hi}
 use Rattle.cfg_steps.specs.Columns.{painted}
-use Rattle.node_columns.proofs.Written.{Written, none, still, turn}
-use Rattle.code_columns.proofs.Starts.{paint_more, paint_all}
+use Rattle.node_columns.proofs.Written.{Written}
 use Rattle.code_columns.proofs.split_codes.Given as goal
 
 abbrev pub span : List ℕ → ℕ → ℕ

@@ -1,5 +1,4 @@
 -- `column_lengths::judge_short` meets its contract. Assumes nothing.
-use borrow.Author.Rules.{rules}
 use lib.Dec.{ltb}
 use Rattle.column_lengths.specs.Lengths.{judge_too_short}
 use Rattle.column_lengths.proofs.Also.{also}

@@ -1,5 +1,4 @@
 -- `count_tests::either_miscounted` meets its contract. Assumes nothing.
-use borrow.Author.Rules.{rules}
 use mathlib.Core.Path.{◌∙◌, sym}
 use Rattle.count_tests.proofs.either_miscounted.Goals as goal
 

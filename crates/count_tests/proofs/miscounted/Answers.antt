@@ -1,5 +1,4 @@
 -- `count_tests::miscounted` meets its contract. Assumes nothing.
-use native.Mathlib.Omega.{arith}
 use borrow.Author.Tests.{lt-ltb, le-ltb}
 use Rattle.flow.specs.Refusals.{miscount}
 use Rattle.count_tests.proofs.miscounted.Goals as goal

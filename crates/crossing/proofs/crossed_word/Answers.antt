@@ -6,7 +6,6 @@ use native.Mathlib.Omega.{arith}
 use Rattle.flow.specs.Sheet.{local_of}
 use Rattle.flow.specs.Scopes.{with_crossing}
 use Rattle.crossing.proofs.Word.{numbers_long, chain_asks, chain_tells}
-use borrow.Author.Rules.{rules}
 use Rattle.crossing.proofs.crossed_word.Goals as goal
 
 pub bounds-numbers-word : goal.bounds-numbers-word

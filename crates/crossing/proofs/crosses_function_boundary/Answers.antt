@@ -1,7 +1,6 @@
 -- `crossing::crosses_function_boundary` meets its contract: the nearest Function, and whether the name's scope stands before it, tell as much as the chain.
 -- Assumes nothing.
 use Rattle.crossing.proofs.Tables.{crosses_none, crosses_past, crosses_unless_over}
-use borrow.Author.Rules.{rules}
 use Rattle.crossing.proofs.crosses_function_boundary.Goals as goal
 
 pub returns-then-function-eq0 : goal.returns-then-function-eq0

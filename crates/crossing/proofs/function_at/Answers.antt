@@ -1,6 +1,5 @@
 -- `crossing::function_at` meets its contract. Assumes nothing.
 use borrow.Author.Tests.{eq-eqb, ne_eqb}
-use borrow.Author.Rules.{rules}
 use Rattle.crossing.proofs.function_at.Goals as goal
 
 pub returns-then-kind-eq-FUNCTION : goal.returns-then-kind-eq-FUNCTION

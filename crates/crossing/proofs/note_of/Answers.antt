@@ -8,7 +8,6 @@ use lib.Dec.{eqb}
 use Rattle.flow.specs.Scopes.{FUNCTION, Lower}
 use Rattle.crossing.specs.Tables.{jump_in, function_in, Note}
 use Rattle.crossing.proofs.Notes.{note_root, note_up, note_far, function_few, jump_low, above_few}
-use borrow.Author.Rules.{rules}
 use Rattle.crossing.proofs.note_of.Goals as goal
 use Rattle.crossing.proofs.note_of.Goals.{After-function_at-function, After-function_at-over, Else-parent-eq0}
 

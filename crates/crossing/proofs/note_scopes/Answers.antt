@@ -1,10 +1,8 @@
 -- `crossing::note_scopes` meets its contract: at the loop's head the first s scopes are noted.
 -- Assumes nothing.
-use Prim.Native.Nat.{◌-◌, ◌≤◌}
-use mathlib.Core.Path.{◌≡◌, refl, ◌∙◌}
+use mathlib.Core.Path.{refl, ◌∙◌}
 use native.Mathlib.Omega.{arith}
-use lib.ListN.{length, length-set}
-use Rattle.crossing.specs.Tables.{Noted}
+use lib.ListN.{length-set}
 use Rattle.crossing.proofs.Notes.{noted_one}
 use Rattle.crossing.proofs.note_scopes.Goals as goal
 

@@ -1,11 +1,9 @@
 -- `crossing::note_scopes` meets its contract: at the loop's head the first s scopes are noted.
 -- Assumes nothing.
 use Prim.Native.Nat.{◌-◌, ◌≤◌}
-use mathlib.Core.Path.{◌≡◌, refl, ◌∙◌}
-use native.Mathlib.Omega.{arith}
-use lib.ListN.{length, length-set}
+use mathlib.Core.Path.{◌≡◌}
+use lib.ListN.{length}
 use Rattle.crossing.specs.Tables.{Noted}
-use Rattle.crossing.proofs.Notes.{noted_one}
 use Rattle.crossing.proofs.note_scopes.Given as goal
 
 abbrev pub invariant-loop-s : goal.invariant-loop-s

@@ -1,12 +1,11 @@
 -- `crossing::replace_crossings` meets its contract: the scopes are noted, and at the loop's head the first u words are replaced.
 -- Assumes nothing.
-use Prim.Native.Nat.{ℕ, ◌-◌, ◌≤◌, ◌<◌}
+use Prim.Native.Nat.{ℕ, ◌<◌}
 use mathlib.Core.Path.{refl, ap, ◌∙◌}
 use native.Mathlib.Omega.{arith}
 use lib.ListN.{length, set, length-replicate}
-use borrow.Author.Rules.{rules}
 use Rattle.crossing.specs.Tables.{ScopesNoted}
-use Rattle.crossing.proofs.Word.{counted, notes_ask, notes_tell, Replacing, none_yet, replaced_one, all_replaced}
+use Rattle.crossing.proofs.Word.{counted, notes_ask, notes_tell, none_yet, replaced_one, all_replaced}
 use Rattle.crossing.proofs.replace_crossings.Goals as goal
 use Rattle.crossing.proofs.replace_crossings.Goals.{After-note_scopes, In-loop-u}
 

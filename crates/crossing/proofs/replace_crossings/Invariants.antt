@@ -1,12 +1,8 @@
 -- `crossing::replace_crossings` meets its contract: the scopes are noted, and at the loop's head the first u words are replaced.
 -- Assumes nothing.
-use Prim.Native.Nat.{ℕ, ◌-◌, ◌≤◌, ◌<◌}
-use mathlib.Core.Path.{refl, ap, ◌∙◌}
-use native.Mathlib.Omega.{arith}
-use lib.ListN.{length, set, length-replicate}
-use borrow.Author.Rules.{rules}
-use Rattle.crossing.specs.Tables.{ScopesNoted}
-use Rattle.crossing.proofs.Word.{counted, notes_ask, notes_tell, Replacing, none_yet, replaced_one, all_replaced}
+use Prim.Native.Nat.{◌-◌, ◌≤◌}
+use lib.ListN.{length}
+use Rattle.crossing.proofs.Word.{Replacing}
 use Rattle.crossing.proofs.replace_crossings.Given as goal
 
 abbrev pub invariant-loop-u : goal.invariant-loop-u

@@ -1,7 +1,6 @@
 -- `crossing::with_crossing` meets its contract.
 -- Assumes nothing.
 use native.Mathlib.Omega.{arith}
-use borrow.Author.Rules.{rules}
 use Rattle.crossing.proofs.with_crossing.Goals as goal
 
 pub returns-then-crosses : goal.returns-then-crosses

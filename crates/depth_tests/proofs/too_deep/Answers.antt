@@ -1,14 +1,12 @@
 -- `depth_tests::too_deep` meets its contract: its loop is the sweep of refusal 4. Assumes nothing.
-use Prim.Native.Nat.{◌≤◌, ◌-◌}
 use mathlib.Core.Bool.{not}
 use mathlib.Core.Path.{sym, ap, ◌∙◌}
 use native.Mathlib.Omega.{arith}
-use lib.ListN.{length}
 use borrow.Author.Tests.{lt-ltb, le-ltb, not-false}
 use Rattle.flow.specs.Refusals.{one, outnumbered}
 use Rattle.flow.specs.Sheet.{zip}
 use Rattle.sweeps.proofs.Bools.{not_not, one_most}
-use Rattle.sweeps.proofs.Sweep.{Swept, begin, onward, fails, ends}
+use Rattle.sweeps.proofs.Sweep.{begin, onward, fails, ends}
 use Rattle.depth_tests.proofs.Sweeps.{shallow}
 use Rattle.depth_tests.proofs.too_deep.Goals as goal
 

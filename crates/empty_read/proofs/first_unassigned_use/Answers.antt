@@ -1,10 +1,8 @@
 -- `empty_read::first_unassigned_use` meets its contract: what the marks leave to the uses from place i on is what they left to all at the start.
 -- Assumes nothing.
-use Prim.Native.Nat.{ℕ, ◌+◌, ◌-◌, ◌<◌}
+use Prim.Native.Nat.{ℕ, ◌+◌, ◌<◌}
 use mathlib.Core.Path.{◌≡◌, refl, sym, ap, subst, ◌∙◌}
-use mathlib.Core.List.{List, []}
-use native.Mathlib.Omega.{arith}
-use borrow.Author.Rules.{rules}
+use mathlib.Core.List.{List}
 use lib.ListN.{length, get_or, drop}
 use Rattle.search.specs.Stamps.{flags_of, Stamped}
 use Rattle.flow.specs.Findings.{is_write, is_empty_read, first_empty_read}

@@ -1,16 +1,11 @@
 -- `empty_read::first_unassigned_use` meets its contract: what the marks leave to the uses from place i on is what they left to all at the start.
 -- Assumes nothing.
-use Prim.Native.Nat.{ℕ, ◌+◌, ◌-◌, ◌<◌}
-use mathlib.Core.Path.{◌≡◌, refl, sym, ap, subst, ◌∙◌}
-use mathlib.Core.List.{List, []}
-use native.Mathlib.Omega.{arith}
-use borrow.Author.Rules.{rules}
-use lib.ListN.{length, get_or, drop}
+use Prim.Native.Nat.{ℕ, ◌-◌}
+use mathlib.Core.Path.{◌≡◌}
+use lib.ListN.{length, drop}
 use Rattle.search.specs.Stamps.{flags_of, Stamped}
-use Rattle.flow.specs.Findings.{is_write, is_empty_read, first_empty_read}
-use Rattle.use_words.specs.Words.{node_in, use_of, uses_in, AllPlaced}
-use Rattle.empty_read.specs.FirstRead.{mark_if, code_of}
-use Rattle.empty_read.proofs.EmptyReads.{bounded_if, found, passed, ended}
+use Rattle.flow.specs.Findings.{first_empty_read}
+use Rattle.use_words.specs.Words.{uses_in, AllPlaced}
 use Rattle.empty_read.proofs.first_unassigned_use.Given as goal
 
 abbrev pub invariant-loop-i : goal.invariant-loop-i

@@ -1,7 +1,6 @@
 -- `empty_read::mark_write` meets its contract: the two cases of the test.
 -- Assumes nothing.
 use mathlib.Core.Path.{sym, ◌∙◌}
-use borrow.Author.Rules.{rules}
 use Rattle.empty_read.proofs.mark_write.Goals as goal
 
 pub returns-then-is_write : goal.returns-then-is_write

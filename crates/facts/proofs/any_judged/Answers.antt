@@ -1,11 +1,9 @@
 -- `facts::any_judged` meets its contract. The loop's invariant: none of the locals passed is judged.
 -- Assumes nothing.
-use Prim.Native.Nat.{◌-◌, ◌≤◌}
 use mathlib.Core.Path.{sym, ◌∙◌}
 use mathlib.Core.Bool.{false≢true}
 use native.Mathlib.Omega.{arith}
-use borrow.Author.Rules.{rules}
-use Rattle.facts.specs.Facts.{is_judged, None}
+use Rattle.facts.specs.Facts.{is_judged}
 use Rattle.facts.proofs.Facts.{none_first, none_more, none_all}
 use Rattle.facts.proofs.any_judged.Goals as goal
 

@@ -1,12 +1,9 @@
 -- `facts::any_tracked` meets its contract. The loop's invariant: none of the locals passed is tracked.
 -- Assumes nothing.
-use Prim.Native.Nat.{◌-◌, ◌≤◌}
 use mathlib.Core.Path.{sym, ◌∙◌}
 use mathlib.Core.Bool.{false≢true}
 use native.Mathlib.Omega.{arith}
-use borrow.Author.Rules.{rules}
 use Rattle.flow.specs.Locals.{tracked}
-use Rattle.facts.specs.Facts.{None}
 use Rattle.facts.proofs.Facts.{none_first, none_more, none_all}
 use Rattle.facts.proofs.any_tracked.Goals as goal
 

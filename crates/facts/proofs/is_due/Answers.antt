@@ -1,7 +1,6 @@
 -- `facts::is_due` meets its contract: the cases of its tests.
 -- Assumes nothing.
 use mathlib.Core.Bool.{not-not}
-use borrow.Author.Rules.{rules}
 use Rattle.flow.specs.Locals.{no_value}
 use Rattle.facts.proofs.is_due.Goals as goal
 

@@ -2,7 +2,6 @@
 -- Assumes nothing.
 use mathlib.Core.Path.{sym}
 use mathlib.Core.Bool.{and-true, and-false}
-use borrow.Author.Rules.{rules}
 use Rattle.facts.proofs.is_judged.Goals as goal
 
 pub returns-then-writes_judged : goal.returns-then-writes_judged

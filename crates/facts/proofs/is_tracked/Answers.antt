@@ -3,7 +3,6 @@
 use mathlib.Core.Path.{sym, ◌∙◌}
 use mathlib.Core.Bool.{true, false}
 use borrow.Author.Tests.{not-true, not-false}
-use borrow.Author.Rules.{rules}
 use Rattle.facts.proofs.Facts.{tracked_never, tracked_when}
 use Rattle.facts.proofs.is_tracked.Goals as goal
 

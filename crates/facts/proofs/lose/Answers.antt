@@ -1,6 +1,5 @@
 -- `facts::lose` meets its contract, by whether a use was lost before.
 -- Assumes nothing.
-use borrow.Author.Rules.{rules}
 use Rattle.facts.proofs.Facts.{lost_now, lost_before}
 use Rattle.facts.proofs.lose.Goals as goal
 

@@ -1,9 +1,8 @@
 -- `file_words::read_words` meets its contract: at the loop's head the first i words are read.
 -- Assumes nothing.
-use Prim.Native.Nat.{◌-◌, ◌≤◌}
 use mathlib.Core.Path.{◌≡◌, refl}
 use native.Mathlib.Omega.{arith}
-use Rattle.file_words.proofs.Words.{ReadWords, none, next_word}
+use Rattle.file_words.proofs.Words.{none, next_word}
 use Rattle.file_words.proofs.read_words.Goals as goal
 
 pub loop-i-init : goal.loop-i-init

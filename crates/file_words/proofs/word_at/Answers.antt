@@ -1,10 +1,9 @@
 -- `file_words::word_at` meets its contract: at the loop's head the word holds the bytes from k on.
 -- Assumes nothing.
-use Prim.Native.Nat.{◌+◌, ◌-◌, ◌^◌, ◌≤◌, ◌<◌}
+use Prim.Native.Nat.{◌+◌, ◌-◌, ◌^◌, ◌<◌}
 use mathlib.Core.Path.{◌≡◌, refl}
 use native.Mathlib.Nat.{add-zero}
 use native.Mathlib.Omega.{arith}
-use lib.ListN.{drop}
 use Rattle.flow.specs.Listing.{little_endian}
 use Rattle.file_words.proofs.Words.{fits, next_byte}
 use Rattle.file_words.proofs.word_at.Goals as goal

@@ -1,6 +1,5 @@
 -- `finding_lines::finding_line` meets its contract, by the finding's list.
 -- Assumes nothing.
-use borrow.Author.Rules.{rules}
 use Rattle.finding_lines.proofs.Texts.{unassigned, overwritten}
 use Rattle.finding_lines.proofs.finding_line.Goals as goal
 

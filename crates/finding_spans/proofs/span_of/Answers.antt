@@ -1,7 +1,6 @@
 -- `finding_spans::span_of` meets its contract.
 -- Assumes nothing.
 use borrow.Author.Tests.{eq-eqb, ne_eqb}
-use borrow.Author.Rules.{rules}
 use Rattle.finding_spans.proofs.span_of.Goals as goal
 
 pub returns-then-use_code-eq0 : goal.returns-then-use_code-eq0

@@ -1,10 +1,10 @@
 -- `finding_spans::write_spans` meets its contract: after i turns the first i spans are written.
 -- Assumes nothing.
-use Prim.Native.Nat.{ℕ, ◌-◌, ◌≤◌}
+use Prim.Native.Nat.{ℕ}
 use mathlib.Core.Path.{◌≡◌, refl, ap, ◌∙◌}
-use mathlib.Core.List.{List, ◌++◌, map}
+use mathlib.Core.List.{List}
 use native.Mathlib.Omega.{arith}
-use lib.ListN.{length, get_or, set, take, drop, length-set}
+use lib.ListN.{get_or, set, length-set}
 use Rattle.finding_spans.specs.Spans.{span_of}
 use Rattle.finding_spans.proofs.Spans.{written_next}
 use Rattle.finding_spans.proofs.write_spans.Goals as goal

@@ -1,12 +1,10 @@
 -- `finding_spans::write_spans` meets its contract: after i turns the first i spans are written.
 -- Assumes nothing.
-use Prim.Native.Nat.{ℕ, ◌-◌, ◌≤◌}
-use mathlib.Core.Path.{◌≡◌, refl, ap, ◌∙◌}
-use mathlib.Core.List.{List, ◌++◌, map}
-use native.Mathlib.Omega.{arith}
-use lib.ListN.{length, get_or, set, take, drop, length-set}
+use Prim.Native.Nat.{◌-◌, ◌≤◌}
+use mathlib.Core.Path.{◌≡◌}
+use mathlib.Core.List.{◌++◌, map}
+use lib.ListN.{length, take, drop}
 use Rattle.finding_spans.specs.Spans.{span_of}
-use Rattle.finding_spans.proofs.Spans.{written_next}
 use Rattle.finding_spans.proofs.write_spans.Given as goal
 
 abbrev pub invariant-loop-i : goal.invariant-loop-i

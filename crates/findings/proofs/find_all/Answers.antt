@@ -15,7 +15,6 @@ use Rattle.locals.specs.Entries.{Added}
 use Rattle.unassigned.specs.Pass.{Figures}
 use Rattle.local_flow.specs.Sheets.{Sheets}
 use Rattle.findings.proofs.Judging.{in_parts, all_few, known, found}
-use borrow.Author.Rules.{rules}
 use Rattle.findings.proofs.find_all.Goals as goal
 use Rattle.findings.proofs.find_all.Goals.{After-compute-found, After-kinds-kinds}
 

@@ -1,11 +1,8 @@
 -- `item_tests::bad_item` meets its contract: its loop is the sweep of refusal 3. Assumes nothing.
-use Prim.Native.Nat.{◌-◌}
 use mathlib.Core.Path.{sym, ◌∙◌}
-use native.Mathlib.Omega.{arith}
-use lib.ListN.{length}
-use borrow.Author.Tests.{lt-ltb, le-ltb, not-true, not-false}
+use borrow.Author.Tests.{lt-ltb, le-ltb}
 use Rattle.flow.specs.Sheet.{all}
-use Rattle.sweeps.proofs.Sweep.{Swept, begin, onward, fails, ends}
+use Rattle.sweeps.proofs.Sweep.{begin, onward, fails, ends}
 use Rattle.item_tests.proofs.Sweeps.{fitting}
 use Rattle.item_tests.proofs.bad_item.Goals as goal
 

@@ -1,9 +1,8 @@
 -- `judge::judge` meets its contract: refused, no column was touched; admitted, the columns are wide enough for chart and findings.
 -- Assumes nothing.
-use borrow.Author.Rules.{rules}
 use mathlib.Core.Path.{◌≡◌, sym, ap, ◌∙◌}
 use mathlib.Core.Bool.{Bool}
-use mathlib.Core.List.{List, [], ◌∷◌}
+use mathlib.Core.List.{List, ◌∷◌}
 use Prim.Native.Nat.{ℕ}
 use lib.ListN.{length}
 use Rattle.column_lengths.specs.Lengths.{judge_too_short}

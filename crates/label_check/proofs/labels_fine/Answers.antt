@@ -1,15 +1,13 @@
 -- `label_check::labels_fine` meets its contract: the walk starts at the outermost block, and at its end nothing is left to check.
 -- Assumes nothing.
-use Prim.Native.Nat.{ℕ, ◌≤◌, ◌-◌}
+use Prim.Native.Nat.{ℕ}
 use mathlib.Core.Path.{◌≡◌, refl}
 use mathlib.Core.List.{List}
 use mathlib.Core.Bool.{true}
 use native.Mathlib.Omega.{arith}
-use borrow.Author.Rules.{rules}
 use borrow.Author.Tests.{not-true, not-false}
 use lib.ListN.{length, length-replicate, replicate}
-use Rattle.label_sight.specs.Labels.{Unlabelled}
-use Rattle.label_check.specs.Walk.{Entering, After}
+use Rattle.label_check.specs.Walk.{Entering}
 use Rattle.label_check.proofs.Walks.{enter_asked, entered_after, walk_start, walk_end, walk_lost}
 use Rattle.label_check.proofs.labels_fine.Goals as goal
 use Rattle.label_check.proofs.labels_fine.Goals.{Start}

@@ -1,16 +1,11 @@
 -- `label_check::labels_fine` meets its contract: the walk starts at the outermost block, and at its end nothing is left to check.
 -- Assumes nothing.
 use Prim.Native.Nat.{ℕ, ◌≤◌, ◌-◌}
-use mathlib.Core.Path.{◌≡◌, refl}
+use mathlib.Core.Path.{◌≡◌}
 use mathlib.Core.List.{List}
-use mathlib.Core.Bool.{true}
-use native.Mathlib.Omega.{arith}
-use borrow.Author.Rules.{rules}
-use borrow.Author.Tests.{not-true, not-false}
-use lib.ListN.{length, length-replicate, replicate}
+use lib.ListN.{length}
 use Rattle.label_sight.specs.Labels.{Unlabelled}
-use Rattle.label_check.specs.Walk.{Entering, After}
-use Rattle.label_check.proofs.Walks.{enter_asked, entered_after, walk_start, walk_end, walk_lost}
+use Rattle.label_check.specs.Walk.{After}
 use Rattle.label_check.proofs.labels_fine.Given as goal
 
 abbrev pub invariant-loop-j : goal.invariant-loop-j

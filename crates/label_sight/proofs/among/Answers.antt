@@ -1,10 +1,7 @@
 -- `label_sight::among` meets its contract: what is passed holds no such name.
 -- Assumes nothing.
-use Prim.Native.Nat.{◌≤◌}
-use mathlib.Core.Path.{◌≡◌, refl, sym, ◌∙◌}
+use mathlib.Core.Path.{refl, sym, ◌∙◌}
 use native.Mathlib.Omega.{arith}
-use lib.ListN.{take, drop}
-use Rattle.flow.specs.Sheet.{member}
 use Rattle.label_sight.proofs.Names.{look_found, look_past, look_none}
 use Rattle.label_sight.proofs.among.Goals as goal
 

@@ -1,9 +1,6 @@
 -- `label_sight::labels_end` meets its contract: what is passed is no label.
 -- Assumes nothing.
 use mathlib.Core.Path.{sym, ◌∙◌}
-use native.Mathlib.Omega.{arith}
-use borrow.Author.Rules.{rules}
-use Rattle.label_sight.specs.Labels.{Unlabelled}
 use Rattle.label_sight.proofs.Named.{all_passed, one_less}
 use Rattle.label_sight.proofs.labels_end.Goals as goal
 

@@ -1,9 +1,9 @@
 -- `line_tests::item_held` meets its contract. Assumes nothing.
 use Prim.Native.Nat.{ℕ, ◌<◌, ◌-◌, ◌/◌}
-use mathlib.Core.List.{[], ◌∷◌}
+use mathlib.Core.List.{◌∷◌}
 use mathlib.Core.Path.{◌≡◌, sym, ap, ◌∙◌}
 use native.Mathlib.Omega.{arith}
-use borrow.Author.Tests.{le-leb, lt-leb, eq-eqb, ne_eqb, not-true, not-false}
+use borrow.Author.Tests.{le-leb, lt-leb, eq-eqb, ne_eqb}
 use Rattle.flow.specs.Refusals.{one}
 use Rattle.flow.specs.Sheet.{member}
 use Rattle.sweeps.proofs.Bools.{and_true}

@@ -1,18 +1,12 @@
 -- `line_tests::off_the_line` meets its contract: its loop is the sweep of refusal 6, with the scope ends around on a stack that 4 and 5 bound.
 -- Assumes nothing.
-use Prim.Native.Nat.{◌+◌, ◌<◌, ◌-◌, ◌%◌, ◌/◌}
-use mathlib.Core.Bool.{Bool, cond, not}
-use mathlib.Core.List.{[], ◌∷◌}
-use mathlib.Core.Path.{refl, sym, ap, subst, ◌∙◌}
-use native.Mathlib.Omega.{arith}
-use lib.ListN.{length, get_or}
-use borrow.Author.Tests.{not-true, not-false}
-use Rattle.flow.specs.Refusals.{in_order, inside_scopes}
-use Rattle.flow.specs.Sheet.{Item, end_of}
+use Prim.Native.Nat.{◌<◌, ◌-◌}
+use mathlib.Core.List.{◌∷◌}
+use lib.ListN.{length}
 use Rattle.nesting_tests.specs.Stack.{stack_of}
-use Rattle.line_tests.specs.Turn.{Scopes, Room}
-use Rattle.line_tests.proofs.Nested.{Nested, nested_room, scopes_next}
-use Rattle.sweeps.proofs.Sweep.{Swept, begin, onward, fails, ends, rest, rest_next, item}
+use Rattle.line_tests.specs.Turn.{Scopes}
+use Rattle.line_tests.proofs.Nested.{Nested}
+use Rattle.sweeps.proofs.Sweep.{Swept, ends, rest}
 use Rattle.line_tests.proofs.Sweeps.{lining}
 use Rattle.line_tests.proofs.off_the_line.Given as goal
 

@@ -1,6 +1,5 @@
 -- `line_writer::byte` meets its contract.
 -- Assumes nothing.
-use borrow.Author.Rules.{rules}
 use Rattle.line_writer.proofs.Appended.{one}
 use Rattle.line_writer.proofs.byte.Goals as goal
 

@@ -1,13 +1,9 @@
 -- `line_writer::numbers` meets its contract: at the loop's head the first i numbers stand.
 -- Assumes nothing.
-use borrow.Author.Rules.{rules}
-use Prim.Native.Nat.{◌-◌}
 use mathlib.Core.Path.{◌∙◌}
-use mathlib.Core.List.{[], ◌∷◌, flat_map}
-use native.Mathlib.Omega.{arith}
-use lib.ListN.{length}
+use mathlib.Core.List.{◌∷◌, flat_map}
 use Rattle.line_writer.proofs.Appended.{first_room, then_room, both}
-use Rattle.line_writer.proofs.Pieces.{Passed, none, long, room, turn, all}
+use Rattle.line_writer.proofs.Pieces.{none, long, room, turn, all}
 use Rattle.line_writer.proofs.Texts.{spaced, numbers_pieces}
 use Rattle.line_writer.proofs.numbers.Goals as goal
 

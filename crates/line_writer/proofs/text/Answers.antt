@@ -1,10 +1,7 @@
 -- `line_writer::text` meets its contract: at the loop's head the first i bytes stand.
 -- Assumes nothing.
-use Prim.Native.Nat.{◌-◌}
-use native.Mathlib.Omega.{arith}
-use lib.ListN.{length}
-use Rattle.line_writer.proofs.Pieces.{Passed, none, long, room, turn, all}
-use Rattle.line_writer.proofs.Texts.{byte_of, bytes_pieces}
+use Rattle.line_writer.proofs.Pieces.{none, long, room, turn, all}
+use Rattle.line_writer.proofs.Texts.{bytes_pieces}
 use Rattle.line_writer.proofs.text.Goals as goal
 
 pub loop-i-init : goal.loop-i-init

@@ -1,10 +1,9 @@
 -- `line_writer::text` meets its contract: at the loop's head the first i bytes stand.
 -- Assumes nothing.
 use Prim.Native.Nat.{◌-◌}
-use native.Mathlib.Omega.{arith}
 use lib.ListN.{length}
-use Rattle.line_writer.proofs.Pieces.{Passed, none, long, room, turn, all}
-use Rattle.line_writer.proofs.Texts.{byte_of, bytes_pieces}
+use Rattle.line_writer.proofs.Pieces.{Passed}
+use Rattle.line_writer.proofs.Texts.{byte_of}
 use Rattle.line_writer.proofs.text.Given as goal
 
 abbrev pub invariant-loop-i : goal.invariant-loop-i

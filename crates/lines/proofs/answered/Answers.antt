@@ -1,6 +1,5 @@
 -- `lines::answered` meets its contract, by judge's answer.
 -- Assumes nothing.
-use borrow.Author.Rules.{rules}
 use Rattle.flow.specs.Listing.{report}
 use Rattle.flow.proofs.Answers.{refuses}
 use Rattle.lines.proofs.answered.Goals as goal

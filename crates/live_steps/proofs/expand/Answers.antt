@@ -1,6 +1,5 @@
 -- `live_steps::expand` meets its contract: two pushes.
 -- Assumes nothing.
-use borrow.Author.Rules.{rules}
 use Rattle.search.specs.Worklist.{State, st}
 use Rattle.search.specs.Stamps.{Ready}
 use Rattle.live_steps.specs.Walk.{declared}

@@ -1,6 +1,5 @@
 -- `live_steps::is_alive_at` meets its contract: the two tests of `alive_in`.
 -- Assumes nothing.
-use borrow.Author.Rules.{rules}
 use borrow.Author.Tests.{eq-eqb, ne_eqb}
 use Rattle.live_steps.specs.Walk.{alive_in}
 use Rattle.live_steps.proofs.is_alive_at.Goals as goal

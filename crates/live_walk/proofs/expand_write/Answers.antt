@@ -1,7 +1,6 @@
 -- `live_walk::expand_write` meets its contract: the two cases of the test.
 -- Assumes nothing.
 use mathlib.Core.Path.{refl, sym, ◌∙◌}
-use borrow.Author.Rules.{rules}
 use Rattle.use_words.specs.Words.{use_of}
 use Rattle.live_walk.proofs.expand_write.Goals as goal
 

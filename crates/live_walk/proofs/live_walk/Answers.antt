@@ -2,11 +2,10 @@
 -- Assumes nothing.
 use mathlib.Core.Path.{◌≡◌, refl, ◌∙◌}
 use native.Mathlib.Omega.{arith}
-use lib.ListN.{length}
 use Rattle.search.specs.Worklist.{State, st, pop, topmost}
-use Rattle.search.specs.Stamps.{flagged, stamp_all}
-use Rattle.search.proofs.Worklist.{Search, measure}
-use Rattle.search.proofs.Stamps.{Counted, ready_empty, node_below, top_in, pop_ready, stamp_falls, stamp_end, count_begin, count_turn, count_end}
+use Rattle.search.specs.Stamps.{stamp_all}
+use Rattle.search.proofs.Worklist.{Search}
+use Rattle.search.proofs.Stamps.{ready_empty, node_below, top_in, pop_ready, stamp_falls, stamp_end, count_begin, count_turn, count_end}
 use Rattle.use_words.specs.Words.{uses_in}
 use Rattle.live_steps.specs.Walk.{declared}
 use Rattle.live_walk.proofs.Walk.{from_writes, walked_is}

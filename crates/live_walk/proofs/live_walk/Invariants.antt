@@ -1,15 +1,14 @@
 -- `live_walk::live_walk` meets its contract: the law of a search by a stamp that counts its turns, from after the writes.
 -- Assumes nothing.
-use mathlib.Core.Path.{◌≡◌, refl, ◌∙◌}
-use native.Mathlib.Omega.{arith}
+use mathlib.Core.Path.{◌≡◌}
 use lib.ListN.{length}
-use Rattle.search.specs.Worklist.{State, st, pop, topmost}
-use Rattle.search.specs.Stamps.{flagged, stamp_all}
-use Rattle.search.proofs.Worklist.{Search, measure}
-use Rattle.search.proofs.Stamps.{Counted, ready_empty, node_below, top_in, pop_ready, stamp_falls, stamp_end, count_begin, count_turn, count_end}
+use Rattle.search.specs.Worklist.{st}
+use Rattle.search.specs.Stamps.{flagged}
+use Rattle.search.proofs.Worklist.{measure}
+use Rattle.search.proofs.Stamps.{Counted}
 use Rattle.use_words.specs.Words.{uses_in}
 use Rattle.live_steps.specs.Walk.{declared}
-use Rattle.live_walk.proofs.Walk.{from_writes, walked_is}
+use Rattle.live_walk.proofs.Walk.{from_writes}
 use Rattle.live_walk.proofs.live_walk.Given as goal
 
 abbrev pub invariant-loop-top : goal.invariant-loop-top

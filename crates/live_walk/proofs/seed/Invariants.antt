@@ -1,16 +1,12 @@
 -- `live_walk::seed` meets its contract: what the uses from place i on push now is what all push from the start.
 -- Assumes nothing.
 use Prim.Native.Nat.{◌-◌}
-use mathlib.Core.Path.{◌≡◌, refl, ◌∙◌}
-use native.Mathlib.Omega.{arith}
-use lib.ListN.{length, get_or}
-use Rattle.search.specs.Worklist.{State, st}
+use mathlib.Core.Path.{◌≡◌}
+use lib.ListN.{length}
+use Rattle.search.specs.Worklist.{st}
 use Rattle.search.specs.Stamps.{stamp_all, Ready}
-use Rattle.flow.specs.Locals.{Declaration}
-use Rattle.flow.specs.Findings.{Use}
-use Rattle.use_words.specs.Words.{use_of}
 use Rattle.live_steps.specs.Walk.{declared}
-use Rattle.live_walk.proofs.Walk.{seeds, seed_step, seed_done, write_ready}
+use Rattle.live_walk.proofs.Walk.{seeds}
 use Rattle.live_walk.proofs.seed.Given as goal
 
 abbrev pub invariant-loop-i : goal.invariant-loop-i

@@ -4,7 +4,6 @@ use Prim.Native.Nat.{ℕ, ◌≤◌}
 use mathlib.Core.List.{List}
 use native.Mathlib.Omega.{arith}
 use lib.ListN.{length, length-replicate}
-use borrow.Author.Tests.{not-true}
 use Rattle.flow.specs.Locals.{locals}
 use Rattle.flow.specs.Findings.{findings}
 use Rattle.flow.specs.Judge.{words_of}
@@ -13,7 +12,6 @@ use Rattle.unassigned.specs.Pass.{Figures}
 use Rattle.sized_flow.specs.Given.{Given}
 use Rattle.local_flow.specs.Sheets.{Sheets}
 use Rattle.local_flow.proofs.Columns.{counted, known, few_names_law, given, nothing_found, zero_figures}
-use borrow.Author.Rules.{rules}
 use Rattle.local_flow.proofs.compute.Goals as goal
 use Rattle.local_flow.proofs.compute.Goals.{After-find_names-names}
 

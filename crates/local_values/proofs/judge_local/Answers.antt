@@ -12,7 +12,6 @@ use Rattle.live_steps.specs.Walk.{declared}
 use Rattle.next_uses.specs.Backwards.{AllUnmarked}
 use Rattle.locals.specs.Entries.{Added}
 use Rattle.local_values.proofs.Judged.{judged_by_marks}
-use borrow.Author.Rules.{rules}
 use Rattle.local_values.proofs.judge_local.Goals as goal
 use Rattle.local_values.proofs.judge_local.Goals.{After-slice_known-9-1}
 

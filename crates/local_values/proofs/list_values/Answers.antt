@@ -2,7 +2,6 @@
 -- Assumes nothing.
 use native.Mathlib.Omega.{arith}
 use Rattle.locals.proofs.Entries.{added_more}
-use borrow.Author.Rules.{rules}
 use Rattle.local_values.proofs.list_values.Goals as goal
 
 pub returns : goal.returns

@@ -1,14 +1,11 @@
 -- `local_values::list_writes` meets its contract. The loop's invariant: what was found at the places passed was added.
 -- Assumes nothing.
-use Prim.Native.Nat.{◌-◌}
 use native.Mathlib.Omega.{arith}
-use mathlib.Core.List.{[]}
-use lib.ListN.{length}
 use Rattle.search.specs.Stamps.{flags_of}
 use Rattle.flow.specs.Graph.{Graph}
 use Rattle.flow.specs.Findings.{Ahead}
 use Rattle.live_steps.specs.Walk.{chart}
-use Rattle.local_values.proofs.Writes.{Passed, passed_none, passed_long, passed_count, room_left, passed_turn, passed_end}
+use Rattle.local_values.proofs.Writes.{passed_none, passed_long, passed_count, room_left, passed_turn, passed_end}
 use Rattle.local_values.proofs.list_writes.Goals as goal
 use Rattle.local_values.proofs.list_writes.Goals.{Start}
 

@@ -1,7 +1,6 @@
 -- `local_values::push_if_overwritten` meets its contract: the two cases of its test.
 -- Assumes nothing.
 use Rattle.locals.proofs.Entries.{added_none}
-use borrow.Author.Rules.{rules}
 use Rattle.local_values.proofs.push_if_overwritten.Goals as goal
 
 -- where the test is answered with yes, seen from where the call of push_write has returned

@@ -5,7 +5,6 @@ use mathlib.Core.Path.{◌≡◌}
 use Rattle.flow.specs.Locals.{finding_word}
 use Rattle.locals.proofs.Entries.{added_none}
 use native.Mathlib.Omega.{arith}
-use borrow.Author.Rules.{rules}
 use Rattle.local_values.proofs.push_initial.Goals as goal
 
 -- where both tests are answered with yes, seen from where the call of push_finding has returned

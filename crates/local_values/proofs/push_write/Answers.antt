@@ -1,7 +1,6 @@
 -- `local_values::push_write` meets its contract: the word is that of the use.
 -- Assumes nothing.
 use Rattle.use_words.specs.Words.{use_of}
-use borrow.Author.Rules.{rules}
 use Rattle.local_values.proofs.push_write.Goals as goal
 
 pub returns : goal.returns

@@ -2,7 +2,6 @@
 -- Assumes nothing.
 use mathlib.Core.Path.{ap₂}
 use Rattle.bucket_sort.specs.Grouped.{part}
-use borrow.Author.Rules.{rules}
 use Rattle.locals.proofs.part_of.Goals as goal
 
 pub returns : goal.returns

@@ -1,6 +1,5 @@
 -- `locals::push_finding` meets its contract.
 -- Assumes nothing.
-use borrow.Author.Rules.{rules}
 use Rattle.locals.proofs.Entries.{added_one}
 use Rattle.locals.proofs.push_finding.Goals as goal
 

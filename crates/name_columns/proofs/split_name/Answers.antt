@@ -1,7 +1,6 @@
 -- `name_columns::split_name` meets its contract.
 -- Assumes nothing.
 use mathlib.Core.Path.{refl}
-use borrow.Author.Rules.{rules}
 use Rattle.name_columns.proofs.split_name.Goals as goal
 
 pub returns : goal.returns

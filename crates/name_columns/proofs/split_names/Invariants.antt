@@ -1,13 +1,11 @@
 -- `name_columns::split_names` meets its contract: at the loop's head the first k words are taken apart.
 -- Assumes nothing.
 use Prim.Native.Nat.{ℕ, ◌≤◌, ◌-◌}
-use mathlib.Core.Path.{◌≡◌}
 use mathlib.Core.List.{List}
-use native.Mathlib.Omega.{arith}
 use lib.ListN.{get_or}
 use Rattle.cfg_edges.specs.Halves.{hi}
 use Rattle.cfg_steps.specs.Columns.{node_of_name, name_item}
-use Rattle.node_columns.proofs.Written.{Written, none, still, turn}
+use Rattle.node_columns.proofs.Written.{Written}
 use Rattle.name_columns.proofs.split_names.Given as goal
 
 abbrev pub span : List ℕ → ℕ → ℕ

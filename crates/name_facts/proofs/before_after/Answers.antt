@@ -1,6 +1,5 @@
 -- `name_facts::before_after` meets its contract, by whether the item is a NAME.
 -- Assumes nothing.
-use borrow.Author.Rules.{rules}
 use borrow.Author.Tests.{eq-eqb, ne_eqb}
 use Rattle.name_facts.proofs.before_after.Goals as goal
 

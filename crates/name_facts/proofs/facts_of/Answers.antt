@@ -1,7 +1,6 @@
 -- `name_facts::facts_of` meets its contract, by the LOCAL's values.
 -- Assumes nothing.
 use native.Mathlib.Omega.{arith}
-use borrow.Author.Rules.{rules}
 use Rattle.name_facts.proofs.Names.{facts_open, facts_valued, facts_lacking}
 use Rattle.name_facts.proofs.facts_of.Goals as goal
 

@@ -1,11 +1,8 @@
 -- `name_facts::find_names` meets its contract: at the loop's head the names of the first i words are stored.
 -- Assumes nothing.
 use Prim.Native.Nat.{◌-◌}
-use mathlib.Core.Path.{refl}
-use native.Mathlib.Omega.{arith}
-use borrow.Author.Rules.{rules}
 use lib.ListN.{length}
-use Rattle.name_facts.proofs.Names.{Reading, reading_begins, reading_turn, reading_ends}
+use Rattle.name_facts.proofs.Names.{Reading}
 use Rattle.name_facts.proofs.find_names.Given as goal
 
 abbrev pub invariant-loop-i : goal.invariant-loop-i

@@ -1,7 +1,6 @@
 -- `name_facts::store_name` meets its contract, by whether the item is a NAME.
 -- Assumes nothing.
 use native.Mathlib.Omega.{arith}
-use borrow.Author.Rules.{rules}
 use Rattle.name_facts.proofs.Names.{stored_one, stored_none}
 use Rattle.name_facts.proofs.store_name.Goals as goal
 

@@ -1,12 +1,8 @@
 -- `name_tests::bad_name` meets its contract: its loop is the sweep of refusal 7. Assumes nothing.
-use Prim.Native.Nat.{◌-◌}
-use mathlib.Core.Logic.{⊎_elim}
 use mathlib.Core.Path.{sym, ◌∙◌}
-use native.Mathlib.Omega.{arith}
-use lib.ListN.{length}
-use borrow.Author.Tests.{ne_eqb, not-true, not-false}
+use borrow.Author.Tests.{ne_eqb}
 use Rattle.flow.specs.Refusals.{names_fit}
-use Rattle.sweeps.proofs.Sweep.{Swept, begin, onward, fails, ends}
+use Rattle.sweeps.proofs.Sweep.{begin, onward, fails, ends}
 use Rattle.name_tests.proofs.Sweeps.{naming}
 use Rattle.name_tests.proofs.bad_name.Goals as goal
 use Rattle.name_tests.proofs.bad_name.Goals.{then-kind-eq-LOCAL, else-kind-eq-LOCAL+then-kind-eq-NAME+else-not-name_fits, else-kind-eq-LOCAL+else-kind-eq-NAME}

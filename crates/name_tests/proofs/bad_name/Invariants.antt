@@ -1,12 +1,7 @@
 -- `name_tests::bad_name` meets its contract: its loop is the sweep of refusal 7. Assumes nothing.
 use Prim.Native.Nat.{◌-◌}
-use mathlib.Core.Logic.{⊎_elim}
-use mathlib.Core.Path.{sym, ◌∙◌}
-use native.Mathlib.Omega.{arith}
 use lib.ListN.{length}
-use borrow.Author.Tests.{ne_eqb, not-true, not-false}
-use Rattle.flow.specs.Refusals.{names_fit}
-use Rattle.sweeps.proofs.Sweep.{Swept, begin, onward, fails, ends}
+use Rattle.sweeps.proofs.Sweep.{Swept}
 use Rattle.name_tests.proofs.Sweeps.{naming}
 use Rattle.name_tests.proofs.bad_name.Given as goal
 

@@ -1,17 +1,16 @@
 -- `nesting_tests::bad_nesting` meets its contract: its loop is the sweep of refusal 5, with what is open on a stack that 4 bounds.
 -- Assumes nothing.
-use Prim.Native.Nat.{ℕ, ◌+◌, ◌≤◌, ◌-◌, ◌%◌}
+use Prim.Native.Nat.{ℕ, ◌+◌, ◌%◌}
 use mathlib.Core.Bool.{Bool, false, ◌&&◌, not}
-use mathlib.Core.List.{[]}
-use mathlib.Core.Path.{◌≡◌, refl, sym, ap, ap₂, ◌∙◌}
+use mathlib.Core.Path.{refl, sym, ap, ap₂, ◌∙◌}
 use native.Mathlib.Omega.{arith}
-use lib.ListN.{length, get_or}
-use borrow.Author.Tests.{eq-eqb, ne_eqb, not-true, not-false}
+use lib.ListN.{get_or}
+use borrow.Author.Tests.{eq-eqb, ne_eqb}
 use Rattle.flow.specs.Refusals.{outnumbered, may_follow, pairs_up, side_by_side}
 use Rattle.nesting_tests.specs.Stack.{stack_of}
 use Rattle.nesting_tests.proofs.Nesting.{most, deep_next, closer_in, depth_next}
 use Rattle.nesting_tests.proofs.Stacks.{length_stack_of}
-use Rattle.sweeps.proofs.Sweep.{Swept, begin, onward, fails, ends, from_here, rest, item}
+use Rattle.sweeps.proofs.Sweep.{begin, onward, fails, ends, from_here, rest, item}
 use Rattle.nesting_tests.proofs.Sweeps.{nesting}
 use Rattle.nesting_tests.proofs.bad_nesting.Goals as goal
 

@@ -1,17 +1,12 @@
 -- `nesting_tests::bad_nesting` meets its contract: its loop is the sweep of refusal 5, with what is open on a stack that 4 bounds.
 -- Assumes nothing.
-use Prim.Native.Nat.{ℕ, ◌+◌, ◌≤◌, ◌-◌, ◌%◌}
-use mathlib.Core.Bool.{Bool, false, ◌&&◌, not}
-use mathlib.Core.List.{[]}
-use mathlib.Core.Path.{◌≡◌, refl, sym, ap, ap₂, ◌∙◌}
-use native.Mathlib.Omega.{arith}
-use lib.ListN.{length, get_or}
-use borrow.Author.Tests.{eq-eqb, ne_eqb, not-true, not-false}
-use Rattle.flow.specs.Refusals.{outnumbered, may_follow, pairs_up, side_by_side}
+use Prim.Native.Nat.{◌≤◌, ◌-◌}
+use mathlib.Core.Bool.{false}
+use mathlib.Core.Path.{◌≡◌}
+use lib.ListN.{length}
+use Rattle.flow.specs.Refusals.{outnumbered}
 use Rattle.nesting_tests.specs.Stack.{stack_of}
-use Rattle.nesting_tests.proofs.Nesting.{most, deep_next, closer_in, depth_next}
-use Rattle.nesting_tests.proofs.Stacks.{length_stack_of}
-use Rattle.sweeps.proofs.Sweep.{Swept, begin, onward, fails, ends, from_here, rest, item}
+use Rattle.sweeps.proofs.Sweep.{Swept, rest}
 use Rattle.nesting_tests.proofs.Sweeps.{nesting}
 use Rattle.nesting_tests.proofs.bad_nesting.Given as goal
 

@@ -5,7 +5,6 @@ use mathlib.Core.Bool.{Bool, true, false, cond, not}
 use Rattle.flow.specs.Findings.{is_read, a_read, a_pure_write}
 use Rattle.use_words.specs.Words.{use_of}
 use Rattle.next_uses.specs.Backwards.{sort_of}
-use borrow.Author.Rules.{rules}
 use Rattle.next_uses.proofs.is_of_sort.Goals as goal
 
 writes : (read : Bool) → not read ≡ sort_of true (cond read a_read a_pure_write)

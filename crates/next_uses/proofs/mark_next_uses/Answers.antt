@@ -12,7 +12,6 @@ use Rattle.use_words.specs.Words.{uses_in}
 use Rattle.live_steps.specs.Walk.{chart, declared}
 use Rattle.next_uses.specs.Backwards.{sort_of, back_flags}
 use Rattle.next_uses.proofs.Meets.{meets_are}
-use borrow.Author.Rules.{rules}
 use Rattle.next_uses.proofs.mark_next_uses.Goals as goal
 use Rattle.next_uses.proofs.mark_next_uses.Goals.{After-mark_used}
 

@@ -1,10 +1,9 @@
 -- `next_uses::mark_used` meets its contract. The loop's invariant: the nodes of the uses passed are marked.
 -- Assumes nothing.
-use Prim.Native.Nat.{ℕ, ◌≤◌, ◌<◌, ◌-◌}
+use Prim.Native.Nat.{ℕ, ◌<◌}
 use mathlib.Core.Path.{◌≡◌, refl, subst}
 use native.Mathlib.Omega.{arith}
 use lib.ListN.{length, length-set}
-use Rattle.search.specs.Stamps.{Stamped}
 use Rattle.search.proofs.Stamps.{set_bounded, fresh_stamped}
 use Rattle.next_uses.specs.Backwards.{Used}
 use Rattle.next_uses.proofs.Turns.{used_none, used_turn}

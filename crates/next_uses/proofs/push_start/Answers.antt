@@ -1,7 +1,6 @@
 -- `next_uses::push_start` meets its contract: the two cases of its test.
 -- Assumes nothing.
 use native.Mathlib.Omega.{arith}
-use borrow.Author.Rules.{rules}
 use Rattle.next_uses.proofs.push_start.Goals as goal
 
 pub insert-requires : goal.insert-requires

@@ -1,19 +1,12 @@
 -- `next_uses::push_starts` meets its contract. The loop's invariant: the starts of the places passed are pushed.
 -- Assumes nothing.
-use Prim.Native.Nat.{ℕ, ◌≤◌, ◌<◌, ◌-◌}
-use mathlib.Core.Path.{◌≡◌, refl, ◌∙◌, subst}
-use mathlib.Core.List.{[]}
-use mathlib.Core.Bool.{Bool}
-use native.Mathlib.Omega.{arith}
+use Prim.Native.Nat.{◌≤◌, ◌-◌}
+use mathlib.Core.Path.{◌≡◌}
 use lib.ListN.{length}
-use Rattle.search.specs.Search.{cons_if}
-use Rattle.search.specs.Worklist.{State, st}
+use Rattle.search.specs.Worklist.{st}
 use Rattle.search.specs.Stamps.{stamp_all, Ready}
-use Rattle.search.proofs.Stamps.{all_ready, push_room, ready_empty, when_one, when_nodes}
 use Rattle.live_steps.specs.Walk.{declared}
-use Rattle.uses_by_node.proofs.Places.{node_at}
-use Rattle.next_uses.specs.Backwards.{starts_here, starts_to}
-use Rattle.next_uses.proofs.Turns.{starts_turn}
+use Rattle.next_uses.specs.Backwards.{starts_to}
 use Rattle.next_uses.proofs.push_starts.Given as goal
 
 abbrev pub invariant-loop-i : goal.invariant-loop-i

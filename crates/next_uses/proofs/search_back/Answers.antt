@@ -4,10 +4,9 @@ use Prim.Native.Nat.{ℕ, ◌<◌, ◌-◌}
 use mathlib.Core.Path.{◌≡◌, refl, sym, ◌∙◌, subst}
 use mathlib.Core.List.{List}
 use native.Mathlib.Omega.{arith}
-use lib.ListN.{length}
 use Rattle.search.specs.Worklist.{State, st, pop, topmost}
-use Rattle.search.specs.Stamps.{flagged, stamp_all}
-use Rattle.search.proofs.Worklist.{Search, measure}
+use Rattle.search.specs.Stamps.{stamp_all}
+use Rattle.search.proofs.Worklist.{Search}
 use Rattle.search.proofs.Stamps.{Underway, stamp_begin, node_below, top_in, pop_ready, stamp_turn, stamp_falls, stamp_end}
 use Rattle.use_words.specs.Words.{AllPlaced}
 use Rattle.live_steps.specs.Walk.{declared}

@@ -1,18 +1,16 @@
 -- `next_uses::search_back` meets its contract: the law of a search by a stamp, for every graph whose chains these are.
 -- Assumes nothing.
-use Prim.Native.Nat.{ℕ, ◌<◌, ◌-◌}
-use mathlib.Core.Path.{◌≡◌, refl, sym, ◌∙◌, subst}
+use Prim.Native.Nat.{ℕ}
+use mathlib.Core.Path.{◌≡◌}
 use mathlib.Core.List.{List}
-use native.Mathlib.Omega.{arith}
 use lib.ListN.{length}
-use Rattle.search.specs.Worklist.{State, st, pop, topmost}
-use Rattle.search.specs.Stamps.{flagged, stamp_all}
-use Rattle.search.proofs.Worklist.{Search, measure}
-use Rattle.search.proofs.Stamps.{Underway, stamp_begin, node_below, top_in, pop_ready, stamp_turn, stamp_falls, stamp_end}
+use Rattle.search.specs.Worklist.{st}
+use Rattle.search.specs.Stamps.{flagged}
+use Rattle.search.proofs.Worklist.{measure}
+use Rattle.search.proofs.Stamps.{Underway}
 use Rattle.use_words.specs.Words.{AllPlaced}
 use Rattle.live_steps.specs.Walk.{declared}
-use Rattle.predecessors.specs.Predecessors.{preds_of, Linked, Chain}
-use Rattle.predecessors.proofs.Chains.{chain_of, some_chain}
+use Rattle.predecessors.specs.Predecessors.{Linked}
 use Rattle.next_uses.proofs.Walks.{back_search}
 use Rattle.next_uses.proofs.search_back.Given as goal
 

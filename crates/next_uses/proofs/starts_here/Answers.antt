@@ -1,7 +1,6 @@
 -- `next_uses::starts_here` meets its contract: its three tests.
 -- Assumes nothing.
 use Rattle.next_uses.specs.Backwards.{starts_here}
-use borrow.Author.Rules.{rules}
 use Rattle.next_uses.proofs.starts_here.Goals as goal
 
 pub returns-then-is_of_sort : goal.returns-then-is_of_sort

@@ -1,10 +1,8 @@
 -- `node_columns::split_edges` meets its contract: at the loop's head the first i words are taken apart.
 -- Assumes nothing.
-use Prim.Native.Nat.{◌≤◌, ◌-◌}
 use mathlib.Core.Path.{◌≡◌}
 use native.Mathlib.Omega.{arith}
-use Rattle.cfg_edges.specs.Halves.{lo, hi}
-use Rattle.node_columns.proofs.Written.{Written, none, turn}
+use Rattle.node_columns.proofs.Written.{none, turn}
 use Rattle.node_columns.proofs.split_edges.Goals as goal
 
 pub loop-i-init : goal.loop-i-init

@@ -1,6 +1,5 @@
 -- `node_columns::split_nodes` meets its contract: successors from the words of edges, and the reachable flags by a search over them.
 -- Assumes nothing.
-use borrow.Author.Rules.{rules}
 use mathlib.Core.Path.{sym, ap, ◌∙◌}
 use lib.ListN.{take, drop}
 use Rattle.cfg_edges.specs.Halves.{lo, hi}

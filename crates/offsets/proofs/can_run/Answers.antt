@@ -1,10 +1,7 @@
 -- `offsets::can_run` meets its contract: the flag of the node that was found.
 -- Assumes nothing.
-use Prim.Native.Nat.{◌<◌}
 use mathlib.Core.Path.{sym, ap, ◌∙◌}
-use borrow.Author.Rules.{rules}
 use native.Mathlib.Omega.{arith}
-use lib.ListN.{length}
 use Rattle.flow.specs.Reachable.{can_run}
 use Rattle.offsets.proofs.Offsets.{flag_runs}
 use Rattle.offsets.proofs.can_run.Goals as goal

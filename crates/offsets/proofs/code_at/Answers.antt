@@ -1,6 +1,5 @@
 -- `offsets::code_at` meets its contract: by the test where the hint or the code behind it passes it, by the search else.
 -- Assumes nothing.
-use borrow.Author.Rules.{rules}
 use Rattle.offsets.proofs.code_at.Goals as goal
 
 pub returns-then-is_first_past : goal.returns-then-is_first_past

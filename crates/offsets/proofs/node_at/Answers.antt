@@ -1,6 +1,5 @@
 -- `offsets::node_at` meets its contract: the first code that ends past the offset.
 -- Assumes nothing.
-use borrow.Author.Rules.{rules}
 use Rattle.offsets.proofs.node_at.Goals as goal
 
 pub returns : goal.returns

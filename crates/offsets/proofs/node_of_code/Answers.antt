@@ -1,7 +1,6 @@
 -- `offsets::node_of_code` meets its contract: the first code that ends past an offset has the offset's node.
 -- Assumes nothing.
 use mathlib.Core.Path.{ap, ◌∙◌}
-use borrow.Author.Rules.{rules}
 use Rattle.flow.specs.declared.Found.TheVariants.{At}
 use Rattle.offsets.proofs.Offsets.{first_at_law, first_none}
 use Rattle.offsets.proofs.node_of_code.Goals as goal

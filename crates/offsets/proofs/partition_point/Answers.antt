@@ -1,10 +1,8 @@
 -- `offsets::partition_point` meets its contract: codes below `low` end at or before the offset, and the one at `high` ends past it.
 -- Assumes nothing.
-use Prim.Native.Nat.{ℕ, ◌+◌, ◌-◌, ◌/◌, ◌≤◌, ◌<◌}
+use Prim.Native.Nat.{ℕ, ◌+◌, ◌-◌, ◌/◌}
 use mathlib.Core.Path.{◌≡◌}
 use native.Mathlib.Omega.{arith}
-use lib.ListN.{get_or}
-use Rattle.flow.specs.Sheet.{end_of}
 use Rattle.offsets.proofs.Offsets.{through}
 use Rattle.offsets.proofs.partition_point.Goals as goal
 

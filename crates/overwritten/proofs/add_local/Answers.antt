@@ -14,7 +14,6 @@ use Rattle.locals.proofs.Entries.{added_none}
 use Rattle.locals.proofs.Columns.{part_cut, declared_at}
 use Rattle.overwritten.proofs.Judged.{none_listed, judged_as, part_rises, part_few}
 use Rattle.overwritten.proofs.Locals.{later}
-use borrow.Author.Rules.{rules}
 use Rattle.overwritten.proofs.add_local.Goals as goal
 
 -- ---- the places: after the call of is_judged and that of judge_local, and the start that they go back to

@@ -1,15 +1,15 @@
 -- `overwritten::list_locals` meets its contract. The loop's invariant: the values of the locals passed were added.
 -- Assumes nothing.
-use Prim.Native.Nat.{ℕ, ◌-◌, ◌≤◌}
+use Prim.Native.Nat.{ℕ, ◌≤◌}
 use mathlib.Core.Path.{◌≡◌, refl, ◌∙◌, subst}
 use mathlib.Core.List.{List}
 use native.Mathlib.Omega.{arith}
-use lib.ListN.{length, get_or}
+use lib.ListN.{get_or}
 use Rattle.flow.specs.Findings.{overwritten_of, of_each}
 use Rattle.flow.specs.Judge.{words_of}
 use Rattle.locals.specs.Columns.{Pass, uses_by_node}
 use Rattle.locals.specs.Entries.{Added}
-use Rattle.overwritten.proofs.Locals.{Done, done_none, room_here, done_turn}
+use Rattle.overwritten.proofs.Locals.{done_none, room_here, done_turn}
 use Rattle.overwritten.proofs.list_locals.Goals as goal
 use Rattle.overwritten.proofs.list_locals.Goals.{Start}
 

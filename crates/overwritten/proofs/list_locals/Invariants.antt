@@ -1,15 +1,10 @@
 -- `overwritten::list_locals` meets its contract. The loop's invariant: the values of the locals passed were added.
 -- Assumes nothing.
-use Prim.Native.Nat.{ℕ, ◌-◌, ◌≤◌}
-use mathlib.Core.Path.{◌≡◌, refl, ◌∙◌, subst}
-use mathlib.Core.List.{List}
-use native.Mathlib.Omega.{arith}
-use lib.ListN.{length, get_or}
-use Rattle.flow.specs.Findings.{overwritten_of, of_each}
-use Rattle.flow.specs.Judge.{words_of}
+use Prim.Native.Nat.{◌-◌}
+use mathlib.Core.Path.{◌≡◌}
+use lib.ListN.{length}
 use Rattle.locals.specs.Columns.{Pass, uses_by_node}
-use Rattle.locals.specs.Entries.{Added}
-use Rattle.overwritten.proofs.Locals.{Done, done_none, room_here, done_turn}
+use Rattle.overwritten.proofs.Locals.{Done}
 use Rattle.overwritten.proofs.list_locals.Given as goal
 
 abbrev pub invariant-loop-local : goal.invariant-loop-local

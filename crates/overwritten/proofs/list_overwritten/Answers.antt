@@ -2,7 +2,6 @@
 -- Assumes nothing.
 use Rattle.locals.proofs.Entries.{added_none}
 use Rattle.overwritten.proofs.Judged.{nothing_listed}
-use borrow.Author.Rules.{rules}
 use Rattle.overwritten.proofs.list_overwritten.Goals as goal
 
 -- ---- the places: after the call of build_predecessors, and the start that it goes back to

@@ -1,13 +1,9 @@
 -- `predecessors::build_predecessors` meets its contract. The loop's invariant: the chains have the edges of the nodes below u, and the words from u on have a head alone.
 -- Assumes nothing.
-use Prim.Native.Nat.{ℕ, ◌≤◌, ◌-◌}
-use mathlib.Core.Path.{◌≡◌, refl, sym, ◌∙◌, subst}
-use mathlib.Core.List.{List}
-use native.Mathlib.Omega.{arith}
+use Prim.Native.Nat.{◌≤◌, ◌-◌}
+use mathlib.Core.Path.{◌≡◌}
 use lib.ListN.{length, take}
-use lib.Seq.{get_or-take}
-use Rattle.predecessors.specs.Predecessors.{Linked}
-use Rattle.predecessors.proofs.Links.{Building, Half, none_built, first_linked, second_linked}
+use Rattle.predecessors.proofs.Links.{Building}
 use Rattle.predecessors.proofs.build_predecessors.Given as goal
 
 abbrev pub invariant-loop-u : goal.invariant-loop-u

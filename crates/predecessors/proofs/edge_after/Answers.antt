@@ -1,7 +1,6 @@
 -- `predecessors::edge_after` meets its contract: the two cases of its test.
 -- Assumes nothing.
 use borrow.Author.Tests.{eq-eqb, ne_eqb}
-use borrow.Author.Rules.{rules}
 use Rattle.predecessors.proofs.edge_after.Goals as goal
 
 pub returns-then-e-eq0 : goal.returns-then-e-eq0

@@ -3,7 +3,6 @@
 use Prim.Native.Nat.{◌*◌, ◌≤◌}
 use native.Mathlib.Omega.{arith}
 use borrow.Author.Tests.{lt-ltb, le-ltb}
-use borrow.Author.Rules.{rules}
 use lib.ListN.{length-set}
 use Rattle.predecessors.specs.Predecessors.{head_of}
 use Rattle.predecessors.proofs.Links.{head_fits, product_small}

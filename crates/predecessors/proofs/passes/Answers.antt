@@ -2,7 +2,6 @@
 -- Assumes nothing.
 use borrow.Author.Tests.{eq-eqb, ne_eqb}
 use Rattle.predecessors.specs.Predecessors.{passes}
-use borrow.Author.Rules.{rules}
 use Rattle.predecessors.proofs.passes.Goals as goal
 
 pub returns-then-used-v : goal.returns-then-used-v

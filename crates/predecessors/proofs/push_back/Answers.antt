@@ -1,6 +1,5 @@
 -- `predecessors::push_back` meets its contract: the two cases of its test.
 -- Assumes nothing.
-use borrow.Author.Rules.{rules}
 use Rattle.predecessors.proofs.push_back.Goals as goal
 
 pub returns-then-passes : goal.returns-then-passes

@@ -1,15 +1,14 @@
 -- `predecessors::push_chain` meets its contract. The loop's invariant: some nodes are left on the chain, and to push them is what is left to do.
 -- Assumes nothing.
 use Prim.Native.Nat.{ℕ}
-use mathlib.Core.Path.{◌≡◌, refl, ◌∙◌}
+use mathlib.Core.Path.{refl, ◌∙◌}
 use mathlib.Core.Bool.{Bool}
 use native.Mathlib.Omega.{arith}
-use lib.ListN.{length}
 use Rattle.search.specs.Worklist.{State, st}
 use Rattle.search.proofs.Stamps.{push_room}
 use Rattle.predecessors.specs.Predecessors.{node_of_edge, passes}
 use Rattle.live_steps.specs.Walk.{declared}
-use Rattle.predecessors.proofs.Chains.{First, first_of, Left, left_start, left_turn, left_end}
+use Rattle.predecessors.proofs.Chains.{First, first_of, left_start, left_turn, left_end}
 use Rattle.predecessors.proofs.push_chain.Goals as goal
 use Rattle.predecessors.proofs.push_chain.Goals.{After-push_back-top, At-loop-e, In-loop-e, Start}
 

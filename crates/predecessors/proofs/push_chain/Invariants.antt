@@ -1,15 +1,11 @@
 -- `predecessors::push_chain` meets its contract. The loop's invariant: some nodes are left on the chain, and to push them is what is left to do.
 -- Assumes nothing.
-use Prim.Native.Nat.{ℕ}
-use mathlib.Core.Path.{◌≡◌, refl, ◌∙◌}
-use mathlib.Core.Bool.{Bool}
-use native.Mathlib.Omega.{arith}
+use mathlib.Core.Path.{◌≡◌}
 use lib.ListN.{length}
-use Rattle.search.specs.Worklist.{State, st}
-use Rattle.search.proofs.Stamps.{push_room}
-use Rattle.predecessors.specs.Predecessors.{node_of_edge, passes}
+use Rattle.search.specs.Worklist.{st}
+use Rattle.predecessors.specs.Predecessors.{passes}
 use Rattle.live_steps.specs.Walk.{declared}
-use Rattle.predecessors.proofs.Chains.{First, first_of, Left, left_start, left_turn, left_end}
+use Rattle.predecessors.proofs.Chains.{Left}
 use Rattle.predecessors.proofs.push_chain.Given as goal
 
 abbrev pub invariant-loop-e : goal.invariant-loop-e

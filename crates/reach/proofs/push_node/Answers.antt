@@ -1,6 +1,5 @@
 -- `reach::push_node` meets its contract: the two cases of the test.
 -- Assumes nothing.
-use borrow.Author.Rules.{rules}
 use borrow.Author.Tests.{lt-ltb, le-ltb}
 use Rattle.reach.proofs.push_node.Goals as goal
 

@@ -5,7 +5,7 @@ use mathlib.Core.Path.{◌≡◌, refl, subst, ◌∙◌}
 use mathlib.Core.List.{◌++◌}
 use native.Mathlib.Omega.{arith}
 use Rattle.search.specs.Worklist.{State, st, push_all, pop, topmost, Room}
-use Rattle.search.proofs.Worklist.{Search, Going, begin, rebase, onward, turn, falls, stacked_node, marks_are, measure, room_empty, pop_moved, cleared_none, cleared_past}
+use Rattle.search.proofs.Worklist.{Search, Going, begin, rebase, onward, turn, falls, stacked_node, marks_are, room_empty, pop_moved, cleared_none, cleared_past}
 use Rattle.reach.proofs.Columns.{from_entry, entry_kept, flags_of}
 use Rattle.reach.proofs.reach.Goals as goal
 use Rattle.reach.proofs.reach.Goals.{After-clear, After-expand-top, After-push_if_new-top, At-loop-top}

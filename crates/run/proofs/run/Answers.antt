@@ -1,12 +1,10 @@
 -- `run::run` meets its contract: refused by the sheet's verdict, or the answer by a chart in columns of its own.
 -- Assumes nothing.
-use borrow.Author.Rules.{rules}
 use mathlib.Core.Path.{sym, ◌∙◌}
 use lib.Dec.{lit≤}
 use Rattle.flow.proofs.Admission.{admitted}
 use Rattle.run.proofs.Running.{run_refused, run_accepted}
 use Rattle.run.proofs.run.Goals as goal
-use Rattle.run.proofs.run.Goals.{Start}
 
 -- ---- the places: from each place back to the one before it
 pub returns-in-Refused : goal.returns-in-Refused

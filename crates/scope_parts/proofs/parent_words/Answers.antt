@@ -1,5 +1,4 @@
 -- `scope_parts::parent_words` meets its contract. Assumes nothing.
-use borrow.Author.Rules.{rules}
 use Rattle.scope_parts.proofs.Parts.{parents_are}
 use Rattle.scope_parts.proofs.parent_words.Goals as goal
 

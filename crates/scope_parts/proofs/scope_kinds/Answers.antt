@@ -1,5 +1,4 @@
 -- `scope_parts::scope_kinds` meets its contract. Assumes nothing.
-use borrow.Author.Rules.{rules}
 use Rattle.scope_parts.proofs.Parts.{kinds_are}
 use Rattle.scope_parts.proofs.scope_kinds.Goals as goal
 

@@ -1,5 +1,4 @@
 -- `scope_parts::scope_numbers` meets its contract. Assumes nothing.
-use borrow.Author.Rules.{rules}
 use Rattle.scope_parts.proofs.Parts.{numbers_are}
 use Rattle.scope_parts.proofs.scope_numbers.Goals as goal
 

@@ -1,10 +1,8 @@
 -- `scope_tests::all_below` meets its contract: the words that are passed are below the limit.
 -- Assumes nothing.
-use Prim.Native.Nat.{◌-◌, ◌≤◌}
 use mathlib.Core.Path.{refl}
 use native.Mathlib.Omega.{arith}
-use lib.ListN.{length}
-use Rattle.scope_tests.proofs.Sweeps.{BelowFrom, below_fails, below_ends, below_onward}
+use Rattle.scope_tests.proofs.Sweeps.{below_fails, below_ends, below_onward}
 use Rattle.scope_tests.proofs.all_below.Goals as goal
 
 pub loop-i-init : goal.loop-i-init

@@ -1,10 +1,8 @@
 -- `scope_tests::all_below` meets its contract: the words that are passed are below the limit.
 -- Assumes nothing.
 use Prim.Native.Nat.{◌-◌, ◌≤◌}
-use mathlib.Core.Path.{refl}
-use native.Mathlib.Omega.{arith}
 use lib.ListN.{length}
-use Rattle.scope_tests.proofs.Sweeps.{BelowFrom, below_fails, below_ends, below_onward}
+use Rattle.scope_tests.proofs.Sweeps.{BelowFrom}
 use Rattle.scope_tests.proofs.all_below.Given as goal
 
 abbrev pub invariant-loop-i : goal.invariant-loop-i

@@ -4,13 +4,11 @@ use Prim.Native.Nat.{ℕ, ◌≤◌}
 use mathlib.Core.Path.{◌≡◌, sym, ap, ◌∙◌}
 use mathlib.Core.Bool.{Bool, true, not}
 use mathlib.Core.List.{List}
-use borrow.Author.Tests.{not-true, not-false}
 use lib.ListN.{length}
 use Rattle.flow.specs.Sheet.{all, count_word}
 use Rattle.flow.specs.Scopes.{scope_kinds, parent_words, is_below, parents_lower}
 use Rattle.scope_parts.specs.Parts.{ScopesCounted}
 use Rattle.scope_tests.proofs.Wrong.{none_comes, count_wrong, length_wrong, counted, kind_wrong, parent_wrong, number_wrong}
-use borrow.Author.Rules.{rules}
 use Rattle.scope_tests.proofs.bad_scopes.Goals as goal
 use Rattle.scope_tests.proofs.bad_scopes.Goals.{After-all_below, After-parents_lower, Else-scopes-count}
 

@@ -1,10 +1,8 @@
 -- `scope_tests::parents_lower` meets its contract: the parents that are passed are lower.
 -- Assumes nothing.
 use Prim.Native.Nat.{◌-◌, ◌≤◌}
-use mathlib.Core.Path.{refl}
-use native.Mathlib.Omega.{arith}
 use lib.ListN.{length}
-use Rattle.scope_tests.proofs.Sweeps.{LowerFrom, lower_fails, lower_ends, lower_onward}
+use Rattle.scope_tests.proofs.Sweeps.{LowerFrom}
 use Rattle.scope_tests.proofs.parents_lower.Given as goal
 
 abbrev pub invariant-loop-s : goal.invariant-loop-s

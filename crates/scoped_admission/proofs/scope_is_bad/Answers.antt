@@ -8,7 +8,6 @@ use Rattle.flow.specs.Refusals.{name_count}
 use Rattle.flow.specs.Scopes.{scopes_wrong}
 use Rattle.scope_tests.proofs.Wrong.{none_comes}
 use Rattle.admission.proofs.Parts.{long_enough, on_items}
-use borrow.Author.Rules.{rules}
 use Rattle.scoped_admission.proofs.scope_is_bad.Goals as goal
 use Rattle.scoped_admission.proofs.scope_is_bad.Goals.{After-name_count-names}
 

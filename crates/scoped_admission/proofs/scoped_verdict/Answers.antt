@@ -1,7 +1,7 @@
 -- `scoped_admission::scoped_verdict` meets its contract: 9 stands behind the tests of the pair.
 -- Assumes nothing.
 use Prim.Native.Nat.{ℕ}
-use mathlib.Core.List.{List, [], ◌∷◌}
+use mathlib.Core.List.{List, ◌∷◌}
 use mathlib.Core.Path.{◌≡◌, sym, ◌∙◌}
 use Rattle.flow.specs.declared.Refusal.TheVariants.{BadScope}
 use Rattle.flow.specs.declared.Verdict.TheVariants.{Admitted}
@@ -9,7 +9,6 @@ use Rattle.flow.specs.Refusals.{Test, first_applying, pair_tests, pair_verdict}
 use Rattle.flow.specs.Scopes.{bad_scopes, scoped_tests, scoped_verdict}
 use Rattle.flow.proofs.Admission.{admitted, of_pair}
 use Rattle.admission.proofs.Verdicts.{applies_first, passes_first, refused_before, admitted_before}
-use borrow.Author.Rules.{rules}
 use Rattle.scoped_admission.proofs.scoped_verdict.Goals as goal
 use Rattle.scoped_admission.proofs.scoped_verdict.Goals.{After-pair_verdict-pair, In_default}
 

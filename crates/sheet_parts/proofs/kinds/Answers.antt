@@ -1,5 +1,4 @@
 -- `sheet_parts::kinds` meets its contract. Assumes nothing.
-use borrow.Author.Rules.{rules}
 use Rattle.sheet_parts.proofs.Parts.{first_is}
 use Rattle.sheet_parts.proofs.kinds.Goals as goal
 

@@ -1,5 +1,4 @@
 -- `sheet_parts::use_spans` meets its contract. Assumes nothing.
-use borrow.Author.Rules.{rules}
 use Rattle.sheet_parts.proofs.Parts.{second_is}
 use Rattle.sheet_parts.proofs.use_spans.Goals as goal
 

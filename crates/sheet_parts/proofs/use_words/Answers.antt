@@ -1,5 +1,4 @@
 -- `sheet_parts::use_words` meets its contract. Assumes nothing.
-use borrow.Author.Rules.{rules}
 use Rattle.sheet_parts.proofs.Parts.{first_is}
 use Rattle.sheet_parts.proofs.use_words.Goals as goal
 

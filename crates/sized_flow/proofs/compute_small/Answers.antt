@@ -2,7 +2,6 @@
 -- Assumes nothing.
 use native.Mathlib.Omega.{arith}
 use Rattle.sized_flow.proofs.Columns.{pair, tables_room, walking_room}
-use borrow.Author.Rules.{rules}
 use Rattle.sized_flow.proofs.compute_small.Goals as goal
 
 -- ---- the places: as the call begins, and after the tables are made

@@ -1,7 +1,6 @@
 -- `small_sheets::is_small` meets its contract: only where all three tests say so it answers yes.
 -- Assumes nothing.
 use mathlib.Core.Bool.{false≢true}
-use borrow.Author.Rules.{rules}
 use Rattle.small_sheets.proofs.is_small.Goals as goal
 
 pub returns-else-names-le-SMALL : goal.returns-else-names-le-SMALL

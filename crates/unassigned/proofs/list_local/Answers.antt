@@ -6,7 +6,6 @@ use lib.ListN.{set}
 use Rattle.search.proofs.Stamps.{unmarked_after, unmarked_still}
 use Rattle.locals.proofs.Entries.{added_none}
 use Rattle.unassigned.proofs.Words.{words_none, told_words, told_visits, told_small}
-use borrow.Author.Rules.{rules}
 use Rattle.unassigned.proofs.list_local.Goals as goal
 
 -- ---- the places: where the function starts, the walk, and the push

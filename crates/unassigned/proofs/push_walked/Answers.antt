@@ -5,7 +5,6 @@ use mathlib.Core.Path.{refl}
 use native.Mathlib.Omega.{arith}
 use Rattle.locals.proofs.Entries.{added_none}
 use Rattle.unassigned.proofs.Words.{words_none, words_one}
-use borrow.Author.Rules.{rules}
 use Rattle.unassigned.proofs.push_walked.Goals as goal
 
 pub returns-then-first-eq0 : goal.returns-then-first-eq0

@@ -1,10 +1,6 @@
 -- `use_tests::bad_use` meets its contract: its loop is the sweep of refusal 8. Assumes nothing.
-use Prim.Native.Nat.{◌-◌}
 use mathlib.Core.Path.{sym, ◌∙◌}
-use native.Mathlib.Omega.{arith}
-use lib.ListN.{length}
-use borrow.Author.Tests.{not-true, not-false}
-use Rattle.sweeps.proofs.Sweep.{Swept, begin, onward, fails, ends}
+use Rattle.sweeps.proofs.Sweep.{begin, onward, fails, ends}
 use Rattle.use_tests.proofs.Sweeps.{all_uses, use_sweep, uses_zip}
 use Rattle.use_tests.proofs.bad_use.Goals as goal
 

@@ -1,14 +1,10 @@
 -- `use_tests::name_count` meets its contract. Assumes nothing.
-use Prim.Native.Nat.{◌+◌, ◌≤◌, ◌-◌, ◌%◌}
-use mathlib.Core.Path.{◌≡◌, ap, ◌∙◌}
-use native.Mathlib.Omega.{arith}
-use lib.Dec.{eqb}
-use lib.ListN.{length, get_or}
-use Rattle.flow.specs.Refusals.{one, name_count}
+use Prim.Native.Nat.{◌+◌, ◌≤◌, ◌-◌}
+use mathlib.Core.Path.{◌≡◌}
+use lib.ListN.{length}
+use Rattle.flow.specs.Refusals.{name_count}
 use Rattle.flow.specs.Sheet.{zip}
-use Rattle.sweeps.proofs.Bools.{one_most}
-use Rattle.sweeps.proofs.Sweep.{rest, rest_next, rest_none, item}
-use Rattle.use_tests.proofs.Sweeps.{count_next}
+use Rattle.sweeps.proofs.Sweep.{rest}
 use Rattle.use_tests.proofs.name_count.Given as goal
 
 abbrev pub invariant-loop-i : goal.invariant-loop-i

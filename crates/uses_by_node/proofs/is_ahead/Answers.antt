@@ -1,10 +1,8 @@
 -- `uses_by_node::is_ahead` meets its contract: the two successors.
 -- Assumes nothing.
 use mathlib.Core.Path.{refl, sym, ◌∙◌}
-use mathlib.Core.List.{[]}
 use lib.ListN.{get_or}
 use Rattle.uses_by_node.proofs.Flags.{first_marked, second_decides}
-use borrow.Author.Rules.{rules}
 use Rattle.uses_by_node.proofs.is_ahead.Goals as goal
 
 -- where the call began, seen from where its first test is known

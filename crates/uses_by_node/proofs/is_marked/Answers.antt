@@ -1,7 +1,6 @@
 -- `uses_by_node::is_marked` meets its contract: the two cases of its test.
 -- Assumes nothing.
 use borrow.Author.Tests.{lt-ltb, le-ltb}
-use borrow.Author.Rules.{rules}
 use Rattle.uses_by_node.proofs.is_marked.Goals as goal
 
 pub returns-then-v-n : goal.returns-then-v-n

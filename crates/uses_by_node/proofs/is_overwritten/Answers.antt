@@ -3,8 +3,7 @@
 use Prim.Native.Nat.{ℕ, ◌+◌, ◌<◌}
 use mathlib.Core.Path.{◌≡◌, sym, ap, ◌∙◌}
 use mathlib.Core.Bool.{true, not}
-use mathlib.Core.List.{List, []}
-use borrow.Author.Tests.{not-true, not-false}
+use mathlib.Core.List.{List}
 use lib.ListN.{length, get_or}
 use Rattle.search.specs.Stamps.{flags_of}
 use Rattle.flow.specs.Graph.{Graph}
@@ -12,7 +11,6 @@ use Rattle.flow.specs.Findings.{Ahead, is_write, is_overwritten_unread}
 use Rattle.use_words.specs.Words.{use_of}
 use Rattle.live_steps.specs.Walk.{chart}
 use Rattle.uses_by_node.proofs.Places.{next_node, no_write, by_next, by_paths}
-use borrow.Author.Rules.{rules}
 use Rattle.uses_by_node.proofs.is_overwritten.Goals as goal
 use Rattle.uses_by_node.proofs.is_overwritten.Goals.{Else-not-is_write, Start, Then-next_in_node}
 

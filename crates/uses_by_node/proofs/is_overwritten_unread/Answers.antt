@@ -1,13 +1,11 @@
 -- `uses_by_node::is_overwritten_unread` meets its contract: a read ahead decides.
 -- Assumes nothing.
 use mathlib.Core.Path.{sym, ◌∙◌}
-use mathlib.Core.List.{[]}
 use Rattle.search.specs.Stamps.{flags_of}
 use Rattle.flow.specs.Graph.{Graph}
 use Rattle.flow.specs.Findings.{Ahead}
 use Rattle.live_steps.specs.Walk.{chart}
 use Rattle.uses_by_node.proofs.Flags.{read_ahead, unread_ahead}
-use borrow.Author.Rules.{rules}
 use Rattle.uses_by_node.proofs.is_overwritten_unread.Goals as goal
 use Rattle.uses_by_node.proofs.is_overwritten_unread.Goals.{Start}
 

@@ -2,7 +2,6 @@
 -- Assumes nothing.
 use borrow.Author.Tests.{lt-ltb, le-ltb}
 use Rattle.uses_by_node.specs.Uses.{next_in_node}
-use borrow.Author.Rules.{rules}
 use Rattle.uses_by_node.proofs.next_in_node.Goals as goal
 
 pub returns-then-next-sorted : goal.returns-then-next-sorted

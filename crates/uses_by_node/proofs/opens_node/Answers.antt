@@ -6,7 +6,6 @@ use mathlib.Core.Bool.{not}
 use mathlib.Core.List.{List}
 use native.Mathlib.Omega.{arith}
 use Rattle.uses_by_node.specs.Uses.{next_in_node, opens_node}
-use borrow.Author.Rules.{rules}
 use Rattle.uses_by_node.proofs.opens_node.Goals as goal
 
 later : (ws : List ℕ) (i : ℕ) → (i ≡ 0 → ⊥) → not (next_in_node ws (i - 1)) ≡ opens_node ws i

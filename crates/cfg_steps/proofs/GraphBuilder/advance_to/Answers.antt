@@ -1,6 +1,5 @@
 -- `cfg_steps::GraphBuilder::advance_to` meets its contract: the step `advance_to` on the graph that the columns stand for.
 -- Assumes nothing.
-use borrow.Author.Rules.{rules}
 use native.Mathlib.Omega.{arith}
 use Rattle.cfg_steps.proofs.Ops.{advance_did, standing}
 use Rattle.cfg_steps.proofs.GraphBuilder.advance_to.Goals as goal

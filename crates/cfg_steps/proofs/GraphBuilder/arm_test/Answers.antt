@@ -1,7 +1,5 @@
 -- `cfg_steps::GraphBuilder::arm_test` meets its contract: ELSEIF's code node is reached from the test before.
 -- Assumes nothing.
-use borrow.Author.Rules.{rules}
-use mathlib.Core.List.{[]}
 use mathlib.Core.Logic.{inl}
 use Rattle.cfg_steps.proofs.Ops.{did_trans}
 use Rattle.cfg_steps.proofs.Simple.{may_code}

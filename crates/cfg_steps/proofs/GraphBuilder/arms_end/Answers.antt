@@ -1,6 +1,5 @@
 -- `cfg_steps::GraphBuilder::arms_end` meets its contract: without ELSE the last test goes on to the join.
 -- Assumes nothing.
-use borrow.Author.Rules.{rules}
 use Rattle.cfg_steps.proofs.Loops.{arms_end_did}
 use Rattle.cfg_steps.proofs.GraphBuilder.arms_end.Goals as goal
 

@@ -1,6 +1,5 @@
 -- `cfg_steps::GraphBuilder::close_into` meets its contract: the step `close_into` on the graph that the columns stand for.
 -- Assumes nothing.
-use borrow.Author.Rules.{rules}
 use native.Mathlib.Omega.{arith}
 use Rattle.cfg_steps.proofs.Ops.{close_did, standing}
 use Rattle.cfg_steps.proofs.GraphBuilder.close_into.Goals as goal

@@ -1,6 +1,5 @@
 -- `cfg_steps::GraphBuilder::code` meets its contract: the step `code` on the graph that the columns stand for.
 -- Assumes nothing.
-use borrow.Author.Rules.{rules}
 use native.Mathlib.Omega.{arith}
 use mathlib.Core.Logic.{inl}
 use Rattle.cfg_steps.proofs.Ops.{full_code_did, standing_set, joined_size}

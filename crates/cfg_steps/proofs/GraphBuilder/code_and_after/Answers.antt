@@ -1,6 +1,5 @@
 -- `cfg_steps::GraphBuilder::code_and_after` meets its contract: a code node, then a node after it.
 -- Assumes nothing.
-use borrow.Author.Rules.{rules}
 use Rattle.cfg_steps.proofs.Ops.{did_trans}
 use Rattle.cfg_steps.proofs.GraphBuilder.code_and_after.Goals as goal
 

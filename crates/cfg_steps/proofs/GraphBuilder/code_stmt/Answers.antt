@@ -1,6 +1,5 @@
 -- `cfg_steps::GraphBuilder::code_stmt` meets its contract, by the kinds of statements with code: each is its step of the definition.
 -- Assumes nothing.
-use borrow.Author.Rules.{rules}
 use mathlib.Core.Path.{refl, sym, ◌∙◌}
 use native.Mathlib.Omega.{arith}
 use Rattle.cfg_steps.proofs.Simple.{did_as, may_jump, may_code, coded_break, coded_continue, coded_return, coded_raise, coded_call, coded_on}

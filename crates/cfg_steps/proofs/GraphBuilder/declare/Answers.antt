@@ -1,6 +1,5 @@
 -- `cfg_steps::GraphBuilder::declare` meets its contract: a name's word holds the current node, the item and the scope end.
 -- Assumes nothing.
-use borrow.Author.Rules.{rules}
 use native.Mathlib.Omega.{arith}
 use Rattle.cfg_steps.proofs.Ops.{declare_did}
 use Rattle.cfg_steps.proofs.GraphBuilder.declare.Goals as goal

@@ -1,15 +1,11 @@
 -- `cfg_steps::GraphBuilder::enter_block` meets its contract: after i items the labels that stand directly in the block so far have their nodes.
 -- Assumes nothing.
-use native.Mathlib.Omega.{arith}
 use Prim.Native.Nat.{ℕ, ◌≤◌, ◌-◌}
-use mathlib.Core.Path.{◌≡◌, refl}
+use mathlib.Core.Path.{◌≡◌}
 use mathlib.Core.List.{List}
 use lib.ListN.{length}
-use borrow.Author.Rules.{rules}
-use mathlib.Core.Path.{◌∙◌, sym}
-use Rattle.blocks.proofs.Scan.{depth_step, Scanning, scan_start, scan_more, scan_ended, scan_over, scan_room}
+use Rattle.blocks.proofs.Scan.{Scanning}
 use Rattle.cfg_steps.specs.Columns.{cols, Good, Entered}
-use Rattle.cfg_steps.proofs.Scan.{entered_none, entered_trans}
 use Rattle.cfg_steps.proofs.GraphBuilder.enter_block.Given as goal
 
 abbrev pub invariant-loop-j : goal.invariant-loop-j

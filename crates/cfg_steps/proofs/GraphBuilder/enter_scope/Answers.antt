@@ -1,6 +1,5 @@
 -- `cfg_steps::GraphBuilder::enter_scope` meets its contract: the settings inside a scope, and all else as it was.
 -- Assumes nothing.
-use borrow.Author.Rules.{rules}
 use Rattle.cfg_steps.proofs.GraphBuilder.enter_scope.Goals as goal
 
 pub returns : goal.returns

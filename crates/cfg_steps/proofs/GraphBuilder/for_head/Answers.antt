@@ -1,9 +1,7 @@
 -- `cfg_steps::GraphBuilder::for_head` meets its contract: a code node, then the nodes head and after.
 -- Assumes nothing.
-use borrow.Author.Rules.{rules}
 use mathlib.Core.Path.{refl}
 use native.Mathlib.Omega.{arith}
-use mathlib.Core.List.{[]}
 use lib.ListN.{get_or}
 use Rattle.flow.specs.Graph.{new_node, advance_to, code}
 use Rattle.cfg_steps.specs.Columns.{cols}

@@ -1,6 +1,5 @@
 -- `cfg_steps::GraphBuilder::goto_stmt` meets its contract: a jump to the label's node, or to Break where none is found.
 -- Assumes nothing.
-use borrow.Author.Rules.{rules}
 use mathlib.Core.Path.{refl, sym, ap, ◌∙◌}
 use lib.ListN.{get_or}
 use Rattle.flow.specs.Graph.{jump, or_break}

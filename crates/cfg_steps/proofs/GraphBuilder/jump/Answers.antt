@@ -1,6 +1,5 @@
 -- `cfg_steps::GraphBuilder::jump` meets its contract: a code node, closed into the target.
 -- Assumes nothing.
-use borrow.Author.Rules.{rules}
 use native.Mathlib.Omega.{arith}
 use Rattle.cfg_steps.proofs.Ops.{jump_did}
 use Rattle.cfg_steps.proofs.GraphBuilder.jump.Goals as goal

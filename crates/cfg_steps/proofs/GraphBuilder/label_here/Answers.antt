@@ -1,7 +1,5 @@
 -- `cfg_steps::GraphBuilder::label_here` meets its contract: the item is no label of the block, or it gets a node.
 -- Assumes nothing.
-use borrow.Author.Rules.{rules}
-use borrow.Author.Tests.{not-true, not-false}
 use native.Mathlib.Omega.{arith}
 use mathlib.Core.Path.{ap, sym, ◌∙◌}
 use lib.ListN.{length}

@@ -1,6 +1,5 @@
 -- `cfg_steps::GraphBuilder::label_stmt` meets its contract: a named label is stood at, and name 0 does nothing.
 -- Assumes nothing.
-use borrow.Author.Rules.{rules}
 use mathlib.Core.Path.{refl, sym, ◌∙◌}
 use native.Mathlib.Omega.{arith}
 use Rattle.cfg_steps.proofs.Simple.{stands_as}

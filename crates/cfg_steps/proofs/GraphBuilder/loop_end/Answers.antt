@@ -1,6 +1,5 @@
 -- `cfg_steps::GraphBuilder::loop_end` meets its contract: the head goes on to after unless its condition is true.
 -- Assumes nothing.
-use borrow.Author.Rules.{rules}
 use mathlib.Core.Path.{refl, ap, ◌∙◌}
 use native.Mathlib.Omega.{arith}
 use mathlib.Core.Logic.{inl}

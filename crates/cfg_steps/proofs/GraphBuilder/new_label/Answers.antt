@@ -1,6 +1,5 @@
 -- `cfg_steps::GraphBuilder::new_label` meets its contract: a node for a label, which comes into force.
 -- Assumes nothing.
-use borrow.Author.Rules.{rules}
 use Rattle.cfg_steps.proofs.Scan.{label_entered}
 use Rattle.cfg_steps.proofs.GraphBuilder.new_label.Goals as goal
 

@@ -1,6 +1,5 @@
 -- `cfg_steps::GraphBuilder::new_node` meets its contract: the step `new_node` on the graph that the columns stand for.
 -- Assumes nothing.
-use borrow.Author.Rules.{rules}
 use Rattle.cfg_steps.proofs.Ops.{new_did}
 use Rattle.cfg_steps.proofs.GraphBuilder.new_node.Goals as goal
 

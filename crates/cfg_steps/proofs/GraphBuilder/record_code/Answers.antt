@@ -1,6 +1,5 @@
 -- `cfg_steps::GraphBuilder::record_code` meets its contract: the step `record_code` on the graph that the columns stand for.
 -- Assumes nothing.
-use borrow.Author.Rules.{rules}
 use mathlib.Core.Path.{refl}
 use Rattle.cfg_steps.proofs.Ops.{record_did}
 use Rattle.cfg_steps.proofs.GraphBuilder.record_code.Goals as goal

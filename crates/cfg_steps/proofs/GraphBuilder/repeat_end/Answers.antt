@@ -1,6 +1,5 @@
 -- `cfg_steps::GraphBuilder::repeat_end` meets its contract: UNTIL's code at the condition, which goes on as its truth allows.
 -- Assumes nothing.
-use borrow.Author.Rules.{rules}
 use native.Mathlib.Omega.{arith}
 use Rattle.cfg_steps.proofs.Loops.{repeat_did}
 use Rattle.cfg_steps.proofs.GraphBuilder.repeat_end.Goals as goal

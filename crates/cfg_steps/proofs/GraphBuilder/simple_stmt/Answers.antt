@@ -1,6 +1,5 @@
 -- `cfg_steps::GraphBuilder::simple_stmt` meets its contract: names, labels, gotos, empty statements and statements with code.
 -- Assumes nothing.
-use borrow.Author.Rules.{rules}
 use mathlib.Core.Logic.{inl, inr}
 use native.Mathlib.Omega.{arith}
 use Prim.Native.Nat.{◌%◌}

@@ -1,6 +1,5 @@
 -- `cfg_steps::GraphBuilder::while_head` meets its contract: a code node and the node after, and nothing current where the condition is false.
 -- Assumes nothing.
-use borrow.Author.Rules.{rules}
 use mathlib.Core.Path.{refl, sym, ◌∙◌}
 use mathlib.Core.Logic.{inr}
 use Rattle.cfg_steps.proofs.Ops.{did_trans}

@@ -1,8 +1,6 @@
 -- `label_sight::Sight::add` meets its contract: the label is pushed, and a repeat is seen.
 -- Assumes nothing.
-use mathlib.Core.Logic.{⊎_elim}
 use native.Mathlib.Omega.{arith}
-use borrow.Author.Rules.{rules}
 use Rattle.flow.specs.Sheet.{member}
 use Rattle.label_sight.specs.Labels.{in_block}
 use Rattle.label_sight.proofs.Names.{repeated, not_repeated}

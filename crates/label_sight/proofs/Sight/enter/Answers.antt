@@ -1,13 +1,8 @@
 -- `label_sight::Sight::enter` meets its contract: the scan finds the labels of the block, in order.
 -- Assumes nothing.
-use Prim.Native.Nat.{ℕ, ◌≤◌, ◌-◌}
-use mathlib.Core.Path.{◌≡◌, refl, sym, ◌∙◌}
-use mathlib.Core.List.{List}
+use mathlib.Core.Path.{refl, sym, ◌∙◌}
 use native.Mathlib.Omega.{arith}
-use borrow.Author.Rules.{rules}
-use lib.ListN.{length}
-use Rattle.blocks.proofs.Scan.{depth_step, Scanning, scan_start, scan_more, scan_none, scan_ended, scan_room}
-use Rattle.label_sight.specs.Labels.{Entered}
+use Rattle.blocks.proofs.Scan.{depth_step, scan_start, scan_more, scan_none, scan_ended, scan_room}
 use Rattle.label_sight.proofs.Named.{none_to_come}
 use Rattle.label_sight.proofs.Scan.{entered_none, entered_trans}
 use Rattle.label_sight.proofs.Sight.enter.Goals as goal
