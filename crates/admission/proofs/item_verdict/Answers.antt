@@ -1,7 +1,7 @@
 -- `admission::item_verdict` meets its contract: the tests of the two parts are those of the sheet's items, in their order. Assumes nothing.
 use Prim.Native.Nat.{ℕ, ◌^◌, ◌≤◌}
 use mathlib.Core.Bool.{◌&&◌, not}
-use mathlib.Core.List.{List, ◌∷◌}
+use mathlib.Core.List.{List, [], ◌∷◌}
 use mathlib.Core.Path.{◌≡◌, sym, ◌∙◌}
 use lib.Dec.{ltb}
 use lib.ListN.{length}

@@ -1,7 +1,7 @@
 -- `admission::pair_verdict` meets its contract. Assumes nothing.
 use Prim.Native.Nat.{ℕ}
 use mathlib.Core.Bool.{Bool, false, ◌||◌}
-use mathlib.Core.List.{List, ◌∷◌}
+use mathlib.Core.List.{List, [], ◌∷◌}
 use mathlib.Core.Path.{◌≡◌, sym, ap, ◌∙◌}
 use Rattle.search.proofs.Bools.{neither}
 use Rattle.flow.specs.Refusals.{leading_tests, Test, miscount, bad_use, first_applying, pair_tests, pair_verdict}

@@ -2,7 +2,7 @@
 -- Assumes nothing.
 use Prim.Native.Nat.{ℕ, ◌+◌, ◌<◌}
 use mathlib.Core.Path.{◌≡◌, refl, sym, ap, subst, ◌∙◌}
-use mathlib.Core.List.{List}
+use mathlib.Core.List.{List, []}
 use lib.ListN.{length, get_or, drop}
 use Rattle.search.specs.Stamps.{flags_of, Stamped}
 use Rattle.flow.specs.Findings.{is_write, is_empty_read, first_empty_read}

@@ -2,6 +2,7 @@
 -- Assumes nothing.
 use Prim.Native.Nat.{ℕ, ◌-◌}
 use mathlib.Core.Path.{◌≡◌}
+use mathlib.Core.List.{[]}
 use lib.ListN.{length, drop}
 use Rattle.search.specs.Stamps.{flags_of, Stamped}
 use Rattle.flow.specs.Findings.{first_empty_read}

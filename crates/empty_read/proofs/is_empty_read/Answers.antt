@@ -3,6 +3,7 @@
 use Prim.Native.Nat.{ℕ, ◌<◌}
 use mathlib.Core.Path.{◌≡◌, refl, sym, ap, ◌∙◌}
 use mathlib.Core.Bool.{Bool, true, false, not, ◌&&◌}
+use mathlib.Core.List.{[]}
 use lib.Dec.{eqb}
 use lib.ListN.{get_or}
 use Rattle.search.specs.Stamps.{flags_of}

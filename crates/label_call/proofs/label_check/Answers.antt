@@ -1,7 +1,7 @@
 -- `label_call::label_check` meets its contract. Assumes nothing.
 use mathlib.Core.Path.{◌≡◌, sym, ◌∙◌}
 use mathlib.Core.Bool.{Bool, false}
-use mathlib.Core.List.{List, ◌∷◌}
+use mathlib.Core.List.{List, [], ◌∷◌}
 use Prim.Native.Nat.{ℕ}
 use Rattle.flow.specs.declared.Verdict.TheVariants.{Admitted}
 use Rattle.flow.specs.Refusals.{one, sheet_verdict}

@@ -1,6 +1,6 @@
 -- `line_tests::item_held` meets its contract. Assumes nothing.
 use Prim.Native.Nat.{ℕ, ◌<◌, ◌-◌, ◌/◌}
-use mathlib.Core.List.{◌∷◌}
+use mathlib.Core.List.{[], ◌∷◌}
 use mathlib.Core.Path.{◌≡◌, sym, ap, ◌∙◌}
 use native.Mathlib.Omega.{arith}
 use borrow.Author.Tests.{le-leb, lt-leb, eq-eqb, ne_eqb}

@@ -1,7 +1,7 @@
 -- `line_tests::off_the_line` meets its contract: its loop is the sweep of refusal 6, with the scope ends around on a stack that 4 and 5 bound.
 -- Assumes nothing.
 use Prim.Native.Nat.{◌<◌, ◌-◌}
-use mathlib.Core.List.{◌∷◌}
+use mathlib.Core.List.{[], ◌∷◌}
 use lib.ListN.{length}
 use Rattle.nesting_tests.specs.Stack.{stack_of}
 use Rattle.line_tests.specs.Turn.{Scopes}

@@ -2,7 +2,7 @@
 -- Assumes nothing.
 use Prim.Native.Nat.{ℕ, ◌+◌, ◌/◌, ◌%◌}
 use mathlib.Core.Path.{refl}
-use mathlib.Core.List.{◌∷◌}
+use mathlib.Core.List.{[], ◌∷◌}
 use native.Mathlib.Omega.{arith}
 use Rattle.flow.specs.Listing.{decimal as decimalOf}
 use Rattle.line_writer.specs.Output.{Room}

@@ -1,7 +1,7 @@
 -- `line_writer::number` meets its contract.
 -- Assumes nothing.
 use mathlib.Core.Path.{◌∙◌}
-use mathlib.Core.List.{◌∷◌}
+use mathlib.Core.List.{[], ◌∷◌}
 use Rattle.flow.specs.Listing.{decimal}
 use Rattle.line_writer.proofs.Appended.{first_room, then_room, both}
 use Rattle.line_writer.proofs.number.Goals as goal

@@ -1,7 +1,7 @@
 -- `line_writer::numbers` meets its contract: at the loop's head the first i numbers stand.
 -- Assumes nothing.
 use mathlib.Core.Path.{◌∙◌}
-use mathlib.Core.List.{◌∷◌, flat_map}
+use mathlib.Core.List.{[], ◌∷◌, flat_map}
 use Rattle.line_writer.proofs.Appended.{first_room, then_room, both}
 use Rattle.line_writer.proofs.Pieces.{none, long, room, turn, all}
 use Rattle.line_writer.proofs.Texts.{spaced, numbers_pieces}

@@ -1,6 +1,6 @@
 -- `lines::refused` meets its contract.
 -- Assumes nothing.
-use mathlib.Core.List.{◌∷◌}
+use mathlib.Core.List.{[], ◌∷◌}
 use native.Mathlib.Omega.{arith}
 use Rattle.line_writer.proofs.Appended.{printed}
 use Rattle.lines.proofs.Sizes.{numbers_long, from_start}

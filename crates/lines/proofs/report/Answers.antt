@@ -1,6 +1,6 @@
 -- `lines::report` meets its contract: no report is too long.
 -- Assumes nothing.
-use mathlib.Core.List.{List, ◌++◌}
+use mathlib.Core.List.{List, [], ◌++◌}
 use Prim.Native.Nat.{ℕ}
 use native.Mathlib.Omega.{arith}
 use lib.ListN.{length-append}

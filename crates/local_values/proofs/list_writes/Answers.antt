@@ -1,6 +1,7 @@
 -- `local_values::list_writes` meets its contract. The loop's invariant: what was found at the places passed was added.
 -- Assumes nothing.
 use native.Mathlib.Omega.{arith}
+use mathlib.Core.List.{[]}
 use Rattle.search.specs.Stamps.{flags_of}
 use Rattle.flow.specs.Graph.{Graph}
 use Rattle.flow.specs.Findings.{Ahead}

@@ -1,6 +1,7 @@
 -- `local_values::list_writes` meets its contract. The loop's invariant: what was found at the places passed was added.
 -- Assumes nothing.
 use Prim.Native.Nat.{◌-◌}
+use mathlib.Core.List.{[]}
 use lib.ListN.{length}
 use Rattle.search.specs.Stamps.{flags_of}
 use Rattle.live_steps.specs.Walk.{chart}

@@ -1,7 +1,7 @@
 -- `scoped_admission::scoped_verdict` meets its contract: 9 stands behind the tests of the pair.
 -- Assumes nothing.
 use Prim.Native.Nat.{ℕ}
-use mathlib.Core.List.{List, ◌∷◌}
+use mathlib.Core.List.{List, [], ◌∷◌}
 use mathlib.Core.Path.{◌≡◌, sym, ◌∙◌}
 use Rattle.flow.specs.declared.Refusal.TheVariants.{BadScope}
 use Rattle.flow.specs.declared.Verdict.TheVariants.{Admitted}

@@ -1,6 +1,7 @@
 -- `uses_by_node::is_ahead` meets its contract: the two successors.
 -- Assumes nothing.
 use mathlib.Core.Path.{refl, sym, ◌∙◌}
+use mathlib.Core.List.{[]}
 use lib.ListN.{get_or}
 use Rattle.uses_by_node.proofs.Flags.{first_marked, second_decides}
 use Rattle.uses_by_node.proofs.is_ahead.Goals as goal

@@ -1,6 +1,7 @@
 -- `uses_by_node::is_overwritten_unread` meets its contract: a read ahead decides.
 -- Assumes nothing.
 use mathlib.Core.Path.{sym, ◌∙◌}
+use mathlib.Core.List.{[]}
 use Rattle.search.specs.Stamps.{flags_of}
 use Rattle.flow.specs.Graph.{Graph}
 use Rattle.flow.specs.Findings.{Ahead}

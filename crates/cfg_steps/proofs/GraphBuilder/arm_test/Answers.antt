@@ -1,5 +1,6 @@
 -- `cfg_steps::GraphBuilder::arm_test` meets its contract: ELSEIF's code node is reached from the test before.
 -- Assumes nothing.
+use mathlib.Core.List.{[]}
 use mathlib.Core.Logic.{inl}
 use Rattle.cfg_steps.proofs.Ops.{did_trans}
 use Rattle.cfg_steps.proofs.Simple.{may_code}

@@ -2,6 +2,7 @@
 -- Assumes nothing.
 use mathlib.Core.Path.{refl}
 use native.Mathlib.Omega.{arith}
+use mathlib.Core.List.{[]}
 use lib.ListN.{get_or}
 use Rattle.flow.specs.Graph.{new_node, advance_to, code}
 use Rattle.cfg_steps.specs.Columns.{cols}

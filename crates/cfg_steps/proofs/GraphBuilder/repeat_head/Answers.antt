@@ -1,6 +1,7 @@
 -- `cfg_steps::GraphBuilder::repeat_head` meets its contract: the nodes body, condition and after, and the move to the body.
 -- Assumes nothing.
 use native.Mathlib.Omega.{arith}
+use mathlib.Core.List.{[]}
 use Rattle.cfg_steps.proofs.Ops.{did_trans}
 use Rattle.cfg_steps.proofs.Simple.{stands}
 use Rattle.cfg_steps.proofs.GraphBuilder.repeat_head.Goals as goal
