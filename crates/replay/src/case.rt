@@ -2,8 +2,8 @@
 ghost use Rattle.std.specs.Prelude.{◌≡◌, ◌+◌, ◌≤◌, length, get_or};
 ghost use Rattle.flow.specs.Answers.{label_told};
 
-use crate::chart::chart_agrees;
-use crate::findings::judge_agrees;
+use crate::chart_cells::chart_agrees;
+use crate::finding_cells::judge_agrees;
 use crate::runs::runs_agree;
 use crate::stored;
 use column_lengths::{CODES, FINDINGS, LOCALS, NODES};

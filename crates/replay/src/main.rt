@@ -8,8 +8,8 @@ use std::fs::File;
 use std::io;
 
 mod case;
-mod chart;
-mod findings;
+mod chart_cells;
+mod finding_cells;
 mod reader;
 mod runs;
 mod stored;

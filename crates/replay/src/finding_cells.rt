@@ -3,7 +3,7 @@ ghost use Rattle.std.specs.Prelude.{◌≡◌, true, [], ◌∷◌};
 ghost use Rattle.flow.specs.Answers.{judge_told};
 ghost use Rattle.replay.specs.Words.{stored_told};
 
-use crate::chart::{OLD, cells_hold, counts_are, finding_end};
+use crate::chart_cells::{OLD, cells_hold, counts_are, finding_end};
 use crate::stored::Stored;
 use column_lengths::{CODES, FINDINGS, LOCALS, NODES};
 use flow::JudgeAnswer;

@@ -1,7 +1,7 @@
--- `replay::findings::marks_hold` is safe and ends.
+-- `replay::finding_cells::marks_hold` is safe and ends.
 -- Assumes nothing.
 use Rattle.std.proofs.Common.{◌-◌, ◌≤◌}
-use Rattle.replay.proofs.findings.marks_hold.Given as goal
+use Rattle.replay.proofs.finding_cells.marks_hold.Given as goal
 
 abbrev pub invariant-loop-i : goal.invariant-loop-i
 invariant-loop-i l = l.i ≤ 1024
