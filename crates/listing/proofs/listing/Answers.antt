@@ -1,6 +1,5 @@
 -- `listing::listing` meets its contract, by whether the output has room for every print.
 -- Assumes nothing.
-use borrow.Author.Rules.{rules}
 use mathlib.Core.Path.{refl}
 use native.Mathlib.Omega.{arith}
 use Rattle.listing.proofs.Room.{without_room, with_room}

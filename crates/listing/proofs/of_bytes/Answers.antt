@@ -1,6 +1,5 @@
 -- `listing::of_bytes` meets its contract: a file of whole words is read, and any other is refused.
 -- Assumes nothing.
-use borrow.Author.Rules.{rules}
 use mathlib.Core.Path.{◌≡◌, sym, ap, ◌∙◌}
 use mathlib.Core.List.{List}
 use Prim.Native.Nat.{ℕ, ◌/◌, ◌≤◌}

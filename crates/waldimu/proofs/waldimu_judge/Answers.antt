@@ -1,5 +1,4 @@
 -- `waldimu::waldimu_judge` meets its contract: the word is that of the call's answer, the cuts are those of the word, and the columns are as the call leaves them. Assumes nothing.
-use borrow.Author.Rules.{rules}
 use mathlib.Core.Path.{sym, ap, ◌∙◌, subst}
 use Rattle.answer_words.specs.Words.{CountsFit, CountFields, counts_word}
 use Rattle.judge.proofs.Promises.{told}

@@ -1,6 +1,5 @@
 -- `flowlist::of_input` meets its contract: the bytes that were read print what the whole file does.
 -- Assumes nothing.
-use borrow.Author.Rules.{rules}
 use mathlib.Core.Path.{sym}
 use mathlib.Core.List.{List}
 use Prim.Native.Nat.{ℕ}
@@ -12,8 +11,7 @@ use Rattle.file_words.proofs.Split.{first_bytes_law}
 use Rattle.listing.specs.Listed.{listed}
 use Rattle.listing.proofs.Room.{with_room}
 use Rattle.flowlist.specs.Read.{Enough, PrintsFile}
-use Rattle.flowlist.proofs.of_input.Statement.{statement}
-use Rattle.flowlist.proofs.of_input.Tie as tie
+use Rattle.flowlist.proofs.of_input.Goals as goal
 
 whole : (array old : List ℕ) (read : ℕ) → Enough array old read → {new : List ℕ} {r : ℕ} → Printed (listed (take read array) old) old new r → PrintsFile array read old new r
 whole array old read h p = record {
@@ -21,19 +19,8 @@ whole array old read h p = record {
   prints = λ file e. rw (← first_bytes_law (length array) file h.holds, ← e, ← with_room (take read array) old h.room) p;
 }
 
-slice-aggregate-listing : tie.Need-slice-aggregate-listing
-slice-aggregate-listing c = let s = c.before.before.before in sym (length-take-le s.args.read s.args.input.now s.requires.within)
+pub slice_bounds-listing-end : goal.slice_bounds-listing-end
+slice_bounds-listing-end c = sym (length-take-le c.args.read c.args.input.now c.requires.within)
 
-listing-requires : tie.Need-listing-requires
-listing-requires c κs = search rules
-
-same_length : tie.Need-same-length
-same_length c = search rules
-
-returns : tie.Need-returns
-returns c =
-    let s = c.before.before.before.before.before.before.before in
-    whole s.args.input.now s.args.output.now s.args.read s.requires c.before.before.listing.ensures
-
-pub of_input_spec : {M : Type 1} → statement M
-of_input_spec = tie.close (tie.spec slice-aggregate-listing listing-requires same_length returns)
+pub returns : goal.returns
+returns c = whole c.args.input.now c.args.output.now c.args.read c.requires c.listing.ensures
