@@ -17,7 +17,7 @@ pub enum Found {
 }
 
 // Why a call is refused.
-#[derive(Drop)]
+#[derive(Clone, Copy)]
 pub enum Refusal {
     BenchTooSmall,
     Miscount,
@@ -31,7 +31,7 @@ pub enum Refusal {
 }
 
 // Whether a call's input is taken.
-#[derive(Drop)]
+#[derive(Clone, Copy)]
 pub enum Verdict {
     Admitted,
     Refused(Refusal),
@@ -46,28 +46,28 @@ pub struct Counts {
 }
 
 // What chart answers.
-#[derive(Drop)]
+#[derive(Clone, Copy)]
 pub enum ChartAnswer {
     Refused(Refusal),
     Charted(Counts),
 }
 
 // What run answers: the node of the offset's code, if there is one, and whether that code can run.
-#[derive(Drop)]
+#[derive(Clone, Copy)]
 pub enum RunAnswer {
     Refused(Refusal),
     Ran(Found, bool),
 }
 
 // What judge answers: a chart's counts, and the number of findings.
-#[derive(Drop)]
+#[derive(Clone, Copy)]
 pub enum JudgeAnswer {
     Refused(Refusal),
     Judged(Counts, usize),
 }
 
 // What the label check answers.
-#[derive(Drop)]
+#[derive(Clone, Copy)]
 pub enum LabelAnswer {
     Refused(Refusal),
     Yes,

@@ -43,7 +43,7 @@ fn among(labels: &[u64; ITEMS], from: usize, to: usize, name: u64) -> bool
 }
 
 // What a walk over the items has found, and the labels that are in sight there.
-#[derive(Drop)]
+#[derive(Clone, Copy)]
 pub struct Sight {
     // Whether no label is repeated so far, and each GOTO found its label.
     pub fine: bool,

@@ -13,7 +13,7 @@ use live_steps::LocalDeclaration;
 use live_walk::live_walk;
 
 // What a walk tells: how many nodes it visits, and the number + 1 of the first unassigned use, 0 where there is none.
-#[derive(Drop)]
+#[derive(Clone, Copy)]
 pub struct Walked {
     pub nodes: usize,
     pub first: usize,

@@ -4,7 +4,6 @@ use native.Mathlib.Omega.{arith}
 use Rattle.both_lists.proofs.Both.{lent_on, in_use_order, in_node_order, both_listed}
 use Rattle.both_lists.proofs.list_findings.Goals as goal
 
--- ---- the places: as the call begins, after the first pass, and after the second
 pub list_unassigned-count-requires : goal.list_unassigned-count-requires
 list_unassigned-count-requires c = record { any_pass = (c.requires.any_pair.0, c.requires.any_pair.1, in_use_order c.requires.any_pair.2); unmarked = (c.requires.walks.unmarked, c.requires.room.1, omega arith) }
 

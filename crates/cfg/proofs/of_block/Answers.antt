@@ -6,7 +6,6 @@ use Rattle.cfg_steps.proofs.Simple.{stands}
 use Rattle.cfg.proofs.Sheets.{first_good, whole}
 use Rattle.cfg.proofs.of_block.Goals as goal
 
--- ---- the places: from each place back to the one before it
 pub scoped_block-s-requires : goal.scoped_block-s-requires
 scoped_block-s-requires c = (c.requires.0, first_good _ _ _ _ _ c.requires.1 c.start_nodes.ensures, omega arith, c.requires.3, c.requires.2)
 

@@ -5,7 +5,6 @@ use Rattle.flow.specs.Graph.{graph}
 use Rattle.chart.proofs.Laid.{as_many, build_asks, nodes_ask, codes_ask, names_ask, firsts, seconds, charted}
 use Rattle.chart.proofs.write_chart.Goals as goal
 
--- ---- the places: from each place back to the one before it
 pub of_block-b-requires : goal.of_block-b-requires
 of_block-b-requires c = build_asks _ _ _ _ c.requires.by_index.1 c.requires.wide.first c.requires.wide.code_node c.requires.wide.node_of_name c.requires.wide.reachable
 

@@ -4,7 +4,6 @@ use Rattle.flow.specs.Graph.{graph}
 use Rattle.chart_run.proofs.Running.{node_asks, place_is, place_in, place_long, flags_are, ran}
 use Rattle.chart_run.proofs.run_in.Goals as goal
 
--- ---- the places: from each place back to the one before it
 pub node_at-node-requires : goal.node_at-node-requires
 node_at-node-requires c =
     let r = node_asks c.requires.admitted_sheet c.of_sheet-counts.ensures in record { codes_in_bounds = r.0; rising = r.1 }

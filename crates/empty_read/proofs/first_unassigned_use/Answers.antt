@@ -15,7 +15,6 @@ use Rattle.empty_read.proofs.first_unassigned_use.Goals.{After-test_and_mark, In
 pub loop-i-init : goal.loop-i-init
 loop-i-init c = (refl, λ f. f, λ n p. refl)
 
--- ---- the places: in a turn, the loop's head that it begins at, and the function's start
 -- ---- the use at place i
 abbrev word : In-loop-i → ℕ
 word c = get_or c.args.mine.now c.loop-i.i 0

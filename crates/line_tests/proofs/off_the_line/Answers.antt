@@ -22,7 +22,6 @@ nested_here c =
 room_here : (c : In-loop-i) → Room c.loop-i.count (get_or c.args.kinds.now c.loop-i.i 0 % 256)
 room_here c = nested_room c.loop-i.count _ _ c.loop-i.invariant.1 (nested_here c)
 
--- ---- the places: from each place back to the one before it
 pub loop-i-init : goal.loop-i-init
 loop-i-init c = (
   record { ends_long = refl; lows_long = refl; lowest = refl },

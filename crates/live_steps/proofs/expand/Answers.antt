@@ -7,7 +7,6 @@ use Rattle.live_steps.proofs.Steps.{still_ready, expanded}
 use Rattle.live_steps.proofs.expand.Goals as goal
 use Rattle.live_steps.proofs.expand.Goals.{After-push_alive, After-push_alive-t, Start}
 
--- ---- the places: after each push, and the start that they go back to
 -- ---- what the search has come to at each
 abbrev held : Start → State
 held c = st c.args.visited.now c.args.stack.now c.args.top

@@ -12,7 +12,6 @@ use Rattle.live_walk.proofs.Walk.{from_writes, walked_is}
 use Rattle.live_walk.proofs.live_walk.Goals as goal
 use Rattle.live_walk.proofs.live_walk.Goals.{After-expand-top, At-loop-top, Start}
 
--- ---- the places: after the call of seed, at the loop's head and after a turn's pushes
 -- the search, and what it has come to
 abbrev walk : Start → Search
 walk c =

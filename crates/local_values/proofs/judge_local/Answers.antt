@@ -15,7 +15,6 @@ use Rattle.local_values.proofs.Judged.{judged_by_marks}
 use Rattle.local_values.proofs.judge_local.Goals as goal
 use Rattle.local_values.proofs.judge_local.Goals.{After-slice_known-9-1}
 
--- ---- the places: after the two calls, and the start that they go back to
 -- the lent columns are as long as they were
 unmarked_left : (c : After-slice_known-9-1) → AllUnmarked (c.args.local + 2) c.args.n c.mark_next_uses.new.used c.mark_next_uses.new.reads c.mark_next_uses.new.writes c.mark_next_uses.new.stack
 unmarked_left c =

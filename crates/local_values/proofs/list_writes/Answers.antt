@@ -10,7 +10,6 @@ use Rattle.local_values.proofs.Writes.{passed_none, passed_long, passed_count, r
 use Rattle.local_values.proofs.list_writes.Goals as goal
 use Rattle.local_values.proofs.list_writes.Goals.{Start}
 
--- ---- the places: the loop's head, and the start that it goes back to
 -- the graph of the columns, and what the marks say is ahead
 abbrev nodes : Start → Graph
 nodes c = chart c.args.n c.args.first.now c.args.second.now []

@@ -7,7 +7,6 @@ use Rattle.name_facts.proofs.find_names.Goals as goal
 pub loop-i-init : goal.loop-i-init
 loop-i-init c = reading_begins _ _ c.requires.1
 
--- ---- the places: the loop's head, seen from a turn's last call, and the start, seen from that head
 -- ---- a turn
 pub loop-i-preserved : goal.loop-i-preserved
 loop-i-preserved c =

@@ -6,6 +6,5 @@ use Rattle.cfg_edges.specs.Halves.{lo, hi}
 use Rattle.node_columns.proofs.Written.{front}
 use Rattle.node_columns.proofs.split_nodes.Goals as goal
 
--- ---- the places: from each place back to the one before it
 pub returns : goal.returns
 returns c = record { first_after = c.split_edges.ensures.first_after; second_after = c.split_edges.ensures.second_after; start_unchanged = c.reach.ensures.stack_unchanged; flags_over = λ g f s. c.reach.ensures.flags_over g (f ∙ sym (ap (take c.args.n) c.split_edges.ensures.first_after ∙ front lo c.args.n c.args.first.now (drop c.args.n c.args.first.now) c.requires.1)) (s ∙ sym (ap (take c.args.n) c.split_edges.ensures.second_after ∙ front hi c.args.n c.args.first.now (drop c.args.n c.args.second.now) c.requires.1)) }

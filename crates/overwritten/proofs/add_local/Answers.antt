@@ -16,7 +16,6 @@ use Rattle.overwritten.proofs.Judged.{none_listed, judged_as, part_rises, part_f
 use Rattle.overwritten.proofs.Locals.{later}
 use Rattle.overwritten.proofs.add_local.Goals as goal
 
--- ---- the places: after the call of is_judged and that of judge_local, and the start that they go back to
 pub part_of-sorted-requires : goal.part_of-sorted-requires
 part_of-sorted-requires c = part_cut c.requires.any_pass.0.2.table.parts c.args.local c.requires.any_pass.1
 

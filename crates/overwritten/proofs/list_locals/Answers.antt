@@ -13,7 +13,6 @@ use Rattle.overwritten.proofs.Locals.{done_none, room_here, done_turn}
 use Rattle.overwritten.proofs.list_locals.Goals as goal
 use Rattle.overwritten.proofs.list_locals.Goals.{Start}
 
--- ---- the places: the loop's head, and the start that it goes back to
 -- ---- what the columns stand for, and what the parts' starts are by that
 abbrev stood : Start → List ℕ → List ℕ → Type 0
 stood c S U = Pass (uses_by_node S U c.args.n) S U c.args.n c.args.names c.args.first.now c.args.second.now c.args.start.now c.args.name_node.now c.args.name_end.now c.args.facts.now c.args.starts.now c.args.by_node.now

@@ -4,7 +4,6 @@ use Rattle.locals.proofs.Entries.{added_none}
 use Rattle.overwritten.proofs.Judged.{nothing_listed}
 use Rattle.overwritten.proofs.list_overwritten.Goals as goal
 
--- ---- the places: after the call of build_predecessors, and the start that it goes back to
 pub list_locals-requires : goal.list_locals-requires
 list_locals-requires c = record { any_pass = c.requires.any_pass; linked = c.build_predecessors.ensures; all_unmarked = (c.requires.lent.0.unmarked, c.requires.lent.1) }
 

@@ -11,7 +11,6 @@ use Rattle.predecessors.proofs.Links.{Half, none_built, first_linked, second_lin
 use Rattle.predecessors.proofs.build_predecessors.Goals as goal
 use Rattle.predecessors.proofs.build_predecessors.Goals.{After-link, Start}
 
--- ---- the places: in the loop and after the two calls, and those that they go back to
 abbrev firsts : Start → List ℕ
 firsts c = take c.args.n c.args.first.now
 

@@ -24,7 +24,6 @@ here c = st c.loop-e.marks c.loop-e.stack c.loop-e.top
 abbrev after : After-push_back-top → State
 after c = st c.push_back-top.new.marks c.push_back-top.new.stack c.push_back-top.result
 
--- ---- the places, and the start that they go back to
 -- the node on the chain, and what is left after it
 first : (c : In-loop-e) → First c.args.n c.args.chain.now c.loop-e.e c.loop-e.invariant.2.left
 first c =

@@ -6,7 +6,6 @@ use Rattle.flow.proofs.Admission.{admitted}
 use Rattle.run.proofs.Running.{run_refused, run_accepted}
 use Rattle.run.proofs.run.Goals as goal
 
--- ---- the places: from each place back to the one before it
 pub returns-in-Refused : goal.returns-in-Refused
 returns-in-Refused c = run_refused c.args.sheet.now c.args.offset (sym c.sheet_verdict-verdict.ensures ∙ c.in-Refused.is)
 

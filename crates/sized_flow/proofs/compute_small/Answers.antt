@@ -4,7 +4,6 @@ use native.Mathlib.Omega.{arith}
 use Rattle.sized_flow.proofs.Columns.{pair, tables_room, walking_room}
 use Rattle.sized_flow.proofs.compute_small.Goals as goal
 
--- ---- the places: as the call begins, and after the tables are made
 pub make_tables-requires : goal.make_tables-requires
 make_tables-requires c = record { code_table = (c.requires.any_given.2.columns.code_table, c.requires.any_given.2.columns.use_table); n_nonzero = (omega arith, c.requires.any_given.2.columns.charted.few, c.requires.any_given.2.columns.named.few); room = tables_room 128 128 c.requires.any_given.2.facts_long c.requires.room.2 c.requires.room.3 c.requires.room.4 }
 

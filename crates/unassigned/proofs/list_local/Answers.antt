@@ -8,7 +8,6 @@ use Rattle.locals.proofs.Entries.{added_none}
 use Rattle.unassigned.proofs.Words.{words_none, told_words, told_visits, told_small}
 use Rattle.unassigned.proofs.list_local.Goals as goal
 
--- ---- the places: where the function starts, the walk, and the push
 -- ---- what the calls ask
 pub push_walked-requires : goal.push_walked-requires
 push_walked-requires c = (c.requires.unmarked.2, c.requires.unmarked.3, told_small c.args.mine.now c.walk_local-walked.ensures.tells, omega arith)

@@ -12,7 +12,6 @@ use Rattle.unassigned.proofs.Passes.{going_more, Listing, listing_none, listing_
 use Rattle.unassigned.proofs.list_unassigned.Goals as goal
 use Rattle.unassigned.proofs.list_unassigned.Goals.{After-loop-local, At-loop-local}
 
--- ---- the places: where the function starts, the loop's head, its turn, and the call
 pub loop-local-init : goal.loop-local-init
 loop-local-init c = (record { within = omega arith; unmarked = c.requires.unmarked.0; visited_long = refl; stack_long = refl }, λ S U p. listing_none S U _ _)
 

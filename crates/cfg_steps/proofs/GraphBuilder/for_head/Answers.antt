@@ -11,7 +11,6 @@ use Rattle.cfg_steps.proofs.Loops.{did_at}
 use Rattle.cfg_steps.proofs.Simple.{stands}
 use Rattle.cfg_steps.proofs.GraphBuilder.for_head.Goals as goal
 
--- ---- the places: from each place back to the one before it
 pub advance_to-a-requires : goal.advance_to-a-requires
 advance_to-a-requires c =
     let d = c.code_and_after-h.ensures [] _ _ c.requires.by_index.2 refl in

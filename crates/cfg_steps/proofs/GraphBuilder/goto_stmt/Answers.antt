@@ -6,7 +6,6 @@ use Rattle.flow.specs.Graph.{jump, or_break}
 use Rattle.cfg_steps.proofs.Simple.{did_as, may_jump, label_below}
 use Rattle.cfg_steps.proofs.GraphBuilder.goto_stmt.Goals as goal
 
--- ---- the places: from each place back to the one before it
 pub returns-in_default : goal.returns-in_default
 returns-in_default c = λ ks n ok q. did_as refl (λ ss g. ap (λ f. jump (get_or ss c.args.i 0) (or_break f) g) (sym (sym c.label_node.ensures ∙ c.in_default.is))) (c.jump.ensures ks n _ ok q)
 

@@ -7,7 +7,6 @@ use Rattle.cfg_steps.proofs.Simple.{did_none, did_as, stands, label_below, label
 use Rattle.cfg_steps.proofs.Ops.{did_trans}
 use Rattle.cfg_steps.proofs.GraphBuilder.label_stmt.Goals as goal
 
--- ---- the places: from each place back to the one before it
 pub returns-then-name-eq0 : goal.returns-then-name-eq0
 returns-then-name-eq0 c = λ ks n ok q. did_as refl (λ ss g. labelled_none _ _ _ g c.if-name-eq0.true) (did_none ks _ _ ok)
 

@@ -4,6 +4,5 @@ use native.Mathlib.Omega.{arith}
 use Rattle.cfg_steps.proofs.Loops.{repeat_did}
 use Rattle.cfg_steps.proofs.GraphBuilder.repeat_end.Goals as goal
 
--- ---- the places: from each place back to the one before it
 pub returns : goal.returns
 returns c = λ ks n l ok q. repeat_did ks _ _ n l _ c.args.body c.args.j c.args.truth _ _ (c.record_code-t.ensures.does_code ks _ n l ok q) c.may_fail-fails.ensures c.may_hold-holds.ensures c.connect_if.ensures c.connect_if-2.ensures (omega arith)

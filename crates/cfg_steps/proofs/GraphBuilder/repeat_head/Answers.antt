@@ -6,7 +6,6 @@ use Rattle.cfg_steps.proofs.Ops.{did_trans}
 use Rattle.cfg_steps.proofs.Simple.{stands}
 use Rattle.cfg_steps.proofs.GraphBuilder.repeat_head.Goals as goal
 
--- ---- the places: from each place back to the one before it
 pub new_node-c-requires : goal.new_node-c-requires
 new_node-c-requires c =
     let d = c.new_node-b.ensures [] _ _ _ c.requires.by_index.3 in (omega (arith, d.good.wide_edges, d.nodes), omega (arith, d.nodes))

@@ -6,7 +6,6 @@ use Prim.Native.Nat.{◌%◌}
 use Rattle.cfg_steps.proofs.Simple.{did_none, did_as, starts, starts_not, simple_name, simple_label, simple_goto, simple_empty, simple_code, made_none, made_one}
 use Rattle.cfg_steps.proofs.GraphBuilder.simple_stmt.Goals as goal
 
--- ---- the places: from each place back to the one before it
 pub returns-then-kind-eq-NAME : goal.returns-then-kind-eq-NAME
 returns-then-kind-eq-NAME c = λ ks e. did_as (made_none _ (inl c.if-kind-eq-NAME.true)) (λ ss g. simple_name _ _ _ _ _ g c.if-kind-eq-NAME.true) (c.declare.ensures ks _ _ _ c.requires.good)
 
