@@ -9,7 +9,9 @@ both runs were made on one machine that did nothing else.
 
 Printed is a table with a row for each crate, in order of change: what grew
 most stands first. New crates and those that are gone follow, then the sums.
-Seconds are by the clock and several provers run at once, so the sums are more
+Today's `rt ci` gives no seconds for a crate: of its words, which ./test ends
+with how long it took, the table has that one row. Of words of the older kit
+seconds are by the clock and several provers run at once, so the sums are more
 than the gate took; how long it took is a row of its own where the words tell
 it (./test adds it). --least S puts crates that changed by less than S seconds
 into one row.
@@ -127,10 +129,13 @@ def main():
         before, after = Run(words.before), Run(words.after)
     except OSError as fault:
         sys.exit(f"times.py: {fault}")
-    for run in (before, after):
-        if not run.crates:
-            sys.exit(f"times.py: {run.path} holds no line as `rt: NAME proved (12 s)`: these are not the words of rt ci")
-    table(before, after, words.least)
+    if before.crates and after.crates:
+        table(before, after, words.least)
+    elif before.took is not None and after.took is not None:
+        print("| | before, s | after, s | change |\n|---|---|---|---|")
+        row("the gate", before.took, after.took, signed(after.took - before.took))
+    else:
+        sys.exit("times.py: a file has neither a line for each crate nor `rt ci: done (N s)`: these are not the words of ./test")
     faults = [fault for run in (before, after) for fault in run.faults()]
     for fault in faults:
         print(f"times.py: {fault}", file=sys.stderr)
