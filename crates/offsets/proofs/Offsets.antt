@@ -1,4 +1,4 @@
--- What the code does with the columns of codes and flags, in the graph's terms: the first code that ends past an offset gives `node_among`, and a flag gives `canRun`.
+-- What the code does with the columns of codes and flags, in the graph's terms: the first code that ends past an offset gives `node_among`, and a flag gives `can_run`.
 -- Assumes nothing.
 use Prim.Native.Nat.{ℕ, zero, suc, ◌+◌, ◌<◌, ◌≤◌}
 use mathlib.Core.Path.{◌≡◌, refl, sym, ap, ◌∙◌}

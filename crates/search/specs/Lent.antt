@@ -1,4 +1,4 @@
--- A column that a call is lent, as its promise sees it: promises name the column, and not its list at entry and at exit.
+-- A column that a call is lent to write, by `&mut`, as its promise sees it: promises name the column, and not its list at entry and at exit.
 -- Assumes nothing: these are definitions.
 use Rattle.std.specs.Prelude.{ℕ, List}
 use Rattle.std.specs.Borrow.{MutBor}

@@ -14,7 +14,6 @@ pub loop-k-init : goal.loop-k-init
 unfolding painted
 loop-k-init c = (omega arith, none, none, refl, refl)
 
--- ---- where the loop's test stands
 -- the word of code k is as it came
 pub split_code-requires : goal.split_code-requires
 split_code-requires c =

@@ -1,11 +1,9 @@
 -- `lines::head_lines` meets its contract.
 -- Assumes nothing.
-use mathlib.Core.Path.{◌≡◌}
 use mathlib.Core.List.{List, [], ◌++◌}
 use Prim.Native.Nat.{ℕ}
 use native.Mathlib.Omega.{arith}
-use lib.ListN.{length, take}
-use lib.Seq.{length-take-le}
+use lib.ListN.{take}
 use Rattle.flow.specs.Answers.{count_values}
 use Rattle.flow.specs.Listing.{line, report}
 use Rattle.line_writer.specs.Output.{Room}
@@ -14,9 +12,6 @@ use Rattle.lines.proofs.Texts.{head_report}
 use Rattle.lines.proofs.Sizes.{head_long, from_start}
 use Rattle.lines.proofs.head_lines.Goals as goal
 use Rattle.lines.proofs.head_lines.Goals.{Start}
-
-five : (c : Start) → length (take 5 c.args.reachable.now) ≡ 5
-five c = length-take-le 5 c.args.reachable.now c.requires.in_bounds
 
 abbrev graph_line : Start → List ℕ
 graph_line c = line "graph" (count_values c.args.counts)

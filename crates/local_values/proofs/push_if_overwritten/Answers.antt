@@ -3,7 +3,6 @@
 use Rattle.locals.proofs.Entries.{added_none}
 use Rattle.local_values.proofs.push_if_overwritten.Goals as goal
 
--- where the test is answered with yes, seen from where the call of push_write has returned
 pub returns-then-is_overwritten : goal.returns-then-is_overwritten
 returns-then-is_overwritten c = rw (← c.is_overwritten.ensures, c.if-is_overwritten.true) c.push_write.ensures
 

@@ -7,7 +7,6 @@ use Rattle.locals.proofs.Entries.{added_none}
 use native.Mathlib.Omega.{arith}
 use Rattle.local_values.proofs.push_initial.Goals as goal
 
--- where both tests are answered with yes, seen from where the call of push_finding has returned
 pub returns-then-is_overwritten_unread : goal.returns-then-is_overwritten_unread
 returns-then-is_overwritten_unread c =
     let ℓ : ℕ = c.args.local in

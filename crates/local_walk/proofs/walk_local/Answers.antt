@@ -10,7 +10,6 @@ use Rattle.use_words.specs.Words.{uses_in}
 use Rattle.empty_read.specs.FirstRead.{code_of}
 use Rattle.local_walk.proofs.walk_local.Goals as goal
 
--- the place after the walk, and the start that it goes back to
 pub first_unassigned_use-requires : goal.first_unassigned_use-requires
 first_unassigned_use-requires c = λ i h. lt_of_lt_of_le (c.requires.long.1 i h) (omega arith)
 

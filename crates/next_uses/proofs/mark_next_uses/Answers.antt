@@ -15,8 +15,6 @@ use Rattle.next_uses.proofs.Meets.{meets_are}
 use Rattle.next_uses.proofs.mark_next_uses.Goals as goal
 use Rattle.next_uses.proofs.mark_next_uses.Goals.{After-mark_used}
 
--- the marks of the used nodes, seen from after the search for reads
--- the search for reads, seen from after that for writes
 -- what a search for a sort leaves are the flags of the specification
 found : (c : After-mark_used) (pure : Bool) (f s : List ℕ) → length f ≡ c.args.n → length s ≡ c.args.n → back_flags c.args.start.now (declared c.args.declaration) c.args.sorted.now pure c.args.stamp c.mark_used.new.used f s c.args.n ≡ meets (chart c.args.n f s c.args.start.now) (declared c.args.declaration) (uses_in c.args.sorted.now) (sort_of pure)
 found c pure f s e j =

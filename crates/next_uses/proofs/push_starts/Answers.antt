@@ -27,7 +27,6 @@ empty c = st c.args.marks.now c.args.stack.now 0
 abbrev after : After-push_start-top → State
 after c = st c.push_start-top.new.marks c.push_start-top.new.stack c.push_start-top.result
 
--- the turn, seen from after its call
 -- the node of the place
 abbrev place : In-loop-i → ℕ
 place c = node_at c.args.sorted.now c.loop-i.i

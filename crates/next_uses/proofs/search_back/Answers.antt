@@ -57,7 +57,6 @@ pub push_chain-top-requires : goal.push_chain-top-requires
 push_chain-top-requires c = record { n_bound = (c.requires.n_bound.0, c.requires.n_bound.1, c.requires.all_placed.1.linked.holds, c.requires.n_bound.2); ready = pop_ready c.args.stamp (known (goal.at.push_chain-top-requires c).Start) (underway (goal.at.push_chain-top-requires c).At-loop-top) c.loop-top-test.true; by_index = rw c.head_of-e.ensures (some_chain c.requires.all_placed.1 c.cell-u.result (on_top (goal.at.push_chain-top-requires c).After-cell-u)) }
 
 -- ---- after a turn
--- the turn, seen from after its last call
 abbrev after : After-push_chain-top → State
 after c = st c.push_chain-top.new.marks c.push_chain-top.new.stack c.push_chain-top.result
 

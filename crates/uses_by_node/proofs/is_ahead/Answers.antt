@@ -6,7 +6,6 @@ use lib.ListN.{get_or}
 use Rattle.uses_by_node.proofs.Flags.{first_marked, second_decides}
 use Rattle.uses_by_node.proofs.is_ahead.Goals as goal
 
--- where the call began, seen from where its first test is known
 pub returns-then-is_marked : goal.returns-then-is_marked
 returns-then-is_marked c =
     first_marked c.args.stamp c.args.n c.args.marks.now c.args.first.now c.args.second.now [] c.args.v c.requires.0 c.requires.1 c.requires.3 c.at-a.result (get_or c.args.second.now c.args.v 0) c.at-a.ensures refl

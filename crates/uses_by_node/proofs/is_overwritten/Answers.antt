@@ -14,7 +14,6 @@ use Rattle.uses_by_node.proofs.Places.{next_node, no_write, by_next, by_paths}
 use Rattle.uses_by_node.proofs.is_overwritten.Goals as goal
 use Rattle.uses_by_node.proofs.is_overwritten.Goals.{Else-not-is_write, Start, Then-next_in_node}
 
--- where the call began, seen from where the use's kind is known
 abbrev graph : Start → Graph
 graph c = chart c.args.n c.args.first.now c.args.second.now []
 

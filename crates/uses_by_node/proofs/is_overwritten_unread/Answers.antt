@@ -10,7 +10,6 @@ use Rattle.uses_by_node.proofs.Flags.{read_ahead, unread_ahead}
 use Rattle.uses_by_node.proofs.is_overwritten_unread.Goals as goal
 use Rattle.uses_by_node.proofs.is_overwritten_unread.Goals.{Start}
 
--- where the call began, seen from where the reads ahead are known
 abbrev graph : Start → Graph
 graph c = chart c.args.n c.args.first.now c.args.second.now []
 
