@@ -7,6 +7,7 @@ ghost use Rattle.blocks.specs.Open.{ends_at, depth_after};
 use kinds::{ends_block, is_closer, is_opener};
 
 // Whether an item of a kind ends the block that a scan started in.
+#[tactic(auto, using(crate::proofs::Scan::ends_deep, crate::proofs::Scan::ends_here))]
 pub fn ends_at(kind: u64, depth: usize) -> bool
     ensures { result ≡ ends_at kind depth }
 {

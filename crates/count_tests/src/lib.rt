@@ -10,6 +10,7 @@ use words::limit;
 const ITEMS: u64 = limit::ITEMS as u64;
 
 // A sheet with `head` words before its two arrays. The limit on n comes first, so that the product cannot wrap.
+#[tactic(auto, using(std::proofs::lemmas::Bool::Decides::nat_tests), unfolding(flow::specs::Refusals::miscount))]
 pub fn miscounted(words: &[u64], head: usize) -> bool
     requires { (1 ≤ head) × (head ≤ 2) }
     ensures { result ≡ miscount head words.now }

@@ -42,6 +42,7 @@ fn item_fits(word: u64, span: u64) -> bool
     false
 }
 
+#[tactic(auto, using(std::proofs::lemmas::Bool::Decides::nat_tests))]
 pub fn bad_item(outer: u64, kinds: &[u64], spans: &[u64]) -> bool
     requires { (length kinds.now ≡ length spans.now) × (length kinds.now ≤ 1024) }
     ensures { result ≡ not (ltb outer (2 ^ 32) && all item_fits (zip kinds.now spans.now)) }

@@ -82,6 +82,7 @@ pub fn is_closer(kind: u64) -> bool
 }
 
 // Whether the block that an item of this kind stands behind ends there: ELSEIF, ELSE, END, UNTIL.
+#[tactic(auto, using(std::proofs::lemmas::Bool::Decides::nat_tests))]
 pub fn ends_block(kind: u64) -> bool
     ensures { result ≡ ends_block kind }
 {

@@ -31,6 +31,7 @@ pub fn name_count(kinds: &[u64], spans: &[u64]) -> u64
 }
 
 // A kind of use, and the same in a closure.
+#[tactic(auto, using(std::proofs::lemmas::Bool::Decides::nat_tests))]
 fn high_fits(high: u64) -> bool
     ensures { result ≡ member high (0 ∷ 1 ∷ 2 ∷ 4 ∷ 5 ∷ 6 ∷ []) }
 {

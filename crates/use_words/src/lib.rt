@@ -23,6 +23,7 @@ const KIND: u64 = HALF * FIELD;
 const CLOSURE: u64 = KIND * CROSSING;
 
 // The use with this number, at this node, whose word in the use sheet is `word`.
+#[tactic(auto, using(crate::proofs::Words::use_inside, crate::proofs::Words::use_uncrossed, crate::proofs::Words::use_uncaptured))]
 pub fn pack(number: usize, node: usize, word: u64, captured: bool) -> u64
     requires { (number < 65536) × (node < 65536) }
     ensures result_value { use_of result ≡ record { number = number; span = 0; kind = use_kind_of word; in_closure = captured && eqb (crossing_of word) 1; found = At node } }
