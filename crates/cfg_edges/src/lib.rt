@@ -9,6 +9,7 @@ use flow::Found;
 use words::{ABSENT, HALF, NO_NODE};
 
 // An edge, in the first free place of the node that it leaves; none right after a jump.
+#[tactic(auto, using(std::proofs::lemmas::Bool::Decides::nat_tests), unfolding(crate::specs::Halves::joined))]
 pub fn connect(edges: &mut [u64], from: usize, to: usize)
     requires fact { (from < length edges.old) ⊎ (from ≡ 4294967295) }
     requires to_bound { to < 2 ^ 32 }

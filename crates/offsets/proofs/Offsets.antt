@@ -1,13 +1,14 @@
 -- What the code does with the columns of codes and flags, in the graph's terms: the first code that ends past an offset gives `node_among`, and a flag gives `can_run`.
 -- Assumes nothing.
-use Prim.Native.Nat.{ℕ, zero, suc, ◌+◌, ◌<◌, ◌≤◌}
+use Prim.Native.Nat.{ℕ, zero, suc, ◌+◌, ◌-◌, ◌<◌, ◌≤◌}
+use mathlib.Core.Bool.{true}
 use mathlib.Core.Path.{◌≡◌, refl, sym, ap, ◌∙◌}
 use mathlib.Core.List.{List, [], ◌∷◌}
 use native.Mathlib.Omega.{arith}
 use native.Mathlib.Decide.{ℕ_discrete}
 use native.Mathlib.Nat.{le_of_suc-le-suc, not-suc-le-zero}
-use borrow.Author.Tests.{lt-ltb, le-ltb}
-use lib.Dec.{eqb}
+use borrow.Author.Tests.{lt-ltb, le-ltb, leb-true}
+use lib.Dec.{eqb, leb}
 use lib.ListN.{length, get_or, take}
 use lib.Seq.{length-take-le, get_or-take}
 use Rattle.flow.specs.declared.Found.TheVariants.{At, Nothing}
@@ -21,6 +22,15 @@ use Rattle.offsets.specs.Codes.{Rising, FirstPast}
 -- what ends at or before an offset takes all before it along
 pub through : (codes : ℕ) (spans : List ℕ) (o m : ℕ) → Rising codes spans → m < codes → end_of (get_or spans m 0) ≤ o → (i : ℕ) → i < m + 1 → end_of (get_or spans i 0) ≤ o
 through codes spans o m r h e i l = elim (ℕ_discrete i m) [ yes p ↦ rw p e | no q ↦ omega (arith, r i m (omega arith) h) ]
+
+-- the code at an index is the first, since it ends past the offset and the code before it does not, or since there is none before it
+pub first_after : (codes : ℕ) (spans : List ℕ) (o i : ℕ) → Rising codes spans → i < codes → o < end_of (get_or spans i 0) → 0 < i → leb (end_of (get_or spans (i - 1) 0)) o ≡ true → FirstPast codes spans o i
+first_after codes spans o i r l p h e =
+    let before = through codes spans o (i - 1) r (omega arith) (leb-true _ _ e) in
+    record { within = omega arith; before = λ k m. before k (omega arith); past = λ _. p }
+
+pub first_at_start : (codes : ℕ) (spans : List ℕ) (o i : ℕ) → i < codes → o < end_of (get_or spans i 0) → i ≤ 0 → FirstPast codes spans o i
+first_at_start codes spans o i l p h = record { within = omega arith; before = λ k m. absurd (omega arith); past = λ _. p }
 
 among_at : (spans nodes : List ℕ) (o r : ℕ) → ((i : ℕ) → i < r → end_of (get_or spans i 0) ≤ o) → r < length spans → r < length nodes → o < end_of (get_or spans r 0) → node_among spans nodes o ≡ At (get_or nodes r 0)
 unfolding node_among

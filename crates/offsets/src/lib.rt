@@ -29,6 +29,7 @@ fn partition_point(code_span: &[u64], codes: usize, offset: u64) -> usize
 }
 
 // Whether the code at an index is the first that ends past an offset. Since the ends rise, the code before it tells of all before it.
+#[tactic(auto, using(crate::proofs::Offsets::first_after, crate::proofs::Offsets::first_at_start))]
 fn is_first_past(code_span: &[u64], codes: usize, offset: u64, index: usize) -> bool
     requires { (codes ≤ length code_span.now) × Rising codes code_span.now }
     ensures { result ≡ true → FirstPast codes code_span.now offset index }

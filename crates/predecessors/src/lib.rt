@@ -67,6 +67,7 @@ fn edge_after(chain: &[u64], e: usize) -> usize
 }
 
 // Whether a path goes on through v: past a use its next use is that one.
+#[tactic(auto, using(std::proofs::lemmas::Bool::Decides::nat_tests), unfolding(crate::specs::Predecessors::passes))]
 fn passes(start: &[u64], used: &[u16], declaration: LocalDeclaration, stamp: u16, v: usize) -> bool
     requires { (v < length start.now) × (v < length used.now) }
     ensures { result ≡ goesOn start.now (declared declaration) stamp used.now v }

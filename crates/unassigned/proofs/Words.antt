@@ -1,6 +1,6 @@
 -- The word of a walk's first unassigned use: how many such words there are, and how great they get.
 -- Assumes nothing.
-use Prim.Native.Nat.{ℕ, ◌+◌, ◌≤◌}
+use Prim.Native.Nat.{ℕ, ◌+◌, ◌*◌, ◌<◌, ◌≤◌}
 use mathlib.Core.Path.{◌≡◌, refl, ap}
 use mathlib.Core.Bool.{Bool, true, false, cond}
 use mathlib.Core.List.{List, [], ◌∷◌, ◌++◌, map}
@@ -24,6 +24,9 @@ words_none ℓ c e = rw (eq-eqb c 0 e)
 
 pub words_one : (ℓ c w : ℕ) → (c ≡ 0 → ⊥) → w ≡ finding_word 0 ℓ c → words_at ℓ c ≡ w ∷ []
 words_one ℓ c w q e = rw (ne_eqb c 0 q, e)
+
+pub words_at_one : (ℓ c : ℕ) → c < 65537 → (c ≡ 0 → ⊥) → words_at ℓ c ≡ (2 * ℓ + 4294967296 * c) ∷ []
+words_at_one ℓ c h q = words_one ℓ c _ q (omega arith)
 
 -- of a use that a walk finds, or none, if the walk is due
 pub words_are : (ℓ : ℕ) (due : Bool) (us : List Use) → length us ≤ 1 → words_at ℓ (cond due (code_of us) 0) ≡ words_of (map (of_use 0 ℓ) (only_if due us))

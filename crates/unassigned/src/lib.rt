@@ -17,6 +17,7 @@ use locals::{declaration_at, part_of, push_finding};
 use words::finding::{LOCAL, USE};
 
 // The mark figure and the finding of a walk. The result is the number of findings.
+#[tactic(auto, using(locals::proofs::Entries::added_none, crate::proofs::Words::words_none, crate::proofs::Words::words_at_one))]
 fn push_walked(
     finding_word: &mut [u64],
     mark: &mut [u64],

@@ -35,20 +35,6 @@ offset_bounds-edges-from-then-first-eq-ABSENT c = omega (arith, inside (goal.at.
 pub bounds-edges-from-then-first-eq-ABSENT : goal.bounds-edges-from-then-first-eq-ABSENT
 bounds-edges-from-then-first-eq-ABSENT c = omega (arith, inside (goal.at.bounds-edges-from-then-first-eq-ABSENT c).Else-from-eq-NO_NODE)
 
-pub offset_bounds-edges-from-then-second-eq-ABSENT : goal.offset_bounds-edges-from-then-second-eq-ABSENT
-offset_bounds-edges-from-then-second-eq-ABSENT c = omega (arith, inside (goal.at.offset_bounds-edges-from-then-second-eq-ABSENT c).Else-from-eq-NO_NODE)
-
-pub bounds-edges-from-then-second-eq-ABSENT : goal.bounds-edges-from-then-second-eq-ABSENT
-bounds-edges-from-then-second-eq-ABSENT c = omega (arith, inside (goal.at.bounds-edges-from-then-second-eq-ABSENT c).Else-from-eq-NO_NODE)
-
 pub returns-then-first-eq-ABSENT : goal.returns-then-first-eq-ABSENT
 unfolding joined
 returns-then-first-eq-ABSENT c = simp (ne_eqb _ _ c.if-from-eq-NO_NODE.false, eq-eqb _ _ c.if-first-eq-ABSENT.true)
-
-pub returns-then-second-eq-ABSENT : goal.returns-then-second-eq-ABSENT
-unfolding joined
-returns-then-second-eq-ABSENT c = simp (ne_eqb _ _ c.if-from-eq-NO_NODE.false, ne_eqb _ _ c.if-first-eq-ABSENT.false, eq-eqb _ _ c.if-second-eq-ABSENT.true)
-
-pub returns-else-second-eq-ABSENT : goal.returns-else-second-eq-ABSENT
-unfolding joined
-returns-else-second-eq-ABSENT c = simp (ne_eqb _ _ c.if-from-eq-NO_NODE.false, ne_eqb _ _ c.if-first-eq-ABSENT.false, ne_eqb _ _ c.if-second-eq-ABSENT.false)
