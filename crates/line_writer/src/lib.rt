@@ -37,6 +37,7 @@ fn digit(n: u64) -> u8
 }
 
 // A number in decimal: what stands before its last digit, then that.
+#[tactic(auto, using(crate::proofs::LastDigit::one_digit))]
 fn decimal(output: &mut [u8], at: usize, n: u64) -> usize
     requires { Room (Listing.decimal n) at output.old }
     ensures { Appended (Listing.decimal n) at output.old output.new result }

@@ -39,7 +39,8 @@ pub fn find_scoped(
 {
     let use_words = sheet_parts::use_words(uses);
     let use_spans = sheet_parts::use_spans(uses);
-    if scopes.len() == 0 {
+    let bare = scopes.len() == 0;
+    if bare {
         return find_all(
             sheet,
             use_words,

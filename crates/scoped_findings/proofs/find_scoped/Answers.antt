@@ -11,7 +11,7 @@ use Rattle.flow.specs.Admitted.{AdmittedUses}
 use Rattle.flow.proofs.Scopes.{crossed_admitted}
 use Rattle.scoped_findings.proofs.Uses.{as_supplied, as_replaced, scopes_fit_law, locals_known, few_names_law, searched, written}
 use Rattle.scoped_findings.proofs.find_scoped.Goals as goal
-use Rattle.scoped_findings.proofs.find_scoped.Goals.{After-replace_crossings, After-use_spans-use_spans, Then-scopes-eq0}
+use Rattle.scoped_findings.proofs.find_scoped.Goals.{After-replace_crossings, After-use_spans-use_spans}
 
 -- ---- where the parts are taken
 abbrev S : (c : After-use_spans-use_spans) → List ℕ
@@ -24,10 +24,8 @@ abbrev C : (c : After-use_spans-use_spans) → List ℕ
 C c = c.args.scopes.now
 
 -- no scope sheet has come
-supplied : (c : Then-scopes-eq0) → use_sheet c.use_words-use_words.result.now c.use_spans-use_spans.result.now ≡ crossed (S (goal.at.Then-scopes-eq0 c).After-use_spans-use_spans) (U (goal.at.Then-scopes-eq0 c).After-use_spans-use_spans) (C (goal.at.Then-scopes-eq0 c).After-use_spans-use_spans)
-supplied c =
-    let d = (goal.at.Then-scopes-eq0 c).After-use_spans-use_spans in
-    as_supplied (S d) (U d) (C d) c.requires.admitted_sheet.1 c.if-scopes-eq0.true c.use_words-use_words.ensures c.use_spans-use_spans.ensures
+supplied : (d : After-use_spans-use_spans) → length (C d) ≡ 0 → use_sheet d.use_words-use_words.result.now d.use_spans-use_spans.result.now ≡ crossed (S d) (U d) (C d)
+supplied d none = as_supplied (S d) (U d) (C d) d.requires.admitted_sheet.1 none d.use_words-use_words.ensures d.use_spans-use_spans.ensures
 
 -- ---- where the words are replaced
 abbrev ws : (c : After-replace_crossings) → List ℕ
@@ -42,22 +40,22 @@ room c = omega (arith, ap length c.use_words-use_words.ensures, length-replicate
 replaced : (c : After-replace_crossings) → use_sheet (take (length (ws c)) (column c)) c.use_spans-use_spans.result.now ≡ crossed (S (goal.at.After-replace_crossings c).After-use_spans-use_spans) (U (goal.at.After-replace_crossings c).After-use_spans-use_spans) (C (goal.at.After-replace_crossings c).After-use_spans-use_spans)
 replaced c =
     let d = (goal.at.After-replace_crossings c).After-use_spans-use_spans in
-    as_replaced (S d) (U d) (C d) c.requires.admitted_sheet.1 c.if-scopes-eq0.false _ (ws c) _ c.requires.admitted_sheet.3 c.use_words-use_words.ensures c.use_spans-use_spans.ensures c.replace_crossings.ensures refl
+    as_replaced (S d) (U d) (C d) c.requires.admitted_sheet.1 c.if-bare.false _ (ws c) _ c.requires.admitted_sheet.3 c.use_words-use_words.ensures c.use_spans-use_spans.ensures c.replace_crossings.ensures refl
 
 pub find_all-requires : goal.find_all-requires
 find_all-requires c =
     let d = (goal.at.find_all-requires c).After-use_spans-use_spans in
-    let e = supplied (goal.at.find_all-requires c).Then-scopes-eq0 in
+    let e = supplied d c.if-bare.true in
     record { admitted_sheet = (c.requires.admitted_sheet.0, subst (AdmittedUses (S d)) (sym e) (crossed_admitted (S d) (U d) (C d) c.requires.admitted_sheet.1)); searchable = searched c.args.counts c.args.name_span.now e c.requires.searchable; long = c.requires.long }
 
-pub returns-then-scopes-eq0 : goal.returns-then-scopes-eq0
-returns-then-scopes-eq0 c = written (supplied (goal.at.returns-then-scopes-eq0 c).Then-scopes-eq0) c.find_all.ensures
+pub returns-then-bare : goal.returns-then-bare
+returns-then-bare c = written (supplied (goal.at.returns-then-bare c).After-use_spans-use_spans c.if-bare.true) c.find_all.ensures
 
 pub replace_crossings-requires : goal.replace_crossings-requires
 replace_crossings-requires c =
     let d = (goal.at.replace_crossings-requires c).After-use_spans-use_spans in
     let many = ap length c.use_words-use_words.ensures ∙ c.requires.admitted_sheet.1.uses in
-    record { admitted_scopes = (scopes_fit_law (S d) (U d) (C d) c.requires.admitted_sheet.1 c.if-scopes-eq0.false _ c.requires.admitted_sheet.3 c.use_words-use_words.ensures c.requires.admitted_sheet.2, omega (arith, few_names_law c.requires.admitted_sheet.0 c.requires.admitted_sheet.1), omega (arith, many)); use_words_in_bounds = (omega (arith, many, length-replicate {A = ℕ} 1024 0), locals_known (S d) (U d) (C d) c.requires.admitted_sheet.1 _ c.requires.admitted_sheet.3 c.use_words-use_words.ensures) }
+    record { admitted_scopes = (scopes_fit_law (S d) (U d) (C d) c.requires.admitted_sheet.1 c.if-bare.false _ c.requires.admitted_sheet.3 c.use_words-use_words.ensures c.requires.admitted_sheet.2, omega (arith, few_names_law c.requires.admitted_sheet.0 c.requires.admitted_sheet.1), omega (arith, many)); use_words_in_bounds = (omega (arith, many, length-replicate {A = ℕ} 1024 0), locals_known (S d) (U d) (C d) c.requires.admitted_sheet.1 _ c.requires.admitted_sheet.3 c.use_words-use_words.ensures) }
 
 pub slice_bounds-words-end : goal.slice_bounds-words-end
 slice_bounds-words-end c = room (goal.at.slice_bounds-words-end c).After-replace_crossings
