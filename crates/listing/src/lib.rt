@@ -36,7 +36,8 @@ fn of_bytes(input: &[u8], output: &mut [u8]) -> usize
 pub fn listing(input: &[u8], output: &mut [u8]) -> usize
     ensures { Printed (listed input.now output.old) output.old output.new result }
 {
-    if output.len() < lines::ROOM {
+    let short = output.len() < lines::ROOM;
+    if short {
         return 0;
     }
     of_bytes(input, output)
