@@ -1,9 +1,11 @@
 -- The first of tests that applies: it is the first in the list, or stands behind tests that pass. Assumes nothing.
+use Prim.Native.Nat.{ℕ}
 use mathlib.Core.Bool.{Bool, true, false, cond}
 use mathlib.Core.List.{List, [], ◌∷◌, ◌++◌}
 use mathlib.Core.Path.{◌≡◌, refl, ap, ◌∙◌}
-use Rattle.flow.specs.Refusals.{Test, first_applying}
+use Rattle.flow.specs.Refusals.{Test, first_applying, leading_tests, item_tests}
 use Rattle.flow.specs.declared.Refusal.{Refusal}
+use Rattle.flow.specs.declared.Refusal.TheVariants.{BenchTooSmall, Miscount}
 use Rattle.flow.specs.declared.Verdict.{Verdict}
 use Rattle.flow.specs.declared.Verdict.TheVariants.{Admitted, Refused}
 
@@ -14,6 +16,18 @@ applies_first t ts e = rw e
 pub passes_first : (t : Test) (ts : List Test) → t.1 ≡ false → first_applying (t ∷ ts) ≡ first_applying ts
 unfolding first_applying
 passes_first t ts e = rw e
+
+-- ---- the tests of 1 and 2, and those behind them
+
+module _ (short miscounted : Bool) (ws : List ℕ) where
+  pub too_short : short ≡ true → first_applying (leading_tests short miscounted ws) ≡ Refused BenchTooSmall
+  too_short e = applies_first _ _ e
+
+  pub wrong_count : short ≡ false → miscounted ≡ true → first_applying (leading_tests short miscounted ws) ≡ Refused Miscount
+  wrong_count e q = passes_first _ _ e ∙ applies_first _ _ q
+
+  pub well_counted : short ≡ false → miscounted ≡ false → first_applying (leading_tests short miscounted ws) ≡ first_applying (item_tests ws)
+  well_counted e q = passes_first _ _ e ∙ passes_first _ _ q
 
 -- ---- tests with further tests behind them
 

@@ -52,6 +52,7 @@ fn use_is_bad(sheet: &[u64], uses: &[u64]) -> bool
 }
 
 // 1 to 7. `short` and `miscounted` are refusals 1 and 2 as measured: a lent column is too short, a sheet is miscounted.
+#[tactic(auto, using(crate::proofs::Verdicts::too_short, crate::proofs::Verdicts::wrong_count, crate::proofs::Verdicts::well_counted))]
 fn leading_verdict(short: bool, miscounted: bool, sheet: &[u64]) -> Verdict
     requires { miscounted ≡ false → Counted 2 sheet.now }
     ensures { result ≡ first_applying (leading_tests short miscounted sheet.now) }
