@@ -11,13 +11,13 @@
    writes the first cells of each column, as many as the result word tells; those behind them keep their content. Nothing
    is allocated or kept. Of the C library only memset is needed.
 
-   THE STACK. The proofs say nothing of it. In KB of 1,000 bytes, measured by compare/stack.c with the older kit, the most found
-   last:
+   THE STACK. The proofs say nothing of it. In KB of 1,000 bytes, measured by compare/stack.c with rattle-kit-13f, the most
+   found last:
 
      sheet                     chart  judge    run  label check
-     1,024 PLAIN                   2     69     94           18
-     an IF with 1,022 ELSEIF       3     70     95           18
-     64 nested IF                 59    126    151           18
+     1,024 PLAIN                   2     72     94           18
+     an IF with 1,022 ELSEIF       3     72     95           18
+     64 nested IF                 53     72    145           18
 */
 #ifndef WALDIMU_H
 #define WALDIMU_H
