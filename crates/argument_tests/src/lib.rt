@@ -3,10 +3,9 @@
 
 ghost use Rattle.std.specs.Prelude.{◌≡◌, ◌&&◌, ◌^◌, ◌%◌, ◌/◌, ltb};
 ghost use Rattle.flow.specs.Kinds.{argument_fits};
+ghost use Rattle.kinds.specs.Numbers.{kind_number};
 
-use words::kind::{
-    CALL, DO, ELSE, ELSEIF, FOR, GOTO, IF, LABEL, LOCAL, NAME, REPEAT, RETURN, WHILE,
-};
+use kinds::Kind;
 use words::{HALF, SCOPE_END};
 
 // The conditions are 0 to 18.
@@ -25,30 +24,21 @@ const CALL_BITS: u64 = 127;
 fn scoped(argument: u64, conditions: u64) -> bool
     ensures { result ≡ (ltb (argument % 32) conditions && ltb (argument / 32) (2 ^ 32)) }
 {
-    if argument % SCOPE_END < conditions {
-        return argument / SCOPE_END < HALF;
-    }
-    false
+    argument % SCOPE_END < conditions && argument / SCOPE_END < HALF
 }
 
 // Whether an argument is one that the table has for its kind.
-pub fn argument_fits(kind: u64, argument: u64) -> bool
-    ensures { result ≡ argument_fits kind argument }
+#[tactic(auto, unfolding(flow::specs::Kinds::argument_fits))]
+pub fn argument_fits(kind: Kind, argument: u64) -> bool
+    ensures { result ≡ argument_fits (kind_number kind) argument }
 {
     match kind {
-        DO => scoped(argument, 1),
-        WHILE => scoped(argument, CONDITIONS),
-        REPEAT => scoped(argument, CONDITIONS),
-        FOR => scoped(argument, 1),
-        IF => scoped(argument, 1),
-        ELSEIF => scoped(argument, 1),
-        ELSE => scoped(argument, 1),
-        LOCAL => argument <= LAST_NUMBER,
-        NAME => argument <= NAME_BITS,
-        LABEL => argument <= LAST_NUMBER,
-        GOTO => argument <= LAST_NUMBER,
-        RETURN => argument <= 1,
-        CALL => argument <= CALL_BITS,
+        Kind::While | Kind::Repeat => scoped(argument, CONDITIONS),
+        Kind::Do | Kind::For | Kind::If | Kind::ElseIf | Kind::Else => scoped(argument, 1),
+        Kind::Local | Kind::Label | Kind::Goto => argument <= LAST_NUMBER,
+        Kind::Name => argument <= NAME_BITS,
+        Kind::Return => argument <= 1,
+        Kind::Call => argument <= CALL_BITS,
         _ => argument == 0,
     }
 }

@@ -1,32 +1,40 @@
 // Refusal 4, too deep: among some first items the openers outnumber the closers by more than 64.
 #![tactic(auto)]
 
-ghost use Rattle.std.specs.Prelude.{◌≡◌, ◌≤◌, length};
-ghost use Rattle.flow.specs.Sheet.{zip};
-ghost use Rattle.flow.specs.Refusals.{outnumbered};
+ghost use Rattle.std.specs.Prelude.{◌≡◌};
+ghost use Rattle.flow.specs.Sheet.{kind_of, zip};
+ghost use Rattle.flow.specs.Kinds.{opens, closes};
+ghost use Rattle.flow.specs.Refusals.{one, outnumbered};
 
-use kinds::{is_closer, is_opener};
-use sweeps::one;
-use words::{ARGUMENT, limit};
+use kinds::Kind;
+use sheet_parts::Items;
+use words::limit::DEPTH;
 
-// So many more openers than closers may have come.
-const DEPTH: u64 = limit::DEPTH as u64;
-
-pub fn too_deep(kinds: &[u64], spans: &[u64]) -> bool
-    requires { (length kinds.now ≡ length spans.now) × (length kinds.now ≤ 1024) }
-    ensures { result ≡ outnumbered 0 0 (zip kinds.now spans.now) }
+// What an item adds to the openers,
+fn opener(word: u64) -> usize
+    ensures { result ≡ one (opens (kind_of word)) }
 {
-    let mut openers: u64 = 0;
-    let mut closers: u64 = 0;
-    let mut i = 0;
-    while i < kinds.len() {
+    usize::from(Kind::of(word).is_some_and(Kind::is_opener))
+}
+
+// and to the closers.
+fn closer(word: u64) -> usize
+    ensures { result ≡ one (closes (kind_of word)) }
+{
+    usize::from(Kind::of(word).is_some_and(Kind::is_closer))
+}
+
+pub fn too_deep(items: Items<'_>) -> bool
+    ensures { result ≡ outnumbered 0 0 (zip items.entry.words.now items.entry.spans.now) }
+{
+    let mut openers = 0;
+    let mut closers = 0;
+    for word in items.words {
         if closers + DEPTH < openers {
             return true;
         }
-        let kind = kinds[i] % ARGUMENT;
-        openers += one(is_opener(kind));
-        closers += one(is_closer(kind));
-        i += 1;
+        openers += opener(*word);
+        closers += closer(*word);
     }
     closers + DEPTH < openers
 }

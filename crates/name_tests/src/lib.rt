@@ -1,50 +1,70 @@
 // Refusal 7, bad name: a NAME span empty, outside its LOCAL, or starting before the previous NAME of that LOCAL ends.
 #![tactic(auto)]
 
-ghost use Rattle.std.specs.Prelude.{◌≡◌, not, ◌≤◌, length};
+ghost use Rattle.std.specs.Prelude.{◌≡◌, not};
 ghost use Rattle.flow.specs.Sheet.{zip};
 ghost use Rattle.flow.specs.Refusals.{name_fits, names_fit};
+ghost use Rattle.name_tests.specs.Turn.{Past};
 
-use words::kind::{LOCAL, NAME};
-use words::{ARGUMENT, HALF};
+use kinds::Kind;
+use sheet_parts::Items;
+use words::HALF;
 
-fn name_fits(local: u64, reached: u64, span: u64) -> bool
-    ensures { result ≡ name_fits local reached span }
-{
-    let start = span % HALF;
-    let end = span / HALF;
-    if start >= end {
-        return false;
-    }
-    if start < local % HALF {
-        return false;
-    }
-    if end > local / HALF {
-        return false;
-    }
-    reached <= start
+// The span of the last LOCAL, and where the last of its NAMEs ends. Before the first LOCAL the span is empty, and no name fits.
+#[derive(Clone, Copy)]
+struct Names {
+    local: u64,
+    reached: u64,
 }
 
-pub fn bad_name(kinds: &[u64], spans: &[u64]) -> bool
-    requires { (length kinds.now ≡ length spans.now) × (length kinds.now ≤ 1024) }
-    ensures { result ≡ not (names_fit 0 0 (zip kinds.now spans.now)) }
-{
-    let mut local = 0;
-    let mut reached = 0;
-    let mut i = 0;
-    while i < kinds.len() {
-        let kind = kinds[i] % ARGUMENT;
-        let span = spans[i];
-        if kind == LOCAL {
-            local = span;
-            reached = 0;
-        } else if kind == NAME {
-            if !name_fits(local, reached, span) {
-                return true;
+impl Names {
+    #[tactic(auto, unfolding(flow::specs::Refusals::name_fits))]
+    fn fit(self, span: u64) -> bool
+        ensures { result ≡ name_fits self.local self.reached span }
+    {
+        let start = span % HALF;
+        let end = span / HALF;
+        start < end
+            && start >= self.local % HALF
+            && end <= self.local / HALF
+            && self.reached <= start
+    }
+
+    // Past an item, or none where it is a NAME that does not fit.
+    fn past(self, word: u64, span: u64) -> Option<Names>
+        ensures { Past self (record { word = word; span = span }) result }
+    {
+        match Kind::of(word) {
+            Some(Kind::Local) => Some(Names {
+                local: span,
+                reached: 0,
+            }),
+            Some(Kind::Name) => {
+                if !self.fit(span) {
+                    return None;
+                }
+                Some(Names {
+                    local: self.local,
+                    reached: span / HALF,
+                })
             }
-            reached = span / HALF;
+            _ => Some(self),
         }
-        i += 1;
+    }
+}
+
+pub fn bad_name(items: Items<'_>) -> bool
+    ensures { result ≡ not (names_fit 0 0 (zip items.entry.words.now items.entry.spans.now)) }
+{
+    let mut names = Names {
+        local: 0,
+        reached: 0,
+    };
+    for (word, span) in items.words.iter().zip(items.spans) {
+        let Some(past) = names.past(*word, *span) else {
+            return true;
+        };
+        names = past;
     }
     false
 }

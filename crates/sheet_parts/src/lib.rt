@@ -1,8 +1,8 @@
-// "the two arrays are parts of one lent sheet": each array as a part that starts inside its sheet.
+// "the two arrays are parts of one lent sheet": both arrays as parts that start inside their sheet, word beside span.
 #![tactic(auto)]
 
-ghost use Rattle.std.specs.Prelude.{◌≡◌};
-ghost use Rattle.flow.specs.Sheet.{kind_words, span_words, use_words, use_spans};
+ghost use Rattle.std.specs.Prelude.{◌≡◌, ◌+◌, ◌≤◌, length, take, drop};
+ghost use Rattle.flow.specs.Sheet.{count_word, kind_words, span_words, use_words, use_spans};
 ghost use Rattle.sheet_parts.specs.Parts.{Counted};
 
 // Words that stand before a sheet's two arrays, and before a use sheet's.
@@ -10,38 +10,74 @@ const SHEET_HEAD: usize = 2;
 
 const USE_HEAD: usize = 1;
 
-// The first array of a sheet: kinds with their arguments.
+// The items of a sheet, or the uses of a use sheet: a word and a span for each, in two arrays of one length.
+#[derive(Clone, Copy)]
+pub struct Items<'a> {
+    pub words: &'a [u64],
+    pub spans: &'a [u64],
+    ghost paired: { length words.now ≡ length spans.now },
+    ghost few: { length words.now ≤ 1024 },
+}
+
+impl<'a> Items<'a> {
+    // Those of a sheet with `head` words before its two arrays.
+    fn behind(head: usize, sheet: &'a [u64]) -> Self
+        requires some_head { (1 ≤ head) × (head ≤ 2) }
+        requires counted { Counted head sheet.now }
+        ensures words { result.words.now ≡ take (count_word sheet.now) (drop head sheet.now) }
+        ensures spans { result.spans.now ≡ take (count_word sheet.now) (drop (head + count_word sheet.now) sheet.now) }
+    {
+        let end = head + sheet[0] as usize;
+        Items {
+            words: &sheet[head..end],
+            spans: &sheet[end..],
+        }
+    }
+
+    // The items of a sheet: kinds with their arguments, and spans.
+    pub fn of_sheet(sheet: &'a [u64]) -> Self
+        requires { Counted 2 sheet.now }
+        ensures words { result.words.now ≡ kind_words sheet.now }
+        ensures spans { result.spans.now ≡ span_words sheet.now }
+    {
+        Items::behind(SHEET_HEAD, sheet)
+    }
+
+    // The uses of a use sheet: locals with kinds and crossings, and spans.
+    pub fn of_uses(uses: &'a [u64]) -> Self
+        requires { Counted 1 uses.now }
+        ensures words { result.words.now ≡ use_words uses.now }
+        ensures spans { result.spans.now ≡ use_spans uses.now }
+    {
+        Items::behind(USE_HEAD, uses)
+    }
+}
+
+// The arrays one by one.
 pub fn kinds(sheet: &[u64]) -> &[u64]
     requires { Counted 2 sheet.now }
     ensures { result.now ≡ kind_words sheet.now }
 {
-    let end = SHEET_HEAD + sheet[0] as usize;
-    &sheet[SHEET_HEAD..end]
+    Items::of_sheet(sheet).words
 }
 
-// The second array of a sheet: spans.
 pub fn spans(sheet: &[u64]) -> &[u64]
     requires { Counted 2 sheet.now }
     ensures { result.now ≡ span_words sheet.now }
 {
-    let start = SHEET_HEAD + sheet[0] as usize;
-    &sheet[start..]
+    Items::of_sheet(sheet).spans
 }
 
-// The first array of a use sheet: locals, kinds and crossings.
 pub fn use_words(uses: &[u64]) -> &[u64]
     requires { Counted 1 uses.now }
     ensures { result.now ≡ use_words uses.now }
 {
-    let end = USE_HEAD + uses[0] as usize;
-    &uses[USE_HEAD..end]
+    Items::of_uses(uses).words
 }
 
-// The second array of a use sheet: spans.
 pub fn use_spans(uses: &[u64]) -> &[u64]
     requires { Counted 1 uses.now }
     ensures { result.now ≡ use_spans uses.now }
 {
-    let start = USE_HEAD + uses[0] as usize;
-    &uses[start..]
+    Items::of_uses(uses).spans
 }

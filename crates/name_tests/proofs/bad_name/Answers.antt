@@ -1,27 +1,21 @@
 -- `name_tests::bad_name` meets its contract: its loop is the sweep of refusal 7. Assumes nothing.
-use mathlib.Core.Path.{sym, ◌∙◌}
-use borrow.Author.Tests.{ne_eqb}
+use mathlib.Core.Bool.{not}
+use mathlib.Core.Path.{sym, ap}
+use Rattle.std.proofs.Common.{rules}
 use Rattle.flow.specs.Refusals.{names_fit}
-use Rattle.sweeps.proofs.Sweep.{begin, onward, fails, ends}
-use Rattle.name_tests.proofs.Sweeps.{naming}
+use Rattle.sweeps.proofs.Pairs.{turn, onward_at, fails_at, ends_at}
 use Rattle.name_tests.proofs.bad_name.Goals as goal
-use Rattle.name_tests.proofs.bad_name.Goals.{then-kind-eq-LOCAL, else-kind-eq-LOCAL+then-kind-eq-NAME+else-not-name_fits, else-kind-eq-LOCAL+else-kind-eq-NAME}
 
-pub loop-i-init : goal.loop-i-init
-loop-i-init c = begin naming _ _ (0, 0)
+pub returns-in_default : goal.returns-in_default
+returns-in_default c =
+    let t = turn c.args.items.words.now c.args.items.spans.now c.loop-word.yielded c.into_iter-word-iterator.result c.loop-word.word-iterator c.next.new.self c.next.result (search rules) (search rules) c.loop-word.yielded_by _ c.in-Some.is c.next.ensures.steps in
+    sym (ap not (fails_at c.loop-word.invariant c.args.items.paired t c.in_default.ensures))
 
-pub returns-then-not-name_fits : goal.returns-then-not-name_fits
-returns-then-not-name_fits c = rw (fails c.loop-i.invariant c.requires.0 c.loop-i-test.true (rw c.if-kind-eq-NAME.true (sym c.name_fits.ensures ∙ c.if-not-name_fits.true)))
-
-pub loop-i-preserved : goal.loop-i-preserved
-loop-i-preserved c =
-    let next = onward c.loop-i.invariant c.requires.0 c.loop-i-test.true in
-    elim c.if-kind-eq-LOCAL.branch [
-      | then-kind-eq-LOCAL w ↦ rw (w.local-is, w.reached-is) (rw w.if-kind-eq-LOCAL.true at (next (rw w.if-kind-eq-LOCAL.true)))
-      | else-kind-eq-LOCAL+then-kind-eq-NAME+else-not-name_fits w ↦ rw (w.local-is, w.reached-is) (rw w.if-kind-eq-NAME.true at (next (rw w.if-kind-eq-NAME.true (sym w.name_fits.ensures ∙ w.if-not-name_fits.false))))
-      | else-kind-eq-LOCAL+else-kind-eq-NAME w ↦ rw (w.local-is, w.reached-is) (simp (ne_eqb _ _ w.if-kind-eq-LOCAL.false, ne_eqb _ _ w.if-kind-eq-NAME.false) at (next (rw (ne_eqb _ _ w.if-kind-eq-NAME.false))))
-    ]
+pub loop-word-preserved : goal.loop-word-preserved
+loop-word-preserved c =
+    let t = turn c.args.items.words.now c.args.items.spans.now c.loop-word.yielded c.into_iter-word-iterator.result c.loop-word.word-iterator c.next.new.self c.next.result (search rules) (search rules) c.loop-word.yielded_by _ c.in-Some.is c.next.ensures.steps in
+    rw (c.in-Some-past.ensures.1, c.in-Some-past.ensures.2) (onward_at c.loop-word.invariant c.args.items.paired t c.in-Some-past.ensures.0)
 
 pub returns : goal.returns
 unfolding names_fit
-returns c = rw (ends c.loop-i.invariant c.loop-i-test.false)
+returns c = sym (ap not (ends_at c.loop-word.yielded c.loop-word.invariant c.args.items.paired c.into_iter-word-iterator.result c.loop-word.word-iterator c.next.new.self c.next.result (search rules) (search rules) c.loop-word.yielded_by c.in-None.is c.next.ensures.steps))

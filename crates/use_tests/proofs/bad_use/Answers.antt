@@ -1,18 +1,15 @@
--- `use_tests::bad_use` meets its contract: its loop is the sweep of refusal 8. Assumes nothing.
-use mathlib.Core.Path.{sym, ◌∙◌}
-use Rattle.sweeps.proofs.Sweep.{begin, onward, fails, ends}
-use Rattle.use_tests.proofs.Sweeps.{all_uses, use_sweep, uses_zip}
+-- `use_tests::bad_use` meets its contract: what `all` gives over words and spans is the definition. Assumes nothing.
+use mathlib.Core.Bool.{not}
+use mathlib.Core.Path.{ap, ◌∙◌}
+use Rattle.std.proofs.Common.{rules, tests}
+use Rattle.std.proofs.lemmas.Iterator.Search.{all_from_yields_List}
+use Rattle.flow.specs.Refusals.{use_fits}
+use Rattle.sweeps.proofs.Pairs.{side_by_side}
+use Rattle.use_tests.proofs.Uses.{uses_here}
 use Rattle.use_tests.proofs.bad_use.Goals as goal
 
-pub loop-i-init : goal.loop-i-init
-loop-i-init c = begin (use_sweep _) _ _ tt
-
-pub returns-then-not-use_fits : goal.returns-then-not-use_fits
-returns-then-not-use_fits c = rw (uses_zip c.args.names c.args.words.now c.args.spans.now c.requires.0, fails c.loop-i.invariant c.requires.0 c.loop-i-test.true (sym c.use_fits.ensures ∙ c.if-not-use_fits.true))
-
-pub loop-i-preserved : goal.loop-i-preserved
-loop-i-preserved c = onward c.loop-i.invariant c.requires.0 c.loop-i-test.true (sym c.use_fits.ensures ∙ c.if-not-use_fits.false)
-
 pub returns : goal.returns
-unfolding all_uses
-returns c = rw (uses_zip c.args.names c.args.words.now c.args.spans.now c.requires.0, ends c.loop-i.invariant c.loop-i-test.false)
+returns c =
+    let ws = c.args.uses.words.now in
+    let ss = c.args.uses.spans.now in
+    ap not (all_from_yields_List (λ p. use_fits c.args.names p.0 p.1) c.all.new.self _ _ c.all.ensures.ran (side_by_side ws ss {s = c.zip.result} (search rules) (search rules)) (λ x b q k. search (rules, tests)) ∙ uses_here c.args.names ws ss c.args.uses.paired)
