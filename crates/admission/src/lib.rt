@@ -12,43 +12,43 @@ use item_tests::bad_item;
 use line_tests::off_the_line;
 use name_tests::bad_name;
 use nesting_tests::bad_nesting;
+use sheet_parts::Items;
 use use_tests::{bad_use, name_count};
 
 // 3 to 7, which ask of the sheet alone.
+#[tactic(auto, unfolding(flow::specs::Refusals::first_applying, flow::specs::Refusals::item_tests, flow::specs::Refusals::bad_item, flow::specs::Refusals::too_deep, flow::specs::Refusals::bad_nesting, flow::specs::Refusals::off_the_line, flow::specs::Refusals::bad_name))]
 fn item_verdict(sheet: &[u64]) -> Verdict
     requires { Counted 2 sheet.now }
     ensures { result ≡ first_applying (item_tests sheet.now) }
 {
     let outer = sheet[1];
-    let kinds = sheet_parts::kinds(sheet);
-    let spans = sheet_parts::spans(sheet);
-    if bad_item(outer, kinds, spans) {
+    let items = Items::of_sheet(sheet);
+    if bad_item(outer, items) {
         return Verdict::Refused(Refusal::BadItem);
     }
-    if too_deep(kinds, spans) {
+    if too_deep(items) {
         return Verdict::Refused(Refusal::TooDeep);
     }
-    if bad_nesting(kinds, spans) {
+    if bad_nesting(items.words, items.spans) {
         return Verdict::Refused(Refusal::BadNesting);
     }
-    if off_the_line(outer, kinds, spans) {
+    if off_the_line(outer, items.words, items.spans) {
         return Verdict::Refused(Refusal::OffTheLine);
     }
-    if bad_name(kinds, spans) {
+    if bad_name(items) {
         return Verdict::Refused(Refusal::BadName);
     }
     Verdict::Admitted
 }
 
 // 8: "local number not below the names, high part not 0 to 2 or 4 to 6, or start past end".
+#[tactic(auto, unfolding(flow::specs::Refusals::bad_use))]
 fn use_is_bad(sheet: &[u64], uses: &[u64]) -> bool
     requires { Counted 2 sheet.now × Counted 1 uses.now }
     ensures { result ≡ bad_use sheet.now uses.now }
 {
-    let names = name_count(sheet_parts::kinds(sheet), sheet_parts::spans(sheet));
-    let words = sheet_parts::use_words(uses);
-    let spans = sheet_parts::use_spans(uses);
-    bad_use(names, words, spans)
+    let names = name_count(Items::of_sheet(sheet));
+    bad_use(names, Items::of_uses(uses))
 }
 
 // 1 to 7. `short` and `miscounted` are refusals 1 and 2 as measured: a lent column is too short, a sheet is miscounted.

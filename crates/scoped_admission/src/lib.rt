@@ -8,6 +8,7 @@ ghost use Rattle.flow.specs.Admitted.{AdmittedSheet, AdmittedUses};
 use admission::pair_verdict;
 use flow::{Refusal, Verdict};
 use scope_tests::bad_scopes;
+use sheet_parts::Items;
 use use_tests::name_count;
 
 // 9. Without a scope sheet the names need not be counted.
@@ -18,7 +19,7 @@ fn scope_is_bad(sheet: &[u64], uses: &[u64], scopes: &[u64]) -> bool
     if scopes.len() == 0 {
         return false;
     }
-    let names = name_count(sheet_parts::kinds(sheet), sheet_parts::spans(sheet));
+    let names = name_count(Items::of_sheet(sheet));
     bad_scopes(scopes, names, uses[0])
 }
 

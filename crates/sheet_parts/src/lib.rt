@@ -2,7 +2,7 @@
 #![tactic(auto)]
 
 ghost use Rattle.std.specs.Prelude.{◌≡◌, ◌+◌, ◌≤◌, length, take, drop};
-ghost use Rattle.flow.specs.Sheet.{count_word, kind_words, span_words, use_words, use_spans};
+ghost use Rattle.flow.specs.Sheet.{count_word, kind_words, span_words, zip, items, use_words, use_spans};
 ghost use Rattle.sheet_parts.specs.Parts.{Counted};
 
 // Words that stand before a sheet's two arrays, and before a use sheet's.
@@ -39,6 +39,7 @@ impl<'a> Items<'a> {
         requires { Counted 2 sheet.now }
         ensures words { result.words.now ≡ kind_words sheet.now }
         ensures spans { result.spans.now ≡ span_words sheet.now }
+        ensures items { zip result.words.now result.spans.now ≡ items sheet.now }
     {
         Items::behind(SHEET_HEAD, sheet)
     }
