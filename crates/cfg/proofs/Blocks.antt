@@ -17,21 +17,20 @@ use Rattle.flow.proofs.NodeCount.{stmt_count}
 use Rattle.blocks.specs.Open.{item_at, open_at, Ender}
 use Rattle.blocks.proofs.Parse.{read_at, read_end, read_close, read_elseif, read_else}
 use Rattle.blocks.proofs.Scan.{ender_closes}
-use Rattle.cfg_steps.specs.declared.GraphBuilder.{GraphBuilder}
-use Rattle.cfg_steps.specs.Columns.{Cols, graph_of, settings_of, Good, Did}
+use Rattle.cfg_steps.specs.Columns.{Place, Cols, graph_of, settings_of, Good, Did}
 use Rattle.cfg_steps.proofs.Ops.{count_of, grown_same, grown_trans}
 use Rattle.cfg.specs.Steps.{bare, Moved, Stepped, Finished}
 open kinds use {LABEL}
 
 -- ---- moves
 
-pub nodes_of_law : {b : GraphBuilder} {x : Cols} (ks ss : List ℕ) → Good b x → node_count (graph_of ks ss b x) ≡ b.nodes
+pub nodes_of_law : {b : Place} {x : Cols} (ks ss : List ℕ) → Good b x → node_count (graph_of ks ss b x) ≡ b.nodes
 nodes_of_law {b} {x} ks ss ok = count_of ks ss b x (omega (arith, ok.wide_edges, ok.nodes))
 
-pub moved_none : {ks : List ℕ} {b : GraphBuilder} {x : Cols} → Good b x → b.item ≤ length ks → Moved ks b x b x
+pub moved_none : {ks : List ℕ} {b : Place} {x : Cols} → Good b x → b.item ≤ length ks → Moved ks b x b x
 moved_none {ks} {b} {x} ok h = record { good = ok; grown = grown_same b x; forward = omega arith; within = h; labels = refl; settings = refl }
 
-pub moved_trans : {ks : List ℕ} {b t r : GraphBuilder} {x y z : Cols} → Moved ks b x t y → Moved ks t y r z → Moved ks b x r z
+pub moved_trans : {ks : List ℕ} {b t r : Place} {x y z : Cols} → Moved ks b x t y → Moved ks t y r z → Moved ks b x r z
 moved_trans p q = record {
   good = q.good;
   grown = grown_trans (omega (arith, p.labels)) p.grown q.grown;
@@ -41,7 +40,7 @@ moved_trans p q = record {
   settings = q.settings ∙ p.settings;
 }
 
-pub moved_did : {ks js : List ℕ} {f : List ℕ → Graph → Graph} {n : ℕ} {b r : GraphBuilder} {x y : Cols} → b.item ≤ length ks → Did js f n b x r y → Moved ks b x r y
+pub moved_did : {ks js : List ℕ} {f : List ℕ → Graph → Graph} {n : ℕ} {b r : Place} {x y : Cols} → b.item ≤ length ks → Did js f n b x r y → Moved ks b x r y
 moved_did h d = record {
   good = d.good;
   grown = d.grown;
@@ -53,23 +52,23 @@ moved_did h d = record {
 
 -- ---- a block on its way
 
-pub record Going (ks ss : List ℕ) (b : GraphBuilder) (x : Cols) (t : GraphBuilder) (y : Cols) : Type 0 where
+pub record Going (ks ss : List ℕ) (b : Place) (x : Cols) (t : Place) (y : Cols) : Type 0 where
   pub moved : Moved ks b x t y
   pub rest : bare (open_at ks ss t.item) ≡ bare (open_at ks ss b.item)
   pub still : build_block (open_at ks ss t.item).top.body (settings_of b x) (graph_of ks ss t y) ≡ build_block (open_at ks ss b.item).top.body (settings_of b x) (graph_of ks ss b x)
   pub room : t.nodes + block_nodes (open_at ks ss t.item).top.body ≤ 1600 + length (labels_of (open_at ks ss t.item).top.body)
 
-module _ {ks ss : List ℕ} {b : GraphBuilder} {x : Cols} where
+module _ {ks ss : List ℕ} {b : Place} {x : Cols} where
   pub going_none : Good b x → b.item ≤ length ks → b.nodes + block_nodes (open_at ks ss b.item).top.body ≤ 1600 + length (labels_of (open_at ks ss b.item).top.body) → Going ks ss b x b x
   going_none ok h q = record { moved = moved_none ok h; rest = refl; still = refl; room = q }
 
-  pub going_room : {t : GraphBuilder} {y : Cols} → Going ks ss b x t y → (st : Stmt) (o : Open) → open_at ks ss t.item ≡ in_front st o → t.nodes + stmt_nodes st ≤ 1600 + length (label_name st)
+  pub going_room : {t : Place} {y : Cols} → Going ks ss b x t y → (st : Stmt) (o : Open) → open_at ks ss t.item ≡ in_front st o → t.nodes + stmt_nodes st ≤ 1600 + length (label_name st)
   unfolding in_front labels_of
   going_room {t} g st o e =
       let q : t.nodes + (stmt_nodes st + block_nodes o.top.body) ≤ 1600 + length (label_name st ++ labels_of o.top.body) = rw e at g.room in
       omega (arith, q, length-append (label_name st) (labels_of o.top.body), labels_inside o.top.body)
 
-  pub going_more : {t r : GraphBuilder} {y z : Cols} → Going ks ss b x t y → Stepped ks ss t y r z → Going ks ss b x r z
+  pub going_more : {t r : Place} {y z : Cols} → Going ks ss b x t y → Stepped ks ss t y r z → Going ks ss b x r z
   unfolding build_block in_front labels_of
   going_more {t} {r} {y} {z} g s =
       let e = s.reads in
@@ -89,7 +88,7 @@ module _ {ks ss : List ℕ} {b : GraphBuilder} {x : Cols} where
       }
 
   -- at an item that ends the block, and at the sheet's end
-  pub going_ended : {t : GraphBuilder} {y : Cols} → Going ks ss b x t y → (open_at ks ss t.item).top.body ≡ done → (t.item < length ks → Ender (kind_of (get_or ks t.item 0))) → Finished ks ss b x t y
+  pub going_ended : {t : Place} {y : Cols} → Going ks ss b x t y → (open_at ks ss t.item).top.body ≡ done → (t.item < length ks → Ender (kind_of (get_or ks t.item 0))) → Finished ks ss b x t y
   unfolding build_block
   going_ended {t} {y} g e n = record {
     moved = g.moved;

@@ -15,8 +15,7 @@ use Rattle.flow.specs.Graph.{Graph, Settings, node_count, code, set_current, con
 use Rattle.blocks.specs.Open.{item_at, open_at, Ender}
 use Rattle.blocks.proofs.Scan.{ender_closes}
 use Rattle.blocks.proofs.Parse.{read_at, read_end, read_do, read_elseif, read_else, read_close, read_simple}
-use Rattle.cfg_steps.specs.declared.GraphBuilder.{GraphBuilder}
-use Rattle.cfg_steps.specs.Columns.{Cols, graph_of, settings_of, Good, Did}
+use Rattle.cfg_steps.specs.Columns.{Place, Cols, graph_of, settings_of, Good, Did}
 use Rattle.cfg.specs.Steps.{bare, Moved, Stepped, Opened, Scoped, Arm, Armed, Chosen, ArmRoom}
 use Rattle.cfg.proofs.Blocks.{nodes_of_law, moved_none, moved_trans, moved_did, past_close}
 use Rattle.cfg.proofs.Rooms.{elseif_room, else_room, ended_on, arms_left}
@@ -27,12 +26,12 @@ use Rattle.cfg.proofs.Statements.{with_item, moved_item, graph_item}
 pub arm_else : (k : ℕ) → Arm k → (k ≡ 6 → ⊥) → k ≡ 7
 arm_else k h q = omega (arith, h.0, h.1)
 
-module _ {ks ss : List ℕ} {join test : ℕ} {falls : Bool} {b : GraphBuilder} {x : Cols} where
+module _ {ks ss : List ℕ} {join test : ℕ} {falls : Bool} {b : Place} {x : Cols} where
   pub armed_none : Good b x → b.item ≤ length ks → (b.item < length ks → Ender (kind_of (get_or ks b.item 0))) → test < b.nodes → b.nodes + arm_nodes (open_at ks ss b.item).top.arms ≤ 1600 → Armed ks ss join test falls b x test falls b x
   armed_none ok h n q room = record { moved = moved_none ok h; ended = n; tested = q; room = room; rest = refl; still = refl }
 
-  module _ {test' : ℕ} {falls' : Bool} {t : GraphBuilder} {y : Cols} (g : Armed ks ss join test falls b x test' falls' t y) where
-    pub armed_more : {test'' : ℕ} {falls'' : Bool} {r : GraphBuilder} {z : Cols} → Armed ks ss join test' falls' t y test'' falls'' r z → Armed ks ss join test falls b x test'' falls'' r z
+  module _ {test' : ℕ} {falls' : Bool} {t : Place} {y : Cols} (g : Armed ks ss join test falls b x test' falls' t y) where
+    pub armed_more : {test'' : ℕ} {falls'' : Bool} {r : Place} {z : Cols} → Armed ks ss join test' falls' t y test'' falls'' r z → Armed ks ss join test falls b x test'' falls'' r z
     armed_more {test''} {falls''} {r} {z} a = record {
       moved = moved_trans g.moved a.moved;
       ended = a.ended;
@@ -44,7 +43,7 @@ module _ {ks ss : List ℕ} {join test : ℕ} {falls : Bool} {b : GraphBuilder} 
           ∙ ap (λ (S : Settings). build_arms (open_at ks ss t.item).top.arms test' join falls' S (graph_of ks ss t y)) g.moved.settings ∙ g.still;
     }
 
-    pub armed_chosen : {r : GraphBuilder} {z : Cols} → Chosen ks ss test' join falls' t y r z → Chosen ks ss test join falls b x r z
+    pub armed_chosen : {r : Place} {z : Cols} → Chosen ks ss test' join falls' t y r z → Chosen ks ss test join falls b x r z
     armed_chosen a = record {
       moved = moved_trans g.moved a.moved;
       reads = a.reads ∙ g.rest;
@@ -53,7 +52,7 @@ module _ {ks ss : List ℕ} {join test : ℕ} {falls : Bool} {b : GraphBuilder} 
 
 module _ (ks ss : List ℕ) (e : length ss ≡ length ks) (few : length ks ≤ 1024) where
   -- past all arms
-  arms_over : {b r : GraphBuilder} {x y : Cols} (test join : ℕ) (falls : Bool) (j : ℕ) → Good b x → b.item ≤ j → j ≤ length ks
+  arms_over : {b r : Place} {x y : Cols} (test join : ℕ) (falls : Bool) (j : ℕ) → Good b x → b.item ≤ j → j ≤ length ks
       → (open_at ks ss b.item).top.arms ≡ no_more → open_at ks ss j ≡ outer (open_at ks ss b.item)
       → Did ks (λ js g. cond falls (connect test join g) g) 0 (with_item j b) x r y → Chosen ks ss test join falls b x r y
   unfolding build_arms
@@ -64,13 +63,13 @@ module _ (ks ss : List ℕ) (e : length ss ≡ length ks) (few : length ks ≤ 1
         ∙ sym (ap (λ (as' : Arms). build_arms as' test join falls (settings_of b x) (graph_of ks ss b x)) a);
   }
 
-  chosen_over : {b r : GraphBuilder} {x y : Cols} (test join : ℕ) (falls : Bool) (j : ℕ) → Good b x → length ks ≤ b.item → b.item ≤ length ks → j ≡ b.item
+  chosen_over : {b r : Place} {x y : Cols} (test join : ℕ) (falls : Bool) (j : ℕ) → Good b x → length ks ≤ b.item → b.item ≤ length ks → j ≡ b.item
       → Did ks (λ js g. cond falls (connect test join g) g) 0 (with_item j b) x r y → Chosen ks ss test join falls b x r y
   chosen_over {b} test join falls j ok h k q d =
       let n = read_end ks ss e b.item h in
       arms_over test join falls j ok (omega arith) (omega arith) (ap (λ (o : Open). o.top.arms) n) (ap (open_at ks ss) q ∙ n ∙ sym (ap outer n)) d
 
-  module _ {b : GraphBuilder} {x : Cols} (ok : Good b x) (lt : b.item < length ks) where
+  module _ {b : Place} {x : Cols} (ok : Good b x) (lt : b.item < length ks) where
     abbrev at : ℕ
     at = b.item
 
@@ -80,7 +79,7 @@ module _ (ks ss : List ℕ) (e : length ss ≡ length ks) (few : length ks ≤ 1
     abbrev next : Open
     next = open_at ks ss (b.item + 1)
 
-    chosen_end : {r : GraphBuilder} {y : Cols} (test join : ℕ) (falls : Bool) (j : ℕ) → closes (kind_of word) ≡ true → j ≡ b.item + 1
+    chosen_end : {r : Place} {y : Cols} (test join : ℕ) (falls : Bool) (j : ℕ) → closes (kind_of word) ≡ true → j ≡ b.item + 1
         → Did ks (λ js g. cond falls (connect test join g) g) 0 (with_item j b) x r y → Chosen ks ss test join falls b x r y
     unfolding opened
     chosen_end test join falls j c q d =
@@ -88,7 +87,7 @@ module _ (ks ss : List ℕ) (e : length ss ≡ length ks) (few : length ks ≤ 1
         arms_over test join falls j ok (omega arith) (omega arith) (ap (λ (o : Open). o.top.arms) n) (ap (open_at ks ss) q ∙ sym (ap outer n)) d
 
     -- one arm: its head h, its block, and on to the join
-    arm_built : {h t c : GraphBuilder} {y z u : Cols} (as' : Arms) (f : List ℕ → Graph → Graph) (n s test test' join : ℕ) (falls falls' : Bool)
+    arm_built : {h t c : Place} {y z u : Cols} (as' : Arms) (f : List ℕ → Graph → Graph) (n s test test' join : ℕ) (falls falls' : Bool)
         → open_at ks ss b.item ≡ opened as' 0 (outer next)
         → Did ks f n (with_item (b.item + 1) b) x h y → Scoped ks ss s h y t z → Did ks (λ js. close_into join) 0 t z c u
         → test' < b.nodes + n → (b.nodes + n) + (block_nodes next.top.body + arm_nodes next.top.arms) ≤ 1600
@@ -123,7 +122,7 @@ module _ (ks ss : List ℕ) (e : length ss ≡ length ks) (few : length ks ≤ 1
             → made h.item (settings_of h y) (graph_of ks ss h y) ≡ made (b.item + 1) (settings_of b x) (f ss (graph_of ks ss b x))
         inner p k w = ap (λ (m : ℕ). made m (settings_of h y) (graph_of ks ss h y)) p ∙ ap (λ (S : Settings). made (b.item + 1) S (graph_of ks ss h y)) w ∙ ap (made (b.item + 1) (settings_of b x)) k
 
-    pub elseif_built : {h t c : GraphBuilder} {y z u : Cols} (s test join : ℕ) (falls : Bool) → kind_of word ≡ 6 → s ≡ scope_end_of word → ArmRoom ks b
+    pub elseif_built : {h t c : Place} {y z u : Cols} (s test join : ℕ) (falls : Bool) → kind_of word ≡ 6 → s ≡ scope_end_of word → ArmRoom ks b
         → Did ks (λ js g. code (get_or js b.item 0) (set_current test g)) 1 (with_item (b.item + 1) b) x h y → Scoped ks ss s h y t z → Did ks (λ js. close_into join) 0 t z c u
         → Armed ks ss join test falls b x b.nodes falls c u
     unfolding build_arms
@@ -132,7 +131,7 @@ module _ (ks ss : List ℕ) (e : length ss ≡ length ks) (few : length ks ≤ 1
         (read_at ks ss e b.item lt ∙ read_elseif (item_at ks ss b.item) next k) hd sc cl (omega arith) (omega (arith, elseif_room ks ss e b lt room k))
         (λ g c. rw es (ap (λ (n : ℕ). build_arms next.top.arms n join falls (settings_of b x) (close_into join (build_block next.top.body (inside (scope_end_of word) next.top.body (settings_of b x) (code (get_or ss b.item 0) (set_current test g))) (entered next.top.body (code (get_or ss b.item 0) (set_current test g)))))) (sym c)))
 
-    pub else_built : {h t c : GraphBuilder} {y z u : Cols} (s test join : ℕ) (falls : Bool) → kind_of word ≡ 7 → s ≡ scope_end_of word → test < b.nodes → ArmRoom ks b
+    pub else_built : {h t c : Place} {y z u : Cols} (s test join : ℕ) (falls : Bool) → kind_of word ≡ 7 → s ≡ scope_end_of word → test < b.nodes → ArmRoom ks b
         → Did ks (λ js. set_current test) 0 (with_item (b.item + 1) b) x h y → Scoped ks ss s h y t z → Did ks (λ js. close_into join) 0 t z c u
         → Armed ks ss join test falls b x test false c u
     unfolding build_arms
@@ -142,7 +141,7 @@ module _ (ks ss : List ℕ) (e : length ss ≡ length ks) (few : length ks ≤ 1
 
     -- ---- a statement
 
-    pub opened_stepped : {r : GraphBuilder} {y : Cols} → Opened ks ss b.item (with_item (b.item + 1) b) x r y → Stepped ks ss b x r y
+    pub opened_stepped : {r : Place} {y : Cols} → Opened ks ss b.item (with_item (b.item + 1) b) x r y → Stepped ks ss b x r y
     unfolding settings_of
     opened_stepped {r} {y} p = record {
       moved = moved_trans (moved_item (b.item + 1) few (omega arith) (omega arith) (moved_none ok (omega arith))) p.moved;
@@ -152,7 +151,7 @@ module _ (ks ss : List ℕ) (e : length ss ≡ length ks) (few : length ks ≤ 1
       built = p.built ∙ ap (build_stmt p.stmt (settings_of b x)) (graph_item ks ss (b.item + 1) b x);
     }
 
-    pub do_stepped : {t : GraphBuilder} {y : Cols} (s j : ℕ) → kind_of word ≡ 1 → s ≡ scope_end_of word → next.top.arms ≡ no_more
+    pub do_stepped : {t : Place} {y : Cols} (s j : ℕ) → kind_of word ≡ 1 → s ≡ scope_end_of word → next.top.arms ≡ no_more
         → Scoped ks ss s (with_item (b.item + 1) b) x t y → (t.item < length ks → j ≡ t.item + 1) → (length ks ≤ t.item → j ≡ t.item) → j ≤ length ks → t.item ≤ j
         → Stepped ks ss b x (with_item j t) y
     unfolding build_stmt settings_of graph_of
@@ -164,7 +163,7 @@ module _ (ks ss : List ℕ) (e : length ss ≡ length ks) (few : length ks ≤ 1
       built = sc.built ∙ rw es;
     }
 
-    pub simple_stepped : {r : GraphBuilder} {y : Cols} (n : ℕ) → ((k : ℕ) → 1 ≤ k → k ≤ 9 → kind_of word ≡ k → ⊥)
+    pub simple_stepped : {r : Place} {y : Cols} (n : ℕ) → ((k : ℕ) → 1 ≤ k → k ≤ 9 → kind_of word ≡ k → ⊥)
         → Did ks (λ js. simple_stmt (kind_of word) (argument_of word) (get_or js b.item 0) (settings_of (with_item (b.item + 1) b) x)) n (with_item (b.item + 1) b) x r y → Stepped ks ss b x r y
     unfolding build_stmt settings_of graph_of
     simple_stepped {r} {y} n q d = record {
@@ -176,7 +175,7 @@ module _ (ks ss : List ℕ) (e : length ss ≡ length ks) (few : length ks ≤ 1
     }
 
   -- where no arm follows
-  pub chosen_last : {b r : GraphBuilder} {x y : Cols} (test join : ℕ) (falls : Bool) (j : ℕ) → Good b x → b.item ≤ length ks
+  pub chosen_last : {b r : Place} {x y : Cols} (test join : ℕ) (falls : Bool) (j : ℕ) → Good b x → b.item ≤ length ks
       → (b.item < length ks → Ender (kind_of (get_or ks b.item 0))) → (b.item < length ks → Arm (kind_of (get_or ks b.item 0)) → ⊥)
       → (b.item < length ks → j ≡ b.item + 1) → (length ks ≤ b.item → j ≡ b.item)
       → Did ks (λ js g. cond falls (connect test join g) g) 0 (with_item j b) x r y → Chosen ks ss test join falls b x r y

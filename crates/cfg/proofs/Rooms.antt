@@ -15,21 +15,20 @@ use Rattle.flow.specs.Graph.{Graph}
 use Rattle.flow.proofs.NodeCount.{built_count}
 use Rattle.blocks.specs.Open.{item_at, open_at, Ender}
 use Rattle.blocks.proofs.Parse.{read_at, read_do, read_while, read_repeat, read_for, read_if, read_elseif, read_else, read_simple}
-use Rattle.cfg_steps.specs.declared.GraphBuilder.{GraphBuilder}
 use Rattle.kinds.specs.Starts.{has_start}
-use Rattle.cfg_steps.specs.Columns.{Cols, simple_made, Good}
+use Rattle.cfg_steps.specs.Columns.{Place, Cols, simple_made, Good}
 use Rattle.cfg_steps.proofs.Simple.{starts}
 use borrow.Author.Tests.{ne_eqb}
 use Rattle.cfg.specs.Steps.{Scoped, StmtRoom, ArmRoom, BlockRoom}
 use Rattle.cfg.proofs.Blocks.{nodes_of_law}
 
 -- a block that is entered and built has made its nodes
-pub scoped_nodes : {ks ss : List ℕ} {s : ℕ} {b r : GraphBuilder} {x y : Cols} → Good b x → Scoped ks ss s b x r y → r.nodes ≡ b.nodes + block_nodes (open_at ks ss b.item).top.body
+pub scoped_nodes : {ks ss : List ℕ} {s : ℕ} {b r : Place} {x y : Cols} → Good b x → Scoped ks ss s b x r y → r.nodes ≡ b.nodes + block_nodes (open_at ks ss b.item).top.body
 scoped_nodes {ks} {ss} {b = b} ok c =
     sym (nodes_of_law ks ss c.moved.good) ∙ ap (λ (g : Graph). length g.nodes.first) c.built ∙ built_count _ _ _
     ∙ ap (λ (n : ℕ). n + block_nodes (open_at ks ss b.item).top.body) (nodes_of_law ks ss ok)
 
-module _ (ks ss : List ℕ) (e : length ss ≡ length ks) (i : ℕ) (lt : i < length ks) (b : GraphBuilder) (room : StmtRoom ks i b) where
+module _ (ks ss : List ℕ) (e : length ss ≡ length ks) (i : ℕ) (lt : i < length ks) (b : Place) (room : StmtRoom ks i b) where
   abbrev o : Open
   o = open_at ks ss (i + 1)
 
@@ -61,7 +60,7 @@ module _ (ks ss : List ℕ) (e : length ss ≡ length ks) (i : ℕ) (lt : i < le
       go (no p) (no y) (no z) = rw (ne_eqb (kind_of (get_or ks i 0)) 11 p, ne_eqb (kind_of (get_or ks i 0)) 12 y, ne_eqb (kind_of (get_or ks i 0)) 19 z)
           (omega (arith, rw (ne_eqb (kind_of (get_or ks i 0)) 11 p, ne_eqb (kind_of (get_or ks i 0)) 12 y, ne_eqb (kind_of (get_or ks i 0)) 19 z) at all))
 
-module _ (ks ss : List ℕ) (e : length ss ≡ length ks) (b : GraphBuilder) (lt : b.item < length ks) (room : ArmRoom ks b) where
+module _ (ks ss : List ℕ) (e : length ss ≡ length ks) (b : Place) (lt : b.item < length ks) (room : ArmRoom ks b) where
   pub elseif_room : kind_of (get_or ks b.item 0) ≡ 6 → b.nodes + (1 + block_nodes (open_at ks ss (b.item + 1)).top.body + arm_nodes (open_at ks ss (b.item + 1)).top.arms) ≤ 1600
   unfolding opened
   elseif_room k = rw (read_at ks ss e b.item lt ∙ read_elseif (item_at ks ss b.item) (open_at ks ss (b.item + 1)) k) at (room ss e)
@@ -80,6 +79,10 @@ close_starts w c = elim (ℕ_discrete (kind_of w) 8) [ yes e ↦ rw e | no p ↦
 
 -- ---- what ends a block
 
+-- a word of a kind that opens nothing
+abbrev pub OpensNone : ℕ → Type 0
+OpensNone w = (kind_of w ≡ 1 → ⊥) × (kind_of w ≡ 2 → ⊥) × (kind_of w ≡ 3 → ⊥) × (kind_of w ≡ 4 → ⊥) × (kind_of w ≡ 5 → ⊥)
+
 -- a kind that opens nothing and ends nothing
 pub simple_kind : (w : ℕ) → (kind_of w ≡ 1 → ⊥) → (kind_of w ≡ 2 → ⊥) → (kind_of w ≡ 3 → ⊥) → (kind_of w ≡ 4 → ⊥) → (kind_of w ≡ 5 → ⊥) → (Ender (kind_of w) → ⊥) → (k : ℕ) → 1 ≤ k → k ≤ 9 → kind_of w ≡ k → ⊥
 simple_kind w a b c d f g zero l m e = omega arith
@@ -90,11 +93,11 @@ simple_kind w a b c d f g (suc (suc (suc (suc zero)))) l m e = d e
 simple_kind w a b c d f g (suc (suc (suc (suc (suc zero))))) l m e = f e
 simple_kind w a b c d f g (suc (suc (suc (suc (suc (suc n)))))) l m e = g (record { least = rw e (omega arith); most = rw e m })
 
-pub ended_on : (ks : List ℕ) (t c : GraphBuilder) → c.item ≡ t.item → (t.item < length ks → Ender (kind_of (get_or ks t.item 0))) → c.item < length ks → Ender (kind_of (get_or ks c.item 0))
+pub ended_on : (ks : List ℕ) (t c : Place) → c.item ≡ t.item → (t.item < length ks → Ender (kind_of (get_or ks t.item 0))) → c.item < length ks → Ender (kind_of (get_or ks c.item 0))
 ended_on ks t c e n h = subst (λ (j : ℕ). Ender (kind_of (get_or ks j 0))) (sym e) (n (omega arith))
 
 -- what is left for the arms once the block above them is built
-pub arms_left : {ks ss : List ℕ} {s : ℕ} {h t : GraphBuilder} {y z : Cols} (j : ℕ) (c : GraphBuilder) → Good h y → h.item ≡ j → Scoped ks ss s h y t z → c.item ≡ t.item → c.nodes ≡ t.nodes + 0
+pub arms_left : {ks ss : List ℕ} {s : ℕ} {h t : Place} {y z : Cols} (j : ℕ) (c : Place) → Good h y → h.item ≡ j → Scoped ks ss s h y t z → c.item ≡ t.item → c.nodes ≡ t.nodes + 0
     → h.nodes + (block_nodes (open_at ks ss j).top.body + arm_nodes (open_at ks ss j).top.arms) ≤ 1600 → c.nodes + arm_nodes (open_at ks ss c.item).top.arms ≤ 1600
 arms_left {ks} {ss} {s} {h} {t} j c ok e sc ci cn room =
     let a : (open_at ks ss c.item).top.arms ≡ (open_at ks ss j).top.arms = ap (λ (k : ℕ). (open_at ks ss k).top.arms) ci ∙ ap (λ (w : Open). w.top.arms) sc.shut ∙ ap (λ (k : ℕ). (open_at ks ss k).top.arms) e in
@@ -102,5 +105,5 @@ arms_left {ks} {ss} {s} {h} {t} j c ok e sc ci cn room =
     omega (arith, ap arm_nodes a)
 
 -- the room of a block that is reached with its item known
-pub at_item : (ks : List ℕ) (b : GraphBuilder) (j : ℕ) → b.item ≡ j → ((ss : List ℕ) → length ss ≡ length ks → b.nodes + block_nodes (open_at ks ss j).top.body ≤ 1600) → BlockRoom ks b
+pub at_item : (ks : List ℕ) (b : Place) (j : ℕ) → b.item ≡ j → ((ss : List ℕ) → length ss ≡ length ks → b.nodes + block_nodes (open_at ks ss j).top.body ≤ 1600) → BlockRoom ks b
 at_item ks b j e room ss q = omega (arith, room ss q, ap (λ (k : ℕ). block_nodes (open_at ks ss k).top.body) e)

@@ -1,23 +1,23 @@
 -- A whole sheet.
 -- Assumes nothing.
 use mathlib.Core.Path.{◌≡◌, refl, ap, ◌∙◌}
-use mathlib.Core.Logic.{inl}
-use mathlib.Core.List.{List, [], ◌∷◌}
+use Rattle.std.specs.Prelude.{Some}
+use mathlib.Core.List.{List, [], ◌∷◌, ◌++◌}
 use Prim.Native.Nat.{ℕ, ◌≤◌}
 use native.Mathlib.Omega.{arith}
-use lib.ListN.{length, set}
+use lib.ListN.{length, drop, replicate}
 use lib.Dec.{lit<, lit≤}
-use Rattle.flow.specs.Sheet.{kind_words, span_words, items, outer_end}
+use Rattle.flow.specs.Sheet.{kind_words, span_words, outer_end}
 use Rattle.flow.specs.Tree.{Block, tree}
 use Rattle.flow.specs.Graph.{Graph, Settings, new_node, outside, start_graph, inside, entered, build_block, close_into, graph}
-use Rattle.cfg_steps.specs.declared.GraphBuilder.{GraphBuilder}
+use Rattle.flow.specs.declared.Counts.{Counts}
 use Rattle.blocks.specs.Open.{open_at}
 use Rattle.cfg_edges.specs.Halves.{label_list}
-use Rattle.cfg_steps.specs.Columns.{Cols, cols, graph_of, settings_of, painted, Good, Did}
+use Rattle.cfg_steps.specs.Columns.{Place, Cols, cols, graph_of, settings_of, painted, Good, Did}
 use Rattle.cfg_steps.proofs.Ops.{drop_more}
-use Rattle.cfg.specs.Steps.{free, Started, Wide, Whole, Scoped}
+use Rattle.cfg.specs.Steps.{free, Started, Wide, Whole, Scoped, counted}
 
-pub six : (es : List ℕ) → 6 ≤ length es → Started es (set (set (set (set (set (set es 0 free) 1 free) 2 free) 3 free) 4 free) 5 free)
+pub six : (es : List ℕ) → 6 ≤ length es → Started es (replicate 6 free ++ drop 6 es)
 six [] h = absurd (omega arith)
 six (a ∷ []) h = absurd (omega arith)
 six (a ∷ b ∷ []) h = absurd (omega arith)
@@ -27,8 +27,8 @@ six (a ∷ b ∷ c ∷ d ∷ e ∷ []) h = absurd (omega arith)
 six (a ∷ b ∷ c ∷ d ∷ e ∷ f ∷ es) h = record { nodes = refl; past = refl; size = refl }
 
 -- the builder at the start
-abbrev pub first : GraphBuilder
-first = record { item = 0; nodes = 6; codes = 0; names = 0; cursor = 5; settings = record { labels = 0; scope_end = 0; break_target = 1; continue_target = 0 } }
+abbrev pub first : Place
+first = record { item = 0; nodes = 6; codes = 0; names = 0; cursor = Some 5; settings = record { labels = 0; scope_end = 0; break_target = 1; continue_target = 0 } }
 
 module _ (e c n l e' : List ℕ) (w : Wide (cols e c n l)) (s : Started e e') where
   pub first_good : Good first (cols e' c n l)
@@ -43,7 +43,7 @@ module _ (e c n l e' : List ℕ) (w : Wide (cols e c n l)) (s : Started e e') wh
     codes = lit≤ tt;
     names = lit≤ tt;
     labels = lit≤ tt;
-    cursor = inl (lit< tt);
+    cursor = lit< tt;
     break_target = lit< tt;
     continue_target = lit< tt;
     scope_end = lit< tt;
@@ -61,12 +61,15 @@ module _ (e c n l e' : List ℕ) (w : Wide (cols e c n l)) (s : Started e e') wh
   unfolding settings_of label_list outside
   first_settings = refl
 
-  pub whole : (ks ss : List ℕ) (scope : ℕ) {t r : GraphBuilder} {y z : Cols} → Scoped ks ss scope first (cols e' c n l) t y → Did ks (λ js. close_into 0) 0 t y r z → Whole ks ss scope (cols e c n l) r z
+  pub whole : (ks ss : List ℕ) (scope : ℕ) {t r : Place} {y z : Cols} → Scoped ks ss scope first (cols e' c n l) t y → Did ks (λ js. close_into 0) 0 t y r z → Whole ks ss scope (cols e c n l) (record { nodes = r.nodes; codes = r.codes; names = r.names }) z
   whole ks ss scope {t} {r} {y} {z} sc d =
       let g = sc.moved.grown in
       let k = d.grown in
       let six' : 6 ≤ r.nodes = omega (arith, d.good.exits) in
       record {
+        item = r.item;
+        cursor = r.cursor;
+        settings = r.settings;
         good = d.good;
         within = omega (arith, d.item, sc.moved.within);
         edges_past = k.edges_past ∙ drop_more {n = t.nodes} {m = r.nodes} y.edges e' k.nodes g.edges_past ∙ drop_more {n = 6} {m = r.nodes} e' e six' s.past;
@@ -88,7 +91,12 @@ module _ (e c n l e' : List ℕ) (w : Wide (cols e c n l)) (s : Started e e') wh
       G : Graph
       G = graph_of ks ss first (cols e' c n l)
 
+-- the same of the columns that are found to hold that
+pub whole_as : {ks ss : List ℕ} {scope : ℕ} {x y y' : Cols} {q : Counts} → y ≡ y' → Whole ks ss scope x q y' → Whole ks ss scope x q y
+whole_as {ks} {ss} {scope} {x} {q = q} e w = rw e w
+
 -- the graph of the definition, for a sheet's own kinds and spans
-pub is_graph : (S : List ℕ) {x y : Cols} {r : GraphBuilder} → Whole (kind_words S) (span_words S) (outer_end S) x r y → graph_of (kind_words S) (span_words S) r y ≡ graph S
+pub is_graph : (S : List ℕ) {ks ss : List ℕ} {e : ℕ} {x y : Cols} {q : Counts} → ks ≡ kind_words S → ss ≡ span_words S → e ≡ outer_end S
+    → (w : Whole ks ss e x q y) → graph_of ks ss (counted q w.item w.cursor w.settings) y ≡ graph S
 unfolding graph tree open_at
-is_graph S w = w.built
+is_graph S k s o w = w.built ∙ rw (k, s, o)

@@ -3,7 +3,7 @@
 use mathlib.Core.Path.{◌≡◌, refl, sym, ap, ◌∙◌, subst}
 use mathlib.Core.List.{List}
 use mathlib.Core.Bool.{true}
-use mathlib.Core.Logic.{inl}
+use Rattle.std.specs.Prelude.{Some}
 use Prim.Native.Nat.{ℕ, ◌+◌, ◌≤◌, ◌<◌}
 use native.Mathlib.Omega.{arith}
 use lib.ListN.{length, get_or}
@@ -16,19 +16,18 @@ use Rattle.flow.specs.Graph.{Graph, Settings, node_count, new_node, code, advanc
 use Rattle.blocks.specs.Open.{item_at, open_at}
 use Rattle.blocks.proofs.Parse.{read_at, read_while, read_repeat, read_for, read_if}
 use Rattle.loop_nodes.specs.declared.LoopTargets.{LoopTargets}
-use Rattle.cfg_steps.specs.declared.GraphBuilder.{GraphBuilder}
-use Rattle.cfg_steps.specs.Columns.{Cols, graph_of, settings_of, Good, Grown, Did}
+use Rattle.cfg_steps.specs.Columns.{Place, Cols, graph_of, settings_of, Good, Grown, Did}
 use Rattle.cfg_steps.proofs.Fits.{good_as}
 use Rattle.cfg.specs.Steps.{bare, Moved, Opened, Scoped, Looped, Chosen}
 use Rattle.cfg.proofs.Blocks.{nodes_of_law, moved_trans, moved_did, past_close}
 
 -- a loop's body with the targets that are found to be its own
-pub looped_to : {ks ss : List ℕ} {e : ℕ} {s t : LoopTargets} {b r : GraphBuilder} {x y : Cols} → s ≡ t → Looped ks ss e s.break_target s.continue_target b x r y → Looped ks ss e t.break_target t.continue_target b x r y
+pub looped_to : {ks ss : List ℕ} {e : ℕ} {s t : LoopTargets} {b r : Place} {x y : Cols} → s ≡ t → Looped ks ss e s.break_target s.continue_target b x r y → Looped ks ss e t.break_target t.continue_target b x r y
 looped_to {ks} {ss} {e} {b = b} {r} {x} {y} q l = subst (λ (z : LoopTargets). Looped ks ss e z.break_target z.continue_target b x r y) q l
 
 -- ---- another place in the sheet
 
-abbrev pub with_item : ℕ → GraphBuilder → GraphBuilder
+abbrev pub with_item : ℕ → Place → Place
 with_item j b = record {
   item = j;
   nodes = b.nodes;
@@ -38,10 +37,10 @@ with_item j b = record {
   settings = b.settings;
 }
 
-pub good_item : {b : GraphBuilder} {x : Cols} (j : ℕ) → b.item ≤ j → j ≤ 1024 → Good b x → Good (with_item j b) x
+pub good_item : {b : Place} {x : Cols} (j : ℕ) → b.item ≤ j → j ≤ 1024 → Good b x → Good (with_item j b) x
 good_item j h k ok = good_as ok (omega (arith, ok)) ok.cursor
 
-pub moved_item : {ks : List ℕ} {b r : GraphBuilder} {x y : Cols} (j : ℕ) → length ks ≤ 1024 → r.item ≤ j → j ≤ length ks → Moved ks b x r y → Moved ks b x (with_item j r) y
+pub moved_item : {ks : List ℕ} {b r : Place} {x y : Cols} (j : ℕ) → length ks ≤ 1024 → r.item ≤ j → j ≤ length ks → Moved ks b x r y → Moved ks b x (with_item j r) y
 unfolding settings_of
 moved_item {ks} {b} {r} {x} {y} j few h k m = record {
   good = good_item j h (omega arith) m.good;
@@ -68,22 +67,22 @@ moved_item {ks} {b} {r} {x} {y} j few h k m = record {
       labels_length = g.labels_length;
     }
 
-pub graph_item : (ks ss : List ℕ) (j : ℕ) (b : GraphBuilder) (x : Cols) → graph_of ks ss (with_item j b) x ≡ graph_of ks ss b x
+pub graph_item : (ks ss : List ℕ) (j : ℕ) (b : Place) (x : Cols) → graph_of ks ss (with_item j b) x ≡ graph_of ks ss b x
 unfolding graph_of
 graph_item ks ss j b x = refl
 
 -- another current node
-abbrev pub with_cursor : ℕ → GraphBuilder → GraphBuilder
+abbrev pub with_cursor : ℕ → Place → Place
 with_cursor v b = record {
   item = b.item;
   nodes = b.nodes;
   codes = b.codes;
   names = b.names;
-  cursor = v;
+  cursor = Some v;
   settings = b.settings;
 }
 
-pub moved_cursor : {ks : List ℕ} {b r : GraphBuilder} {x y : Cols} (v : ℕ) → Good (with_cursor v r) y → Moved ks b x r y → Moved ks b x (with_cursor v r) y
+pub moved_cursor : {ks : List ℕ} {b r : Place} {x y : Cols} (v : ℕ) → Good (with_cursor v r) y → Moved ks b x r y → Moved ks b x (with_cursor v r) y
 unfolding settings_of
 moved_cursor {ks} {b} {r} {x} {y} v ok m = record { good = ok; grown = regrown m.grown; forward = m.forward; within = m.within; labels = m.labels; settings = m.settings }
   where
@@ -104,12 +103,12 @@ moved_cursor {ks} {b} {r} {x} {y} v ok m = record { good = ok; grown = regrown m
     }
 
 -- a builder whose cursor is set stands for a graph whose current node is (`graph_cursor`)
-pub graph_cursor : (ks ss : List ℕ) (v : ℕ) (b : GraphBuilder) (x : Cols) → graph_of ks ss (with_cursor v b) x ≡ set_current v (graph_of ks ss b x)
+pub graph_cursor : (ks ss : List ℕ) (v : ℕ) (b : Place) (x : Cols) → graph_of ks ss (with_cursor v b) x ≡ set_current v (graph_of ks ss b x)
 unfolding graph_of set_current
 graph_cursor ks ss v b x = refl
 
-pub good_cursor : {b : GraphBuilder} {x : Cols} (v : ℕ) → v < b.nodes → Good b x → Good (with_cursor v b) x
-good_cursor v h ok = good_as ok (omega (arith, ok)) (inl h)
+pub good_cursor : {b : Place} {x : Cols} (v : ℕ) → v < b.nodes → Good b x → Good (with_cursor v b) x
+good_cursor v h ok = good_as ok (omega (arith, ok)) h
 
 -- ---- loops
 
@@ -124,7 +123,7 @@ module _ (ks ss : List ℕ) (e : length ss ≡ length ks) (few : length ks ≤ 1
   B = o.top.body
 
   -- a loop of the item i: its head, its body, its end
-  loop_opened : {b h t r : GraphBuilder} {x y z u : Cols} (st : Stmt) (f T : List ℕ → Graph → Graph) (n s after next j : ℕ)
+  loop_opened : {b h t r : Place} {x y z u : Cols} (st : Stmt) (f T : List ℕ → Graph → Graph) (n s after next j : ℕ)
       → b.item ≡ i + 1 → Good b x → o.top.arms ≡ no_more → open_at ks ss i ≡ in_front st (outer o)
       → Did ks f n b x h y → Looped ks ss s after next h y t z → (t.item < length ks → j ≡ t.item + 1) → (length ks ≤ t.item → j ≡ t.item) → j ≤ length ks → t.item ≤ j
       → Did ks T 0 (with_item j t) z r u
@@ -156,7 +155,7 @@ module _ (ks ss : List ℕ) (e : length ss ≡ length ks) (few : length ks ≤ 1
 
   -- ---- each loop
 
-  pub while_opened : {b h t r : GraphBuilder} {x y z u : Cols} (truth : Truth) (s j : ℕ) → kind_of word ≡ 2 → truth ≡ literal_truth (condition_of word) → s ≡ scope_end_of word
+  pub while_opened : {b h t r : Place} {x y z u : Cols} (truth : Truth) (s j : ℕ) → kind_of word ≡ 2 → truth ≡ literal_truth (condition_of word) → s ≡ scope_end_of word
       → b.item ≡ i + 1 → Good b x → o.top.arms ≡ no_more
       → Did ks (λ js g. enter_when truth (new_node (code (get_or js i 0) g))) 2 b x h y → Looped ks ss s (b.nodes + 1) b.nodes h y t z
       → (t.item < length ks → j ≡ t.item + 1) → (length ks ≤ t.item → j ≡ t.item) → j ≤ length ks → t.item ≤ j
@@ -166,7 +165,7 @@ module _ (ks ss : List ℕ) (e : length ss ≡ length ks) (few : length ks ≤ 1
       loop_opened (while_loop word (get_or ss i 0) B) _ _ 2 s _ _ j at ok a (read_at ks ss e i lt ∙ read_while (item_at ks ss i) o k) hd bd j1 j2 j3 j4 tl
       (λ g c. rw (et, es, c))
 
-  pub repeat_opened : {b h t r : GraphBuilder} {x y z u : Cols} (truth : Truth) (s j : ℕ) → kind_of word ≡ 3 → truth ≡ literal_truth (condition_of word) → s ≡ scope_end_of word
+  pub repeat_opened : {b h t r : Place} {x y z u : Cols} (truth : Truth) (s j : ℕ) → kind_of word ≡ 3 → truth ≡ literal_truth (condition_of word) → s ≡ scope_end_of word
       → b.item ≡ i + 1 → Good b x → o.top.arms ≡ no_more
       → Did ks (λ js g. advance_to b.nodes (new_node (new_node (new_node g)))) 3 b x h y → Looped ks ss s (b.nodes + 2) (b.nodes + 1) h y t z
       → (t.item < length ks → j ≡ t.item + 1) → (length ks ≤ t.item → j ≡ t.item) → j ≤ length ks → t.item ≤ j → get_or ss t.item 0 ≡ o.top.close
@@ -176,7 +175,7 @@ module _ (ks ss : List ℕ) (e : length ss ≡ length ks) (few : length ks ≤ 1
       loop_opened (repeat_loop word B o.top.close) _ _ 3 s _ _ j at ok a (read_at ks ss e i lt ∙ read_repeat (item_at ks ss i) o k) hd bd j1 j2 j3 j4 tl
       (λ g c. rw (et, es, c, close))
 
-  pub for_opened : {b h t r : GraphBuilder} {x y z u : Cols} (s j : ℕ) → kind_of word ≡ 4 → s ≡ scope_end_of word
+  pub for_opened : {b h t r : Place} {x y z u : Cols} (s j : ℕ) → kind_of word ≡ 4 → s ≡ scope_end_of word
       → b.item ≡ i + 1 → Good b x → o.top.arms ≡ no_more
       → Did ks (λ js g. new_node (advance_to (b.nodes + 1) (new_node (code (get_or js i 0) g)))) 3 b x h y → Looped ks ss s (b.nodes + 1 + 1) (b.nodes + 1) h y t z
       → (t.item < length ks → j ≡ t.item + 1) → (length ks ≤ t.item → j ≡ t.item) → j ≤ length ks → t.item ≤ j
@@ -189,7 +188,7 @@ module _ (ks ss : List ℕ) (e : length ss ≡ length ks) (few : length ks ≤ 1
 
   -- ---- IF
 
-  pub if_opened : {b h t c r : GraphBuilder} {x y z u v : Cols} (s : ℕ) → kind_of word ≡ 5 → s ≡ scope_end_of word → b.item ≡ i + 1 → Good b x
+  pub if_opened : {b h t c r : Place} {x y z u v : Cols} (s : ℕ) → kind_of word ≡ 5 → s ≡ scope_end_of word → b.item ≡ i + 1 → Good b x
       → Did ks (λ js g. new_node (code (get_or js i 0) g)) 2 b x h y → Scoped ks ss s h y t z → Did ks (λ js. close_into (b.nodes + 1)) 0 t z c u
       → Chosen ks ss b.nodes (b.nodes + 1) true c u r v → Good (with_cursor (b.nodes + 1) r) v
       → Opened ks ss i b x (with_cursor (b.nodes + 1) r) v

@@ -1,14 +1,15 @@
 -- What the builders take and give.
 -- Assumes nothing: these are definitions.
-use Rattle.std.specs.Prelude.{◌≡◌, Bool, List, [], ◌∷◌, ℕ, ◌+◌, ◌≤◌, ◌<◌, ◌^◌, length, get_or, take, drop}
+use Rattle.std.specs.Prelude.{◌≡◌, Bool, List, [], ◌∷◌, ℕ, ◌+◌, ◌≤◌, ◌<◌, ◌^◌, length, get_or, take, drop, Option}
 use Rattle.flow.specs.Sheet.{kind_of, scope_end_of}
 use Rattle.flow.specs.Tree.{Stmt, Open, done, no_more, in_front, outer, label_name, labels_of}
 use Rattle.flow.specs.Size.{stmt_nodes, block_nodes, arm_nodes}
 use Rattle.flow.specs.Graph.{exits, build_stmt, build_block, build_arms, inside, in_loop, entered, close_into, outside, start_graph}
 use Rattle.blocks.specs.Open.{open_at, Ender}
-use Rattle.cfg_steps.specs.declared.GraphBuilder.{GraphBuilder}
+use Rattle.flow.specs.declared.Counts.{Counts}
+use Rattle.block_settings.specs.declared.BlockSettings.{BlockSettings}
 use Rattle.if_builder.specs.declared.IfBuilder.{IfBuilder}
-use Rattle.cfg_steps.specs.Columns.{Cols, graph_of, settings_of, Good, Grown, LabelsFit}
+use Rattle.cfg_steps.specs.Columns.{Place, Cols, graph_of, settings_of, Good, Grown, LabelsFit}
 open exits use {End}
 
 -- what admission shows of the kinds alone
@@ -28,7 +29,7 @@ abbrev pub bare : Open → Open
 bare o = record { top = record { body = done; arms = o.top.arms; close = o.top.close }; below = o.below }
 
 -- items are read; the settings are again what they were
-pub record Moved (ks : List ℕ) (b : GraphBuilder) (x : Cols) (r : GraphBuilder) (y : Cols) : Type 0 where
+pub record Moved (ks : List ℕ) (b : Place) (x : Cols) (r : Place) (y : Cols) : Type 0 where
   pub good : Good r y
   pub grown : Grown b x r y
   pub forward : b.item ≤ r.item
@@ -37,7 +38,7 @@ pub record Moved (ks : List ℕ) (b : GraphBuilder) (x : Cols) (r : GraphBuilder
   pub settings : settings_of r y ≡ settings_of b x
 
 -- one statement is built
-pub record Stepped (ks ss : List ℕ) (b : GraphBuilder) (x : Cols) (r : GraphBuilder) (y : Cols) : Type 0 where
+pub record Stepped (ks ss : List ℕ) (b : Place) (x : Cols) (r : Place) (y : Cols) : Type 0 where
   pub moved : Moved ks b x r y
   pub on : b.item < r.item
   pub stmt : Stmt
@@ -45,21 +46,21 @@ pub record Stepped (ks ss : List ℕ) (b : GraphBuilder) (x : Cols) (r : GraphBu
   pub built : graph_of ks ss r y ≡ build_stmt stmt (settings_of b x) (graph_of ks ss b x)
 
 -- a statement whose first item i stands right before the builder's is built
-pub record Opened (ks ss : List ℕ) (i : ℕ) (b : GraphBuilder) (x : Cols) (r : GraphBuilder) (y : Cols) : Type 0 where
+pub record Opened (ks ss : List ℕ) (i : ℕ) (b : Place) (x : Cols) (r : Place) (y : Cols) : Type 0 where
   pub moved : Moved ks b x r y
   pub stmt : Stmt
   pub reads : open_at ks ss i ≡ in_front stmt (open_at ks ss r.item)
   pub built : graph_of ks ss r y ≡ build_stmt stmt (settings_of b x) (graph_of ks ss b x)
 
 -- the innermost block is built, up to the item that ends it or the sheet's end
-pub record Finished (ks ss : List ℕ) (b : GraphBuilder) (x : Cols) (r : GraphBuilder) (y : Cols) : Type 0 where
+pub record Finished (ks ss : List ℕ) (b : Place) (x : Cols) (r : Place) (y : Cols) : Type 0 where
   pub moved : Moved ks b x r y
   pub ended : r.item < length ks → Ender (kind_of (get_or ks r.item 0))
   pub shut : open_at ks ss r.item ≡ bare (open_at ks ss b.item)
   pub built : graph_of ks ss r y ≡ build_block (open_at ks ss b.item).top.body (settings_of b x) (graph_of ks ss b x)
 
 -- the same inside a scope that ends at e
-pub record Scoped (ks ss : List ℕ) (e : ℕ) (b : GraphBuilder) (x : Cols) (r : GraphBuilder) (y : Cols) : Type 0 where
+pub record Scoped (ks ss : List ℕ) (e : ℕ) (b : Place) (x : Cols) (r : Place) (y : Cols) : Type 0 where
   pub moved : Moved ks b x r y
   pub ended : r.item < length ks → Ender (kind_of (get_or ks r.item 0))
   pub shut : open_at ks ss r.item ≡ bare (open_at ks ss b.item)
@@ -67,7 +68,7 @@ pub record Scoped (ks ss : List ℕ) (e : ℕ) (b : GraphBuilder) (x : Cols) (r 
       ≡ build_block (open_at ks ss b.item).top.body (inside e (open_at ks ss b.item).top.body (settings_of b x) (graph_of ks ss b x)) (entered (open_at ks ss b.item).top.body (graph_of ks ss b x))
 
 -- the same as a loop's body, with the loop's targets
-pub record Looped (ks ss : List ℕ) (e after next : ℕ) (b : GraphBuilder) (x : Cols) (r : GraphBuilder) (y : Cols) : Type 0 where
+pub record Looped (ks ss : List ℕ) (e after next : ℕ) (b : Place) (x : Cols) (r : Place) (y : Cols) : Type 0 where
   pub moved : Moved ks b x r y
   pub ended : r.item < length ks → Ender (kind_of (get_or ks r.item 0))
   pub shut : open_at ks ss r.item ≡ bare (open_at ks ss b.item)
@@ -79,7 +80,7 @@ abbrev pub Arm : ℕ → Type 0
 Arm k = (6 ≤ k) × (k ≤ 7)
 
 -- some arms are built: from here the arms that are left build what all of them build from there
-pub record Armed (ks ss : List ℕ) (join test : ℕ) (falls : Bool) (b : GraphBuilder) (x : Cols) (test' : ℕ) (falls' : Bool) (r : GraphBuilder) (y : Cols) : Type 0 where
+pub record Armed (ks ss : List ℕ) (join test : ℕ) (falls : Bool) (b : Place) (x : Cols) (test' : ℕ) (falls' : Bool) (r : Place) (y : Cols) : Type 0 where
   pub moved : Moved ks b x r y
   pub ended : r.item < length ks → Ender (kind_of (get_or ks r.item 0))
   pub tested : test' < r.nodes
@@ -88,44 +89,44 @@ pub record Armed (ks ss : List ℕ) (join test : ℕ) (falls : Bool) (b : GraphB
   pub still : build_arms (open_at ks ss r.item).top.arms test' join falls' (settings_of b x) (graph_of ks ss r y) ≡ build_arms (open_at ks ss b.item).top.arms test join falls (settings_of b x) (graph_of ks ss b x)
 
 -- the same between two states of an IF
-abbrev pub ArmBuilt : List ℕ → List ℕ → ℕ → IfBuilder → Cols → IfBuilder → Cols → Type 0
-ArmBuilt ks ss join s x r y = Armed ks ss join s.test s.falls s.builder x r.test r.falls r.builder y
+abbrev pub ArmBuilt : List ℕ → List ℕ → ℕ → IfBuilder → Place → Cols → IfBuilder → Place → Cols → Type 0
+ArmBuilt ks ss join s b x s' r y = Armed ks ss join s.test s.falls b x s'.test s'.falls r y
 
 -- the arms that follow the item that ends a block, and the last end
-pub record Chosen (ks ss : List ℕ) (test join : ℕ) (falls : Bool) (b : GraphBuilder) (x : Cols) (r : GraphBuilder) (y : Cols) : Type 0 where
+pub record Chosen (ks ss : List ℕ) (test join : ℕ) (falls : Bool) (b : Place) (x : Cols) (r : Place) (y : Cols) : Type 0 where
   pub moved : Moved ks b x r y
   pub reads : open_at ks ss r.item ≡ outer (open_at ks ss b.item)
   pub built : graph_of ks ss r y ≡ build_arms (open_at ks ss b.item).top.arms test join falls (settings_of b x) (graph_of ks ss b x)
 
 -- room for the nodes still to be made: of a block that is entered, of a block and of a statement whose labels have their nodes, of arms
-abbrev pub BlockRoom : List ℕ → GraphBuilder → Type 0
+abbrev pub BlockRoom : List ℕ → Place → Type 0
 BlockRoom ks b = (ss : List ℕ) → length ss ≡ length ks → b.nodes + block_nodes (open_at ks ss b.item).top.body ≤ 1600
 
-abbrev pub EnteredRoom : List ℕ → GraphBuilder → Type 0
+abbrev pub EnteredRoom : List ℕ → Place → Type 0
 EnteredRoom ks b = (ss : List ℕ) → length ss ≡ length ks → b.nodes + block_nodes (open_at ks ss b.item).top.body ≤ 1600 + length (labels_of (open_at ks ss b.item).top.body)
 
-abbrev pub StmtRoom : List ℕ → ℕ → GraphBuilder → Type 0
+abbrev pub StmtRoom : List ℕ → ℕ → Place → Type 0
 StmtRoom ks i b = (ss : List ℕ) → length ss ≡ length ks → (st : Stmt) (o : Open) → open_at ks ss i ≡ in_front st o → b.nodes + stmt_nodes st ≤ 1600 + length (label_name st)
 
-abbrev pub ArmRoom : List ℕ → GraphBuilder → Type 0
+abbrev pub ArmRoom : List ℕ → Place → Type 0
 ArmRoom ks b = (ss : List ℕ) → length ss ≡ length ks → b.nodes + arm_nodes (open_at ks ss b.item).top.arms ≤ 1600
 
 -- ---- where a builder stands: in sane kinds, with good columns and room for what it is to build
 
 -- at a statement
-abbrev pub AtStmt : List ℕ → GraphBuilder → Cols → Type 0
+abbrev pub AtStmt : List ℕ → Place → Cols → Type 0
 AtStmt ks b x = Sane ks × Good b x × (b.item < length ks) × (Ender (kind_of (get_or ks b.item 0)) → ⊥) × StmtRoom ks b.item b
 
 -- right past item i, of kind k, which begins a statement
-abbrev pub PastHead : List ℕ → ℕ → ℕ → GraphBuilder → Cols → Type 0
+abbrev pub PastHead : List ℕ → ℕ → ℕ → Place → Cols → Type 0
 PastHead ks i k b x = Sane ks × Good b x × (b.item ≡ i + 1) × (b.codes < b.item) × (i < length ks) × (kind_of (get_or ks i 0) ≡ k) × StmtRoom ks i b
 
 -- at the item that ends a block, or at the sheet's end
-abbrev pub AtEnd : List ℕ → GraphBuilder → Cols → Type 0
+abbrev pub AtEnd : List ℕ → Place → Cols → Type 0
 AtEnd ks b x = Sane ks × Good b x × (b.item ≤ length ks) × ((b.item < length ks) → Ender (kind_of (get_or ks b.item 0))) × ArmRoom ks b
 
 -- at an arm
-abbrev pub AtArm : List ℕ → GraphBuilder → Cols → Type 0
+abbrev pub AtArm : List ℕ → Place → Cols → Type 0
 AtArm ks b x = Sane ks × Good b x × (b.item < length ks) × Arm (kind_of (get_or ks b.item 0)) × ArmRoom ks b
 
 -- ---- a whole sheet
@@ -148,17 +149,24 @@ pub record Wide (x : Cols) : Type 0 where
 abbrev pub WholeRoom : List ℕ → Type 0
 WholeRoom ks = (ss : List ℕ) → length ss ≡ length ks → 6 + block_nodes (open_at ks ss 0).top.body ≤ 1600
 
--- the graph of the statement rules; lengths, and what lies past the counts, are as they were
-pub record Whole (ks ss : List ℕ) (e : ℕ) (x : Cols) (r : GraphBuilder) (y : Cols) : Type 0 where
-  pub good : Good r y
-  pub within : r.item ≤ length ks
-  pub edges_past : drop r.nodes y.edges ≡ drop r.nodes x.edges
-  pub codes_past : drop r.codes y.codes ≡ drop r.codes x.codes
-  pub names_past : drop r.names y.names ≡ drop r.names x.names
-  pub labels_past : drop r.nodes y.labels ≡ drop r.nodes x.labels
+-- a builder with these counts
+abbrev pub counted : Counts → ℕ → Option ℕ → BlockSettings → Place
+counted q i v st = record { item = i; nodes = q.nodes; codes = q.codes; names = q.names; cursor = v; settings = st }
+
+-- the graph of the statement rules, whose counts are q; lengths, and what lies past the counts, are as they were. The builder ends at some item, current node and settings
+pub record Whole (ks ss : List ℕ) (e : ℕ) (x : Cols) (q : Counts) (y : Cols) : Type 0 where
+  pub item : ℕ
+  pub cursor : Option ℕ
+  pub settings : BlockSettings
+  pub good : Good (counted q item cursor settings) y
+  pub within : item ≤ length ks
+  pub edges_past : drop q.nodes y.edges ≡ drop q.nodes x.edges
+  pub codes_past : drop q.codes y.codes ≡ drop q.codes x.codes
+  pub names_past : drop q.names y.names ≡ drop q.names x.names
+  pub labels_past : drop q.nodes y.labels ≡ drop q.nodes x.labels
   pub edges_length : length y.edges ≡ length x.edges
   pub codes_length : length y.codes ≡ length x.codes
   pub names_length : length y.names ≡ length x.names
   pub labels_length : length y.labels ≡ length x.labels
-  pub built : graph_of ks ss r y
+  pub built : graph_of ks ss (counted q item cursor settings) y
       ≡ close_into End (build_block (open_at ks ss 0).top.body (inside e (open_at ks ss 0).top.body outside start_graph) (entered (open_at ks ss 0).top.body start_graph))

@@ -4,17 +4,16 @@
 ghost use Rattle.std.specs.Prelude.{◌≡◌, true, false, ◌+◌, ◌≤◌, ◌<◌, length, get_or};
 ghost use Rattle.flow.specs.Sheet.{kind_of};
 ghost use Rattle.search.specs.Lent.{held, left};
-ghost use Rattle.cfg_steps.specs.Columns.{cols, cols_at, Good};
+ghost use Rattle.cfg_steps.specs.Columns.{cols, cols_at, place, columns, Good, Kept};
 ghost use Rattle.cfg.specs.Steps.{Sane, ForSpans, Stepped, Opened, Finished, Scoped, Looped, Arm, ArmBuilt, Chosen, BlockRoom, EnteredRoom, AtStmt, PastHead, AtEnd, AtArm, Started, Wide, WholeRoom, Whole};
 
 use block_settings::BlockSettings;
 use blocks::ends_at;
 use cfg_steps::GraphBuilder;
-use flow::Truth;
+use flow::{Counts, Truth};
 use if_builder::IfBuilder;
-use kinds::literal_truth;
+use kinds::{Kind, literal_truth};
 use loop_nodes::repeat_targets;
-use words::kind::{DO, ELSE, ELSEIF, FOR, IF, REPEAT, WHILE};
 use words::{ARGUMENT, NO_SUCCESSORS, SCOPE_END, exit};
 
 // The place past the item that ends a block, if there is one.
@@ -22,331 +21,197 @@ fn past(at: usize, len: usize) -> usize
     requires { at ≤ len }
     ensures { (at ≤ result) × (result ≤ len) × (at < len → result ≡ at + 1) × (len ≤ at → result ≡ at) }
 {
-    if at < len {
-        return at + 1;
-    }
-    at
+    if at < len { at + 1 } else { at }
 }
 
 // The statements from the builder's item on, up to the item that ends their block.
 #[cycle(arm_arms_block_for_loop_if_stmt_loop_body_repeat_loop_scoped_block_stmt_while_loop)]
-fn block(
-    kinds: &[u64],
-    edges: &mut [u64],
-    codes: &mut [u64],
-    names: &mut [u64],
-    labels: &mut [u64],
-    b: GraphBuilder,
-) -> GraphBuilder
-    requires { Sane kinds.now × Good b (cols edges.old codes.old names.old labels.old) × (b.item ≤ length kinds.now) × EnteredRoom kinds.now b }
-    ensures { ForSpans kinds.now (λ ks ss. Finished ks ss b (cols_at held edges codes names labels) result (cols_at left edges codes names labels)) }
+fn block(b: &mut GraphBuilder<'_>)
+    requires { Sane b.old.kinds.now × Good (place b.old) (columns b.old) × (b.old.item ≤ length b.old.kinds.now) × EnteredRoom b.old.kinds.now (place b.old) }
+    ensures kept { Kept b.old b.new }
+    ensures built { ForSpans b.old.kinds.now (λ ks ss. Finished ks ss (place b.old) (columns b.old) (place b.new) (columns b.new)) }
 {
-    let mut t = b;
-    let mut at = t.item;
-    while at < kinds.len() {
-        let kind = kinds[at] % ARGUMENT;
-        if ends_at(kind, 0) {
-            return t;
+    while let Some(&word) = b.kinds.get(b.item) {
+        if ends_at(word % ARGUMENT, 0) {
+            return;
         }
-        t = stmt(kinds, edges, codes, names, labels, t);
-        at = t.item;
+        stmt(b);
     }
-    t
 }
 
 // A block whose scope ends at scope_end, with its own labels in force.
 #[cycle(arm_arms_block_for_loop_if_stmt_loop_body_repeat_loop_scoped_block_stmt_while_loop)]
-fn scoped_block(
-    kinds: &[u64],
-    edges: &mut [u64],
-    codes: &mut [u64],
-    names: &mut [u64],
-    labels: &mut [u64],
-    b: GraphBuilder,
-    scope_end: u64,
-) -> GraphBuilder
-    requires { Sane kinds.now × Good b (cols edges.old codes.old names.old labels.old) × (b.item ≤ length kinds.now) × BlockRoom kinds.now b × (scope_end < 4294967296) }
-    ensures { ForSpans kinds.now (λ ks ss. Scoped ks ss scope_end b (cols_at held edges codes names labels) result (cols_at left edges codes names labels)) }
+fn scoped_block(b: &mut GraphBuilder<'_>, scope_end: u64)
+    requires { Sane b.old.kinds.now × Good (place b.old) (columns b.old) × (b.old.item ≤ length b.old.kinds.now) × BlockRoom b.old.kinds.now (place b.old) × (scope_end < 4294967296) }
+    ensures kept { Kept b.old b.new }
+    ensures built { ForSpans b.old.kinds.now (λ ks ss. Scoped ks ss scope_end (place b.old) (columns b.old) (place b.new) (columns b.new)) }
 {
-    let t = b.enter_scope(scope_end);
-    let e = t.enter_block(kinds, edges, labels);
-    let r = block(kinds, edges, codes, names, labels, e);
-    r.return_to(b.settings)
+    let outer = b.settings;
+    b.settings.enter_scope(scope_end);
+    b.enter_block();
+    block(b);
+    b.settings.return_to(outer);
 }
 
 // A loop's body: BREAK goes to break_target, CONTINUE and the body's end to continue_target.
 #[cycle(arm_arms_block_for_loop_if_stmt_loop_body_repeat_loop_scoped_block_stmt_while_loop)]
-fn loop_body(
-    kinds: &[u64],
-    edges: &mut [u64],
-    codes: &mut [u64],
-    names: &mut [u64],
-    labels: &mut [u64],
-    b: GraphBuilder,
-    scope_end: u64,
-    break_target: usize,
-    continue_target: usize,
-) -> GraphBuilder
-    requires sane { Sane kinds.now × Good b (cols edges.old codes.old names.old labels.old) × (b.item ≤ length kinds.now) × BlockRoom kinds.now b × (scope_end < 4294967296) }
-    requires break_target_lt_nodes { (break_target < b.nodes) × (continue_target < b.nodes) }
-    ensures { ForSpans kinds.now (λ ks ss. Looped ks ss scope_end break_target continue_target b (cols_at held edges codes names labels) result (cols_at left edges codes names labels)) }
+fn loop_body(b: &mut GraphBuilder<'_>, scope_end: u64, break_target: usize, continue_target: usize)
+    requires sane { Sane b.old.kinds.now × Good (place b.old) (columns b.old) × (b.old.item ≤ length b.old.kinds.now) × BlockRoom b.old.kinds.now (place b.old) × (scope_end < 4294967296) }
+    requires break_target_lt_nodes { (break_target < b.old.node_count) × (continue_target < b.old.node_count) }
+    ensures kept { Kept b.old b.new }
+    ensures built { ForSpans b.old.kinds.now (λ ks ss. Looped ks ss scope_end break_target continue_target (place b.old) (columns b.old) (place b.new) (columns b.new)) }
 {
-    let t = b.enter_loop(break_target, continue_target);
-    let s = scoped_block(kinds, edges, codes, names, labels, t, scope_end);
-    let r = s.close_into(edges, continue_target);
-    r.return_to(b.settings)
+    let outer = b.settings;
+    b.settings.enter_loop(break_target, continue_target);
+    scoped_block(b, scope_end);
+    b.close_into(continue_target);
+    b.settings.return_to(outer);
 }
 
 // The WHILE of item i.
 #[cycle(arm_arms_block_for_loop_if_stmt_loop_body_repeat_loop_scoped_block_stmt_while_loop)]
-fn while_loop(
-    kinds: &[u64],
-    edges: &mut [u64],
-    codes: &mut [u64],
-    names: &mut [u64],
-    labels: &mut [u64],
-    b: GraphBuilder,
-    i: usize,
-) -> GraphBuilder
-    requires { PastHead kinds.now i 2 b (cols edges.old codes.old names.old labels.old) }
-    ensures { ForSpans kinds.now (λ ks ss. Opened ks ss i b (cols_at held edges codes names labels) result (cols_at left edges codes names labels)) }
+fn while_loop(b: &mut GraphBuilder<'_>, i: usize)
+    requires { PastHead b.old.kinds.now i 2 (place b.old) (columns b.old) }
+    ensures kept { Kept b.old b.new }
+    ensures built { ForSpans b.old.kinds.now (λ ks ss. Opened ks ss i (place b.old) (columns b.old) (place b.new) (columns b.new)) }
 {
-    let argument = kinds[i] / ARGUMENT;
+    let argument = b.kinds[i] / ARGUMENT;
     let truth = literal_truth(argument % SCOPE_END);
-    let head = b.nodes;
-    let h = b.while_head(edges, codes, i, truth);
-    let mut s = loop_body(
-        kinds,
-        edges,
-        codes,
-        names,
-        labels,
-        h,
-        argument / SCOPE_END,
-        head + 1,
-        head,
-    );
-    let end = s.item;
-    s.item = past(end, kinds.len());
-    s.loop_end(edges, head, truth)
+    let head = b.node_count;
+    b.while_head(i, truth);
+    loop_body(b, argument / SCOPE_END, head + 1, head);
+    b.item = past(b.item, b.kinds.len());
+    b.loop_end(head, truth);
 }
 
 // The REPEAT of item i.
 #[cycle(arm_arms_block_for_loop_if_stmt_loop_body_repeat_loop_scoped_block_stmt_while_loop)]
-fn repeat_loop(
-    kinds: &[u64],
-    edges: &mut [u64],
-    codes: &mut [u64],
-    names: &mut [u64],
-    labels: &mut [u64],
-    b: GraphBuilder,
-    i: usize,
-) -> GraphBuilder
-    requires { PastHead kinds.now i 3 b (cols edges.old codes.old names.old labels.old) }
-    ensures { ForSpans kinds.now (λ ks ss. Opened ks ss i b (cols_at held edges codes names labels) result (cols_at left edges codes names labels)) }
+fn repeat_loop(b: &mut GraphBuilder<'_>, i: usize)
+    requires { PastHead b.old.kinds.now i 3 (place b.old) (columns b.old) }
+    ensures kept { Kept b.old b.new }
+    ensures built { ForSpans b.old.kinds.now (λ ks ss. Opened ks ss i (place b.old) (columns b.old) (place b.new) (columns b.new)) }
 {
-    let argument = kinds[i] / ARGUMENT;
+    let argument = b.kinds[i] / ARGUMENT;
     let truth = literal_truth(argument % SCOPE_END);
-    let body = b.nodes;
-    let h = b.repeat_head(edges);
+    let body = b.node_count;
     let targets = repeat_targets(body);
-    let mut s = loop_body(
-        kinds,
-        edges,
-        codes,
-        names,
-        labels,
-        h,
+    b.repeat_head();
+    loop_body(
+        b,
         argument / SCOPE_END,
         targets.break_target,
         targets.continue_target,
     );
-    let end = s.item;
-    s.item = past(end, kinds.len());
-    s.repeat_end(edges, codes, end, body, truth)
+    let end = b.item;
+    b.item = past(end, b.kinds.len());
+    b.repeat_end(end, body, truth);
 }
 
 // The FOR of item i.
 #[cycle(arm_arms_block_for_loop_if_stmt_loop_body_repeat_loop_scoped_block_stmt_while_loop)]
-fn for_loop(
-    kinds: &[u64],
-    edges: &mut [u64],
-    codes: &mut [u64],
-    names: &mut [u64],
-    labels: &mut [u64],
-    b: GraphBuilder,
-    i: usize,
-) -> GraphBuilder
-    requires { PastHead kinds.now i 4 b (cols edges.old codes.old names.old labels.old) }
-    ensures { ForSpans kinds.now (λ ks ss. Opened ks ss i b (cols_at held edges codes names labels) result (cols_at left edges codes names labels)) }
+fn for_loop(b: &mut GraphBuilder<'_>, i: usize)
+    requires { PastHead b.old.kinds.now i 4 (place b.old) (columns b.old) }
+    ensures kept { Kept b.old b.new }
+    ensures built { ForSpans b.old.kinds.now (λ ks ss. Opened ks ss i (place b.old) (columns b.old) (place b.new) (columns b.new)) }
 {
-    let argument = kinds[i] / ARGUMENT;
-    let head = b.nodes + 1;
-    let h = b.for_head(edges, codes, i);
-    let mut s = loop_body(
-        kinds,
-        edges,
-        codes,
-        names,
-        labels,
-        h,
-        argument / SCOPE_END,
-        head + 1,
-        head,
-    );
-    let end = s.item;
-    s.item = past(end, kinds.len());
-    s.loop_end(edges, head, Truth::Unknown)
+    let scope_end = b.kinds[i] / ARGUMENT / SCOPE_END;
+    let head = b.node_count + 1;
+    b.for_head(i);
+    loop_body(b, scope_end, head + 1, head);
+    b.item = past(b.item, b.kinds.len());
+    b.loop_end(head, Truth::Unknown);
 }
 
 // The IF of item i.
 #[cycle(arm_arms_block_for_loop_if_stmt_loop_body_repeat_loop_scoped_block_stmt_while_loop)]
-fn if_stmt(
-    kinds: &[u64],
-    edges: &mut [u64],
-    codes: &mut [u64],
-    names: &mut [u64],
-    labels: &mut [u64],
-    b: GraphBuilder,
-    i: usize,
-) -> GraphBuilder
-    requires { PastHead kinds.now i 5 b (cols edges.old codes.old names.old labels.old) }
-    ensures { ForSpans kinds.now (λ ks ss. Opened ks ss i b (cols_at held edges codes names labels) result (cols_at left edges codes names labels)) }
+fn if_stmt(b: &mut GraphBuilder<'_>, i: usize)
+    requires { PastHead b.old.kinds.now i 5 (place b.old) (columns b.old) }
+    ensures kept { Kept b.old b.new }
+    ensures built { ForSpans b.old.kinds.now (λ ks ss. Opened ks ss i (place b.old) (columns b.old) (place b.new) (columns b.new)) }
 {
-    let scope_end = kinds[i] / ARGUMENT / SCOPE_END;
-    let test = b.nodes;
-    let h = b.code_and_after(edges, codes, i);
-    let s = scoped_block(kinds, edges, codes, names, labels, h, scope_end);
-    let c = s.close_into(edges, test + 1);
-    let mut r = arms(kinds, edges, codes, names, labels, c, test, test + 1, true);
-    r.cursor = test + 1;
-    r
+    let scope_end = b.kinds[i] / ARGUMENT / SCOPE_END;
+    let test = b.node_count;
+    let join = test + 1;
+    b.code_and_after(i);
+    scoped_block(b, scope_end);
+    b.close_into(join);
+    arms(b, test, join);
+    b.cursor = Some(join);
 }
 
 // Whether ELSEIF or ELSE stands at an item.
 fn arm_follows(kinds: &[u64], at: usize) -> bool
     ensures { (result ≡ true → (at < length kinds.now) × Arm (kind_of (get_or kinds.now at 0))) × (result ≡ false → at < length kinds.now → Arm (kind_of (get_or kinds.now at 0)) → ⊥) }
 {
-    if kinds.len() <= at {
+    let Some(&word) = kinds.get(at) else {
         return false;
-    }
-    let kind = kinds[at] % ARGUMENT;
-    if kind == ELSEIF {
-        return true;
-    }
-    kind == ELSE
+    };
+    matches!(Kind::of(word), Some(Kind::ElseIf | Kind::Else))
 }
 
 // The arms from the item that ends the block above on, and the last end. Without ELSE the last test goes on to the join.
 #[cycle(arm_arms_block_for_loop_if_stmt_loop_body_repeat_loop_scoped_block_stmt_while_loop)]
-fn arms(
-    kinds: &[u64],
-    edges: &mut [u64],
-    codes: &mut [u64],
-    names: &mut [u64],
-    labels: &mut [u64],
-    b: GraphBuilder,
-    test: usize,
-    join: usize,
-    falls: bool,
-) -> GraphBuilder
-    requires at_end { AtEnd kinds.now b (cols edges.old codes.old names.old labels.old) }
-    requires test_lt_nodes { (test < b.nodes) × (join < b.nodes) }
-    ensures { ForSpans kinds.now (λ ks ss. Chosen ks ss test join falls b (cols_at held edges codes names labels) result (cols_at left edges codes names labels)) }
+fn arms(b: &mut GraphBuilder<'_>, test: usize, join: usize)
+    requires at_end { AtEnd b.old.kinds.now (place b.old) (columns b.old) }
+    requires test_lt_nodes { (test < b.old.node_count) × (join < b.old.node_count) }
+    ensures kept { Kept b.old b.new }
+    ensures built { ForSpans b.old.kinds.now (λ ks ss. Chosen ks ss test join true (place b.old) (columns b.old) (place b.new) (columns b.new)) }
 {
-    let mut s = IfBuilder {
-        builder: b,
-        test: test,
-        falls: falls,
-    };
-    let mut at = b.item;
-    while arm_follows(kinds, at) {
-        s = arm(kinds, edges, codes, names, labels, s, join);
-        at = s.builder.item;
+    let mut s = IfBuilder { test, falls: true };
+    while arm_follows(b.kinds, b.item) {
+        arm(b, &mut s, join);
     }
-    let mut t = s.builder;
-    t.item = past(at, kinds.len());
-    t.arms_end(edges, s.test, join, s.falls)
+    b.item = past(b.item, b.kinds.len());
+    b.arms_end(s.test, join, s.falls);
 }
 
 // One arm. ELSEIF brings a test of its own; past ELSE no test goes on to the join.
 #[cycle(arm_arms_block_for_loop_if_stmt_loop_body_repeat_loop_scoped_block_stmt_while_loop)]
-fn arm(
-    kinds: &[u64],
-    edges: &mut [u64],
-    codes: &mut [u64],
-    names: &mut [u64],
-    labels: &mut [u64],
-    s: IfBuilder,
-    join: usize,
-) -> IfBuilder
-    requires at_arm { AtArm kinds.now s.builder (cols edges.old codes.old names.old labels.old) }
-    requires test_lt_nodes { (s.test < s.builder.nodes) × (join < s.builder.nodes) }
-    ensures { (s.builder.item < result.builder.item) × ForSpans kinds.now (λ ks ss. ArmBuilt ks ss join s (cols_at held edges codes names labels) result (cols_at left edges codes names labels)) }
+fn arm(b: &mut GraphBuilder<'_>, s: &mut IfBuilder, join: usize)
+    requires at_arm { AtArm b.old.kinds.now (place b.old) (columns b.old) }
+    requires test_lt_nodes { (s.old.test < b.old.node_count) × (join < b.old.node_count) }
+    ensures kept { Kept b.old b.new }
+    ensures built { (b.old.item < b.new.item) × ForSpans b.old.kinds.now (λ ks ss. ArmBuilt ks ss join s.old (place b.old) (columns b.old) s.new (place b.new) (columns b.new)) }
 {
-    let at = s.builder.item;
-    let w = kinds[at];
-    let scope_end = w / ARGUMENT / SCOPE_END;
-    let mut t = s.builder;
-    t.item = at + 1;
-    if w % ARGUMENT == ELSEIF {
-        let n = t.nodes;
-        let h = t.arm_test(edges, codes, at, s.test);
-        let b = scoped_block(kinds, edges, codes, names, labels, h, scope_end);
-        let c = b.close_into(edges, join);
-        return s.past_elseif(c, n);
+    let at = b.item;
+    let word = b.kinds[at];
+    let scope_end = word / ARGUMENT / SCOPE_END;
+    b.item = at + 1;
+    if Kind::of(word) == Some(Kind::ElseIf) {
+        let test = b.node_count;
+        b.arm_test(at, s.test);
+        scoped_block(b, scope_end);
+        b.close_into(join);
+        s.past_elseif(test);
+    } else {
+        b.cursor = Some(s.test);
+        scoped_block(b, scope_end);
+        b.close_into(join);
+        s.past_else();
     }
-    t.cursor = s.test;
-    let b = scoped_block(kinds, edges, codes, names, labels, t, scope_end);
-    let c = b.close_into(edges, join);
-    s.past_else(c)
 }
 
 // The statement at the builder's item.
 #[cycle(arm_arms_block_for_loop_if_stmt_loop_body_repeat_loop_scoped_block_stmt_while_loop)]
-fn stmt(
-    kinds: &[u64],
-    edges: &mut [u64],
-    codes: &mut [u64],
-    names: &mut [u64],
-    labels: &mut [u64],
-    b: GraphBuilder,
-) -> GraphBuilder
-    requires { AtStmt kinds.now b (cols edges.old codes.old names.old labels.old) }
-    ensures { ForSpans kinds.now (λ ks ss. Stepped ks ss b (cols_at held edges codes names labels) result (cols_at left edges codes names labels)) }
+fn stmt(b: &mut GraphBuilder<'_>)
+    requires { AtStmt b.old.kinds.now (place b.old) (columns b.old) }
+    ensures kept { Kept b.old b.new }
+    ensures built { ForSpans b.old.kinds.now (λ ks ss. Stepped ks ss (place b.old) (columns b.old) (place b.new) (columns b.new)) }
 {
     let i = b.item;
-    let w = kinds[i];
-    let kind = w % ARGUMENT;
-    let mut t = b;
-    t.item = i + 1;
-    if kind == DO {
-        let mut s = scoped_block(
-            kinds,
-            edges,
-            codes,
-            names,
-            labels,
-            t,
-            w / ARGUMENT / SCOPE_END,
-        );
-        let end = s.item;
-        s.item = past(end, kinds.len());
-        return s;
+    let word = b.kinds[i];
+    b.item = i + 1;
+    match Kind::of(word) {
+        Some(Kind::Do) => {
+            scoped_block(b, word / ARGUMENT / SCOPE_END);
+            b.item = past(b.item, b.kinds.len());
+        }
+        Some(Kind::While) => while_loop(b, i),
+        Some(Kind::Repeat) => repeat_loop(b, i),
+        Some(Kind::For) => for_loop(b, i),
+        Some(Kind::If) => if_stmt(b, i),
+        _ => b.simple_stmt(word, i),
     }
-    if kind == WHILE {
-        return while_loop(kinds, edges, codes, names, labels, t, i);
-    }
-    if kind == REPEAT {
-        return repeat_loop(kinds, edges, codes, names, labels, t, i);
-    }
-    if kind == FOR {
-        return for_loop(kinds, edges, codes, names, labels, t, i);
-    }
-    if kind == IF {
-        return if_stmt(kinds, edges, codes, names, labels, t, i);
-    }
-    t.simple_stmt(edges, codes, names, labels, w, i)
 }
 
 // The exits and the entry, with no successor yet.
@@ -354,12 +219,7 @@ fn start_nodes(edges: &mut [u64])
     requires { 6 ≤ length edges.old }
     ensures { Started (held edges) (left edges) }
 {
-    edges[exit::END] = NO_SUCCESSORS;
-    edges[exit::BREAK] = NO_SUCCESSORS;
-    edges[exit::RETURN_VALUE] = NO_SUCCESSORS;
-    edges[exit::RETURN_EMPTY] = NO_SUCCESSORS;
-    edges[exit::ERROR] = NO_SUCCESSORS;
-    edges[exit::ENTRY] = NO_SUCCESSORS;
+    edges[..exit::START_NODES].fill(NO_SUCCESSORS);
 }
 
 // The graph of a sheet's kinds, whatever the columns held before.
@@ -370,31 +230,34 @@ pub fn of_block(
     names: &mut [u64],
     labels: &mut [u64],
     scope_end: u64,
-) -> GraphBuilder
+) -> Counts
     requires { Sane kinds.now × Wide (cols edges.old codes.old names.old labels.old) × (scope_end < 4294967296) × WholeRoom kinds.now }
     ensures { ForSpans kinds.now (λ ks ss. Whole ks ss scope_end (cols_at held edges codes names labels) result (cols_at left edges codes names labels)) }
 {
     start_nodes(edges);
-    let s = scoped_block(
+    let mut b = GraphBuilder {
         kinds,
         edges,
         codes,
         names,
         labels,
-        GraphBuilder {
-            item: 0,
-            nodes: exit::START_NODES,
-            codes: 0,
-            names: 0,
-            cursor: exit::ENTRY,
-            settings: BlockSettings {
-                labels: 0,
-                scope_end: 0,
-                break_target: exit::BREAK,
-                continue_target: exit::END,
-            },
+        item: 0,
+        node_count: exit::START_NODES,
+        code_count: 0,
+        name_count: 0,
+        cursor: Some(exit::ENTRY),
+        settings: BlockSettings {
+            labels: 0,
+            scope_end: 0,
+            break_target: exit::BREAK,
+            continue_target: exit::END,
         },
-        scope_end,
-    );
-    s.close_into(edges, exit::END)
+    };
+    scoped_block(&mut b, scope_end);
+    b.close_into(exit::END);
+    Counts {
+        nodes: b.node_count,
+        codes: b.code_count,
+        names: b.name_count,
+    }
 }

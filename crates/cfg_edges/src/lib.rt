@@ -1,23 +1,23 @@
 // The edges of a graph that is being built: an edge in its word, and the node that a label's name stands for.
 #![tactic(auto)]
 
-ghost use Rattle.std.specs.Prelude.{◌≡◌, cond, ◌⊎◌, ◌≤◌, ◌<◌, ◌^◌, length};
+ghost use Rattle.std.specs.Prelude.{◌≡◌, ◌≤◌, ◌<◌, ◌^◌, length, IfSome};
 ghost use Rattle.flow.specs.Graph.{label_node};
-ghost use Rattle.cfg_edges.specs.Halves.{joined, label_list};
+ghost use Rattle.cfg_edges.specs.Halves.{joined_from, label_list};
 
 use flow::Found;
-use words::{ABSENT, HALF, NO_NODE};
+use words::{ABSENT, HALF};
 
-// An edge, in the first free place of the node that it leaves; none right after a jump.
-#[tactic(auto, using(std::proofs::lemmas::Bool::Decides::nat_tests), unfolding(crate::specs::Halves::joined))]
-pub fn connect(edges: &mut [u64], from: usize, to: usize)
-    requires fact { (from < length edges.old) ⊎ (from ≡ 4294967295) }
+// An edge, in the first free place of the node that it leaves; no edge where it leaves none.
+#[tactic(auto, using(std::proofs::lemmas::Bool::Decides::nat_tests))]
+pub fn connect(edges: &mut [u64], from: Option<usize>, to: usize)
+    requires in_bounds { IfSome from (λ a. a < length edges.old) }
     requires to_bound { to < 2 ^ 32 }
-    ensures { edges.new ≡ joined from to edges.old }
+    ensures { edges.new ≡ joined_from from to edges.old }
 {
-    if from == NO_NODE {
+    let Some(from) = from else {
         return;
-    }
+    };
     let w = edges[from];
     let first = w % HALF;
     let second = w / HALF;
@@ -28,22 +28,11 @@ pub fn connect(edges: &mut [u64], from: usize, to: usize)
     }
 }
 
-// An edge where it is wanted.
-pub fn connect_if(edges: &mut [u64], from: usize, to: usize, wanted: bool)
-    requires { (from < length edges.old) × (to < 2 ^ 32) }
-    ensures { edges.new ≡ cond wanted (joined from to edges.old) edges.old }
+// The node of the innermost, then latest, label of a name, among the labels in force.
+pub fn label_node(labels: &[u64], name: u64) -> Found
+    ensures { result ≡ label_node name (label_list (length labels.now) labels.now) }
 {
-    if wanted {
-        connect(edges, from, to);
-    }
-}
-
-// The node of the innermost, then latest, label of a name, among the first `count` labels.
-pub fn label_node(labels: &[u64], count: usize, name: u64) -> Found
-    requires { count ≤ length labels.now }
-    ensures { result ≡ label_node name (label_list count labels.now) }
-{
-    let mut k = count;
+    let mut k = labels.len();
     while 0 < k {
         k -= 1;
         let w = labels[k];

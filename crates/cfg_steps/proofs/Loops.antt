@@ -1,7 +1,9 @@
 -- Where loops begin and end.
 -- Assumes nothing.
 use mathlib.Core.Path.{◌≡◌, refl, ap, ◌∙◌, subst}
-use mathlib.Core.Logic.{◌⊎◌, inl}
+use mathlib.Core.Logic.{inl}
+use Rattle.std.specs.Prelude.{Option, Some, IfSome}
+use Rattle.std.specs.Bool.{then_some}
 use mathlib.Core.List.{List}
 use mathlib.Core.Bool.{Bool, true, false, cond}
 use Prim.Native.Nat.{ℕ, ◌+◌, ◌<◌}
@@ -10,16 +12,15 @@ use lib.ListN.{get_or}
 use Rattle.flow.specs.declared.Truth.{Truth}
 use Rattle.flow.specs.declared.Truth.TheVariants.{False, True, Unknown}
 use Rattle.flow.specs.Graph.{Graph, absent, connect, set_current, record_code, enter_when, unless_true, unless_false}
-use Rattle.cfg_steps.specs.declared.GraphBuilder.{GraphBuilder}
-use Rattle.cfg_edges.specs.Halves.{joined}
+use Rattle.cfg_edges.specs.Halves.{joined_from}
 use Rattle.kinds.specs.Truths.{may_fail, may_hold}
-use Rattle.cfg_steps.specs.Columns.{Cols, cols, graph_of, settings_of, Good, Did, repeat_end}
+use Rattle.cfg_steps.specs.Columns.{Place, Cols, cols, cursor_node, graph_of, settings_of, Good, Did, repeat_end}
 use Rattle.cfg_steps.proofs.Fits.{good_as}
-use Rattle.cfg_steps.proofs.Ops.{edge_did, with_cursor, did_trans, current_of}
+use Rattle.cfg_steps.proofs.Ops.{edge_did, with_cursor, did_trans, current_of, from_joined}
 use Rattle.cfg_steps.proofs.Simple.{did_as}
 
 -- another node is current
-pub move_did : (ks : List ℕ) (b : GraphBuilder) (e c n l : List ℕ) (ok : Good b (cols e c n l)) (v : ℕ) → (v < b.nodes) ⊎ (v ≡ absent) → Did ks (λ ss. set_current v) 0 b (cols e c n l) (with_cursor ks b e c n l ok v) (cols e c n l)
+pub move_did : (ks : List ℕ) (b : Place) (e c n l : List ℕ) (ok : Good b (cols e c n l)) (v : Option ℕ) → IfSome v (λ u. u < b.nodes) → Did ks (λ ss. set_current (cursor_node v)) 0 b (cols e c n l) (with_cursor ks b e c n l ok v) (cols e c n l)
 unfolding graph_of settings_of set_current
 move_did ks b e c n l ok v hv = record {
   good = good_as ok (omega (arith, ok)) hv;
@@ -45,13 +46,13 @@ move_did ks b e c n l ok v hv = record {
 }
 
 -- an edge where it is wanted, after which v is current
-pub if_did : (ks : List ℕ) (b : GraphBuilder) (e c n l : List ℕ) (ok : Good b (cols e c n l)) (a t v : ℕ) (wanted : Bool) (e' : List ℕ) → e' ≡ cond wanted (joined a t e) e → a < b.nodes → t < b.nodes → (v < b.nodes) ⊎ (v ≡ absent)
-    → Did ks (λ ss g. set_current v (cond wanted (connect a t g) g)) 0 b (cols e c n l) (with_cursor ks b e c n l ok v) (cols e' c n l)
-if_did ks b e c n l ok a t v true e' q ha ht hv = edge_did ks b e c n l ok a t v e' q (inl ha) ht hv
+pub if_did : (ks : List ℕ) (b : Place) (e c n l : List ℕ) (ok : Good b (cols e c n l)) (a t : ℕ) (v : Option ℕ) (wanted : Bool) (e' : List ℕ) → e' ≡ joined_from (then_some wanted a) t e → a < b.nodes → t < b.nodes → IfSome v (λ u. u < b.nodes)
+    → Did ks (λ ss g. set_current (cursor_node v) (cond wanted (connect a t g) g)) 0 b (cols e c n l) (with_cursor ks b e c n l ok v) (cols e' c n l)
+if_did ks b e c n l ok a t v true e' q ha ht hv = edge_did ks b e c n l ok a t v e' (q ∙ from_joined (Some a) t b.nodes e ha ok.nodes) (inl ha) ht hv
 if_did ks b e c n l ok a t v false e' q ha ht hv = rw q (move_did ks b e c n l ok v hv)
 
 -- what is built from the node v is built from the node that is found to be v
-pub did_at : (f : ℕ → List ℕ → Graph → Graph) {ks : List ℕ} {k h v : ℕ} {b r : GraphBuilder} {x y : Cols} → h ≡ v → Did ks (f h) k b x r y → Did ks (f v) k b x r y
+pub did_at : (f : ℕ → List ℕ → Graph → Graph) {ks : List ℕ} {k h v : ℕ} {b r : Place} {x y : Cols} → h ≡ v → Did ks (f h) k b x r y → Did ks (f v) k b x r y
 did_at f {ks} {k} {b = b} {r} {x} {y} e d = subst (λ (z : ℕ). Did ks (f z) k b x r y) e d
 
 pub fails_edge : (t : Truth) (a b : ℕ) (g : Graph) → cond (may_fail t) (connect a b g) g ≡ unless_true t (connect a b) g
@@ -88,12 +89,12 @@ span_last False body s g = refl
 span_last True body s g = refl
 span_last Unknown body s g = refl
 
-pub repeat_did : (ks e c n l : List ℕ) {b : GraphBuilder} {x : Cols} (t : GraphBuilder) (body j : ℕ) (truth : Truth) (e1 e2 : List ℕ) {p q : Bool}
-    → (d : Did ks (λ ss. record_code (get_or ss j 0) (body + 1)) 0 b x t (cols e c n l)) → p ≡ may_fail truth → q ≡ may_hold truth → e1 ≡ cond p (joined (body + 1) body e) e → e2 ≡ cond q (joined (body + 1) (body + 2) e1) e1 → body + 2 < t.nodes
-    → Did ks (λ ss. repeat_end truth body (get_or ss j 0)) 0 b x (with_cursor ks t e c n l d.good (body + 2)) (cols e2 c n l)
+pub repeat_did : (ks e c n l : List ℕ) {b : Place} {x : Cols} (t : Place) (body j : ℕ) (truth : Truth) (e1 e2 : List ℕ) {p q : Bool}
+    → (d : Did ks (λ ss. record_code (get_or ss j 0) (body + 1)) 0 b x t (cols e c n l)) → p ≡ may_fail truth → q ≡ may_hold truth → e1 ≡ joined_from (then_some p (body + 1)) body e → e2 ≡ joined_from (then_some q (body + 1)) (body + 2) e1 → body + 2 < t.nodes
+    → Did ks (λ ss. repeat_end truth body (get_or ss j 0)) 0 b x (with_cursor ks t e c n l d.good (Some (body + 2))) (cols e2 c n l)
 repeat_did ks e c n l t body j truth e1 e2 {p} {q} d ep eq h1 h2 hb =
-    let d1 = if_did ks t e c n l d.good (body + 1) body (body + 2) p e1 h1 (omega arith) (omega arith) (inl hb) in
-    let d2 = if_did ks _ e1 c n l d1.good (body + 1) (body + 2) (body + 2) q e2 h2 (omega arith) hb (inl hb) in
+    let d1 = if_did ks t e c n l d.good (body + 1) body (Some (body + 2)) p e1 h1 (omega arith) (omega arith) hb in
+    let d2 = if_did ks _ e1 c n l d1.good (body + 1) (body + 2) (Some (body + 2)) q e2 h2 (omega arith) hb hb in
     did_as (omega arith) (λ ss g. moved_twice (body + 2) (body + 2) q (body + 1) (body + 2) _ ∙ ap (set_current (body + 2)) (same_edges truth p q ep eq (record_code (get_or ss j 0) (body + 1) g)) ∙ span_last truth body (get_or ss j 0) g) (did_trans (did_trans d d1) d2)
   where
     same_edges : (t : Truth) (p q : Bool) → p ≡ may_fail t → q ≡ may_hold t → (g : Graph)
@@ -111,7 +112,7 @@ unfolding connect
 connect_current true a b g = refl
 connect_current false a b g = refl
 
-pub arms_end_did : (ks : List ℕ) (b : GraphBuilder) (e c n l : List ℕ) (ok : Good b (cols e c n l)) (a t : ℕ) (wanted : Bool) (e' : List ℕ) → e' ≡ cond wanted (joined a t e) e → a < b.nodes → t < b.nodes
+pub arms_end_did : (ks : List ℕ) (b : Place) (e c n l : List ℕ) (ok : Good b (cols e c n l)) (a t : ℕ) (wanted : Bool) (e' : List ℕ) → e' ≡ joined_from (then_some wanted a) t e → a < b.nodes → t < b.nodes
     → Did ks (λ ss g. cond wanted (connect a t g) g) 0 b (cols e c n l) b (cols e' c n l)
 arms_end_did ks b e c n l ok a t wanted e' q ha ht =
     let d = if_did ks b e c n l ok a t b.cursor wanted e' q ha ht ok.cursor in
@@ -122,5 +123,5 @@ arms_end_did ks b e c n l ok a t wanted e' q ha ht =
       nodes = d.nodes;
       labels = d.labels;
       settings = d.settings;
-      built = λ ss. d.built ss ∙ stay b.cursor _ (connect_current wanted a t (graph_of ks ss b (cols e c n l)) ∙ current_of ks ss b (cols e c n l));
+      built = λ ss. d.built ss ∙ stay (cursor_node b.cursor) _ (connect_current wanted a t (graph_of ks ss b (cols e c n l)) ∙ current_of ks ss b (cols e c n l));
     }

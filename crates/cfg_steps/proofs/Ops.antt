@@ -13,11 +13,11 @@ use lib.Dec.{eqb}
 use borrow.Author.Tests.{eqb-false, ne_eqb}
 use Rattle.flow.specs.Sheet.{start_of}
 use Rattle.flow.specs.Graph.{Graph, Nodes, Codes, Names, absent, node_count, new_node, connect, set_current, advance_to, close_into, record_code, set_start, code, jump, declare}
-use Rattle.cfg_steps.specs.declared.GraphBuilder.{GraphBuilder}
-use Rattle.cfg_edges.specs.Halves.{lo, hi, joined, label_list}
+use Rattle.std.specs.Prelude.{Option, Some, None, IfSome}
+use Rattle.cfg_edges.specs.Halves.{lo, hi, joined, joined_from, label_list}
 use Rattle.cfg_edges.proofs.Lookup.{is_node}
 use Rattle.kinds.specs.Starts.{has_start}
-use Rattle.cfg_steps.specs.Columns.{Cols, cols, painted, node_of_name, name_item, graph_of, settings_of, Good, Standing, Grown, Did}
+use Rattle.cfg_steps.specs.Columns.{Place, Cols, cols, cursor_node, painted, node_of_name, name_item, graph_of, settings_of, Good, Standing, Grown, Did}
 use Rattle.cfg_steps.proofs.Fits.{each_more, good_of, good_as}
 
 -- one place more
@@ -128,13 +128,34 @@ module _ (n a b : ℕ) (es : List ℕ) (ha : (a < n) ⊎ (a ≡ absent)) (hn : n
           let h : a < n = is_node ha (eqb-false a absent e) in
           rw (at_half lo refl h, at_half hi refl h) (cases (eqb (lo (get_or es a 0)) absent) (eqb (hi (get_or es a 0)) absent) h)
 
+-- ---- the current node
+
+pub cursor_is : {n : ℕ} (o : Option ℕ) → IfSome o (λ a. a < n) → (cursor_node o < n) ⊎ (cursor_node o ≡ absent)
+cursor_is None h = inr refl
+cursor_is (Some v) h = inl h
+
+-- an edge from a node, if there is one, is one from its number
+pub from_joined : (o : Option ℕ) (t n : ℕ) (es : List ℕ) → IfSome o (λ a. a < n) → n ≤ 1600 → joined_from o t es ≡ joined (cursor_node o) t es
+unfolding joined
+from_joined None t n es h k = refl
+from_joined (Some a) t n es h k = rw (ne_eqb a absent (λ z. omega arith))
+
+pub from_length : (o : Option ℕ) (t : ℕ) (es : List ℕ) → length (joined_from o t es) ≡ length es
+from_length None t es = refl
+from_length (Some a) t es = go (eqb (lo (get_or es a 0)) absent) (eqb (hi (get_or es a 0)) absent)
+  where
+    go : (u v : Bool) → length (cond u (set es a (t + hi (get_or es a 0) * 2 ^ 32)) (cond v (set es a (lo (get_or es a 0) + t * 2 ^ 32)) es)) ≡ length es
+    go true v = length-set es a _
+    go false true = length-set es a _
+    go false false = refl
+
 -- ---- the graph that columns stand for
 
-pub count_of : (ks ss : List ℕ) (b : GraphBuilder) (x : Cols) → b.nodes ≤ length x.edges → node_count (graph_of ks ss b x) ≡ b.nodes
+pub count_of : (ks ss : List ℕ) (b : Place) (x : Cols) → b.nodes ≤ length x.edges → node_count (graph_of ks ss b x) ≡ b.nodes
 unfolding graph_of
 count_of ks ss b x h = length-map (take b.nodes x.edges) lo ∙ length-take-le b.nodes x.edges h
 
-pub current_of : (ks ss : List ℕ) (b : GraphBuilder) (x : Cols) → (graph_of ks ss b x).current ≡ b.cursor
+pub current_of : (ks ss : List ℕ) (b : Place) (x : Cols) → (graph_of ks ss b x).current ≡ cursor_node b.cursor
 unfolding graph_of
 current_of ks ss b x = refl
 
@@ -155,7 +176,7 @@ same_labels (suc k) l l' e =
     let h : get_or l k 0 ≡ get_or l' k 0 = sym (get_or-take (suc k) l k 0 (omega arith)) ∙ ap (λ (m : List ℕ). get_or m k 0) e ∙ get_or-take (suc k) l' k 0 (omega arith) in
     rw (h, same_labels k l l' (take_less {n = k} {m = suc k} l l' (omega arith) e))
 
-pub grown_same : (b : GraphBuilder) (x : Cols) → Grown b x b x
+pub grown_same : (b : Place) (x : Cols) → Grown b x b x
 grown_same b x = record {
   nodes = omega arith;
   codes = omega arith;
@@ -171,7 +192,7 @@ grown_same b x = record {
   labels_length = refl;
 }
 
-pub grown_trans : {b t r : GraphBuilder} {x y z : Cols} → b.settings.labels ≤ t.settings.labels → Grown b x t y → Grown t y r z → Grown b x r z
+pub grown_trans : {b t r : Place} {x y z : Cols} → b.settings.labels ≤ t.settings.labels → Grown b x t y → Grown t y r z → Grown b x r z
 grown_trans {b} {t} {r} {x} {y} {z} l p q = record {
   nodes = omega arith;
   codes = omega arith;
@@ -187,7 +208,7 @@ grown_trans {b} {t} {r} {x} {y} {z} l p q = record {
   labels_length = q.labels_length ∙ p.labels_length;
 }
 
-pub did_trans : {ks : List ℕ} {f g : List ℕ → Graph → Graph} {n m : ℕ} {b t r : GraphBuilder} {x y z : Cols} → Did ks f n b x t y → Did ks g m t y r z → Did ks (λ ss h. g ss (f ss h)) (n + m) b x r z
+pub did_trans : {ks : List ℕ} {f g : List ℕ → Graph → Graph} {n m : ℕ} {b t r : Place} {x y z : Cols} → Did ks f n b x t y → Did ks g m t y r z → Did ks (λ ss h. g ss (f ss h)) (n + m) b x r z
 did_trans {g = g} p q = record {
   good = q.good;
   grown = grown_trans (omega arith) p.grown q.grown;
@@ -241,9 +262,9 @@ painted_left ks ss (c ∷ cs) ps qs h =
 
 -- ---- what each operation does
 
-module _ (ks : List ℕ) (b : GraphBuilder) (e c n l : List ℕ) (ok : Good b (cols e c n l)) where
+module _ (ks : List ℕ) (b : Place) (e c n l : List ℕ) (ok : Good b (cols e c n l)) where
   -- an edge from the current node to t, after which v is current
-  abbrev pub with_cursor : ℕ → GraphBuilder
+  abbrev pub with_cursor : Option ℕ → Place
   with_cursor v = record {
     item = b.item;
     nodes = b.nodes;
@@ -254,8 +275,8 @@ module _ (ks : List ℕ) (b : GraphBuilder) (e c n l : List ℕ) (ok : Good b (c
   }
 
   -- an edge from a to t, after which v is current
-  pub edge_did : (a t v : ℕ) (e' : List ℕ) → e' ≡ joined a t e → (a < b.nodes) ⊎ (a ≡ absent) → t < b.nodes → (v < b.nodes) ⊎ (v ≡ absent)
-      → Did ks (λ ss g. set_current v (connect a t g)) 0 b (cols e c n l) (with_cursor v) (cols e' c n l)
+  pub edge_did : (a t : ℕ) (v : Option ℕ) (e' : List ℕ) → e' ≡ joined a t e → (a < b.nodes) ⊎ (a ≡ absent) → t < b.nodes → IfSome v (λ u. u < b.nodes)
+      → Did ks (λ ss g. set_current (cursor_node v) (connect a t g)) 0 b (cols e c n l) (with_cursor v) (cols e' c n l)
   unfolding graph_of settings_of set_current connect
   edge_did a t v e' q ha ht hv =
       let long : b.nodes ≤ length e = omega (arith, ok.wide_edges, ok.nodes) in
@@ -284,10 +305,10 @@ module _ (ks : List ℕ) (b : GraphBuilder) (e c n l : List ℕ) (ok : Good b (c
         built = λ ss. same_graph (rw q (joined_nodes b.nodes a t e ha long small _)) refl refl refl;
       }
 
-  from_current : (t v : ℕ) (e' : List ℕ) → e' ≡ joined b.cursor t e → t < b.nodes → (v < b.nodes) ⊎ (v ≡ absent)
-      → Did ks (λ ss g. set_current v (connect g.current t g)) 0 b (cols e c n l) (with_cursor v) (cols e' c n l)
+  from_current : (t : ℕ) (v : Option ℕ) (e' : List ℕ) → e' ≡ joined_from b.cursor t e → t < b.nodes → IfSome v (λ u. u < b.nodes)
+      → Did ks (λ ss g. set_current (cursor_node v) (connect g.current t g)) 0 b (cols e c n l) (with_cursor v) (cols e' c n l)
   from_current t v e' q ht hv =
-      let d = edge_did b.cursor t v e' q ok.cursor ht hv in
+      let d = edge_did (cursor_node b.cursor) t v e' (q ∙ from_joined b.cursor t b.nodes e ok.cursor ok.nodes) (cursor_is b.cursor ok.cursor) ht hv in
       record {
         good = d.good;
         grown = d.grown;
@@ -295,19 +316,19 @@ module _ (ks : List ℕ) (b : GraphBuilder) (e c n l : List ℕ) (ok : Good b (c
         nodes = d.nodes;
         labels = d.labels;
         settings = d.settings;
-        built = λ ss. d.built ss ∙ ap (λ (a : ℕ). set_current v (connect a t (graph_of ks ss b (cols e c n l)))) (sym (current_of ks ss b (cols e c n l)));
+        built = λ ss. d.built ss ∙ ap (λ (a : ℕ). set_current (cursor_node v) (connect a t (graph_of ks ss b (cols e c n l)))) (sym (current_of ks ss b (cols e c n l)));
       }
 
-  pub advance_did : (t : ℕ) (e' : List ℕ) → e' ≡ joined b.cursor t e → t < b.nodes → Did ks (λ ss. advance_to t) 0 b (cols e c n l) (with_cursor t) (cols e' c n l)
+  pub advance_did : (t : ℕ) (e' : List ℕ) → e' ≡ joined_from b.cursor t e → t < b.nodes → Did ks (λ ss. advance_to t) 0 b (cols e c n l) (with_cursor (Some t)) (cols e' c n l)
   unfolding advance_to
-  advance_did t e' q ht = from_current t t e' q ht (inl ht)
+  advance_did t e' q ht = from_current t (Some t) e' q ht ht
 
-  pub close_did : (t : ℕ) (e' : List ℕ) → e' ≡ joined b.cursor t e → t < b.nodes → Did ks (λ ss. close_into t) 0 b (cols e c n l) (with_cursor absent) (cols e' c n l)
+  pub close_did : (t : ℕ) (e' : List ℕ) → e' ≡ joined_from b.cursor t e → t < b.nodes → Did ks (λ ss. close_into t) 0 b (cols e c n l) (with_cursor None) (cols e' c n l)
   unfolding close_into
-  close_did t e' q ht = from_current t absent e' q ht (inr refl)
+  close_did t e' q ht = from_current t None e' q ht tt
 
   -- the counts and the current node anew
-  abbrev pub with_counts : ℕ → ℕ → ℕ → ℕ → GraphBuilder
+  abbrev pub with_counts : ℕ → ℕ → ℕ → Option ℕ → Place
   with_counts nodes codes names v = record {
     item = b.item;
     nodes = nodes;
@@ -320,9 +341,9 @@ module _ (ks : List ℕ) (b : GraphBuilder) (e c n l : List ℕ) (ok : Good b (c
   abbrev free : ℕ
   free = 18446744073709551615
 
-  cursor_more : (b.cursor < b.nodes) ⊎ (b.cursor ≡ absent) → (b.cursor < b.nodes + 1) ⊎ (b.cursor ≡ absent)
-  cursor_more (inl h) = inl (omega arith)
-  cursor_more (inr e) = inr e
+  cursor_more : (o : Option ℕ) → IfSome o (λ v. v < b.nodes) → IfSome o (λ v. v < b.nodes + 1)
+  cursor_more None h = tt
+  cursor_more (Some v) h = omega arith
 
   codes_below : (k : ℕ) → k < length (take b.codes c) → lo (get_or (take b.codes c) k 0) < b.nodes
   codes_below k h =
@@ -335,7 +356,7 @@ module _ (ks : List ℕ) (b : GraphBuilder) (e c n l : List ℕ) (ok : Good b (c
   new_did h =
       let long : b.nodes < length e = omega (arith, ok.wide_edges) in
       record {
-        good = good_as ok (omega (arith, ok, length-set e b.nodes free)) (cursor_more ok.cursor);
+        good = good_as ok (omega (arith, ok, length-set e b.nodes free)) (cursor_more b.cursor ok.cursor);
         grown = record {
           nodes = omega arith;
           codes = omega arith;
@@ -427,18 +448,18 @@ module _ (ks : List ℕ) (b : GraphBuilder) (e c n l : List ℕ) (ok : Good b (c
 
   -- a name's word at its place
   abbrev pub name_word : ℕ → ℕ
-  name_word i = b.cursor % 65536 + i * 65536 + b.settings.scope_end * 2 ^ 32
+  name_word i = cursor_node b.cursor % 65536 + i * 65536 + b.settings.scope_end * 2 ^ 32
 
-  name_node : (i : ℕ) → i < 1024 → node_of_name (name_word i) ≡ b.cursor
-  name_node i h = go ok.cursor
+  name_node : (i : ℕ) → i < 1024 → node_of_name (name_word i) ≡ cursor_node b.cursor
+  name_node i h = go (cursor_is b.cursor ok.cursor)
     where
-      low : name_word i % 2 ^ 16 ≡ b.cursor % 65536
+      low : name_word i % 2 ^ 16 ≡ cursor_node b.cursor % 65536
       low = omega arith
 
-      go : (b.cursor < b.nodes) ⊎ (b.cursor ≡ absent) → node_of_name (name_word i) ≡ b.cursor
+      go : (cursor_node b.cursor < b.nodes) ⊎ (cursor_node b.cursor ≡ absent) → node_of_name (name_word i) ≡ cursor_node b.cursor
       go (inl q) =
-          let same : b.cursor % 65536 ≡ b.cursor = omega (arith, ok.nodes) in
-          rw (low, same, ne_eqb b.cursor 65535 (λ z. omega (arith, ok.nodes)))
+          let same : cursor_node b.cursor % 65536 ≡ cursor_node b.cursor = omega (arith, ok.nodes) in
+          rw (low, same, ne_eqb (cursor_node b.cursor) 65535 (λ z. omega (arith, ok.nodes)))
       go (inr q) = rw (low, q)
 
   pub declare_did : (i : ℕ) → i < 1024 → i < b.item → b.names < b.item
@@ -478,14 +499,14 @@ module _ (ks : List ℕ) (b : GraphBuilder) (e c n l : List ℕ) (ok : Good b (c
       }
 
 -- a new node for the code of item i
-pub full_code_did : (ks : List ℕ) (b : GraphBuilder) (e c n l e' : List ℕ) → Good b (cols e c n l) → (i : ℕ) → i < b.item → b.nodes < 1600 → b.codes < b.item → has_start (get_or ks i 0) ≡ true
-    → e' ≡ joined b.cursor b.nodes (set e b.nodes 18446744073709551615)
+pub full_code_did : (ks : List ℕ) (b : Place) (e c n l e' : List ℕ) → Good b (cols e c n l) → (i : ℕ) → i < b.item → b.nodes < 1600 → b.codes < b.item → has_start (get_or ks i 0) ≡ true
+    → e' ≡ joined_from b.cursor b.nodes (set e b.nodes 18446744073709551615)
     → Did ks (λ ss. code (get_or ss i 0)) 1 b (cols e c n l) (record {
       item = b.item;
       nodes = b.nodes + 1;
       codes = b.codes + 1;
       names = b.names;
-      cursor = b.nodes;
+      cursor = Some b.nodes;
       settings = b.settings;
     }) (cols e' (set c b.codes (b.nodes + i * 2 ^ 32)) n l)
 unfolding code
@@ -505,29 +526,22 @@ full_code_did ks b e c n l e' ok i below hn hc hs q =
     }
 
 -- code that goes on to a target
-pub jump_did : {ks : List ℕ} {b r : GraphBuilder} {x y : Cols} (e c n l : List ℕ) {t : GraphBuilder} (i v : ℕ) → Did ks (λ ss. code (get_or ss i 0)) 1 b x t (cols e c n l) → Did ks (λ ss. close_into v) 0 t (cols e c n l) r y
+pub jump_did : {ks : List ℕ} {b r : Place} {x y : Cols} (e c n l : List ℕ) {t : Place} (i v : ℕ) → Did ks (λ ss. code (get_or ss i 0)) 1 b x t (cols e c n l) → Did ks (λ ss. close_into v) 0 t (cols e c n l) r y
     → Did ks (λ ss. jump (get_or ss i 0) v) 1 b x r y
 unfolding jump
 jump_did e c n l i v p q =
     let d = did_trans p q in
     record { good = d.good; grown = d.grown; item = d.item; nodes = omega arith; labels = d.labels; settings = d.settings; built = d.built }
 
-pub standing : {b : GraphBuilder} {es : List ℕ} → Standing b es → (b.cursor < length es) ⊎ (b.cursor ≡ absent)
-standing {b} {es} s = go s.cursor
+pub standing : {b : Place} {es : List ℕ} → Standing b es → IfSome b.cursor (λ a. a < length es)
+standing {b} {es} s = go b.cursor s.cursor
   where
-    go : (b.cursor < b.nodes) ⊎ (b.cursor ≡ absent) → (b.cursor < length es) ⊎ (b.cursor ≡ absent)
-    go (inl h) = inl (omega (arith, s.nodes))
-    go (inr e) = inr e
+    go : (o : Option ℕ) → IfSome o (λ a. a < b.nodes) → IfSome o (λ a. a < length es)
+    go None h = tt
+    go (Some v) h = omega (arith, s.nodes)
 
-pub standing_set : {b : GraphBuilder} {es : List ℕ} (i v : ℕ) → Standing b es → (b.cursor < length (set es i v)) ⊎ (b.cursor ≡ absent)
+pub standing_set : {b : Place} {es : List ℕ} (i v : ℕ) → Standing b es → IfSome b.cursor (λ a. a < length (set es i v))
 standing_set {b} {es} i v s = rw (length-set es i v) (standing s)
 
-pub joined_size : (a b i v : ℕ) (es es' : List ℕ) → es' ≡ joined a b (set es i v) → length es' ≡ length es
-unfolding joined
-joined_size a b i v es es' q = ap length q ∙ go (eqb a absent) (eqb (lo (get_or (set es i v) a 0)) absent) (eqb (hi (get_or (set es i v) a 0)) absent) ∙ length-set es i v
-  where
-    go : (t u w : Bool) → length (cond t (set es i v) (cond u (set (set es i v) a (b + hi (get_or (set es i v) a 0) * 2 ^ 32)) (cond w (set (set es i v) a (lo (get_or (set es i v) a 0) + b * 2 ^ 32)) (set es i v)))) ≡ length (set es i v)
-    go true u w = refl
-    go false true w = length-set (set es i v) a _
-    go false false true = length-set (set es i v) a _
-    go false false false = refl
+pub joined_size : (o : Option ℕ) (t i v : ℕ) (es es' : List ℕ) → es' ≡ joined_from o t (set es i v) → length es' ≡ length es
+joined_size o t i v es es' q = ap length q ∙ from_length o t (set es i v) ∙ length-set es i v

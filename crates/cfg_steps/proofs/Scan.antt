@@ -8,9 +8,8 @@ use native.Mathlib.Omega.{arith}
 use lib.ListN.{length, set, length-set, length-append}
 use lib.Seq.{take-set-le, get_or-set_same, drop-set-lt}
 use Rattle.flow.specs.Graph.{Graph, Label, new_node, new_nodes, with_labels}
-use Rattle.cfg_steps.specs.declared.GraphBuilder.{GraphBuilder}
 use Rattle.cfg_edges.specs.Halves.{hi, label_list}
-use Rattle.cfg_steps.specs.Columns.{Cols, cols, graph_of, Good, Entered}
+use Rattle.cfg_steps.specs.Columns.{Place, Cols, cols, graph_of, Good, Entered}
 use Rattle.cfg_steps.proofs.Fits.{each_more, good_of}
 use Rattle.cfg_steps.proofs.Ops.{grown_same, grown_trans, same_labels, lo_of, hi_of, new_did}
 
@@ -26,7 +25,7 @@ unfolding with_labels
 with_append [] bs v ls = ap (λ (n : ℕ). with_labels bs n ls) (omega arith)
 with_append (a ∷ as') bs v ls = with_append as' bs (v + 1) _ ∙ ap (λ (n : ℕ). with_labels bs n (with_labels as' (v + 1) (record { name = a; node = v } ∷ ls))) (omega arith)
 
-pub entered_none : (ks : List ℕ) (b : GraphBuilder) (x : Cols) → Good b x → Entered ks [] b x b x
+pub entered_none : (ks : List ℕ) (b : Place) (x : Cols) → Good b x → Entered ks [] b x b x
 unfolding new_nodes with_labels
 entered_none ks b x ok = record {
   good = ok;
@@ -45,7 +44,7 @@ entered_none ks b x ok = record {
 }
 
 -- names that are entered after others
-pub entered_trans : {ks bs : List ℕ} {b t r : GraphBuilder} {x y z : Cols} → Entered ks bs t y r z → (as' : List ℕ) → Entered ks as' b x t y → Entered ks (as' ++ bs) b x r z
+pub entered_trans : {ks bs : List ℕ} {b t r : Place} {x y z : Cols} → Entered ks bs t y r z → (as' : List ℕ) → Entered ks as' b x t y → Entered ks (as' ++ bs) b x r z
 entered_trans {ks} {bs} {b} {t} {r} {x} {y} {z} q as' p = record {
   good = q.good;
   grown = grown_trans (omega arith) p.grown q.grown;
@@ -68,7 +67,7 @@ list_more k l a v h ha =
     rw (add-one, get_or-set_same l k (a + v * 2 ^ 32) 0 h, lo_of a v ha, hi_of a v ha, same_labels k (set l k (a + v * 2 ^ 32)) l (take-set-le k l k (a + v * 2 ^ 32) (omega arith)))
 
 -- one label more: its word, and its node
-pub label_entered : (ks : List ℕ) (b : GraphBuilder) (e c n l : List ℕ) (a : ℕ) → Good b (cols e c n l) → b.nodes < 1600 → a < 2 ^ 32
+pub label_entered : (ks : List ℕ) (b : Place) (e c n l : List ℕ) (a : ℕ) → Good b (cols e c n l) → b.nodes < 1600 → a < 2 ^ 32
     → Entered ks (a ∷ []) b (cols e c n l) (record {
       item = b.item;
       nodes = b.nodes + 1;
@@ -112,5 +111,5 @@ label_entered ks b e c n l a ok hn ha =
       built = d.built;
     }
 
-pub entered_empty : (ks as' : List ℕ) (b : GraphBuilder) (x : Cols) → as' ≡ [] → Good b x → Entered ks as' b x b x
+pub entered_empty : (ks as' : List ℕ) (b : Place) (x : Cols) → as' ≡ [] → Good b x → Entered ks as' b x b x
 entered_empty ks as' b x e ok = rw e (entered_none ks b x ok)

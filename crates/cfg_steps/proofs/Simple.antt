@@ -1,25 +1,28 @@
 -- Statements of one item.
 -- Assumes nothing.
-use mathlib.Core.Path.{◌≡◌, refl, ◌∙◌}
-use mathlib.Core.Logic.{◌⊎◌, inl, inr}
+use mathlib.Core.Path.{◌≡◌, refl, sym, ◌∙◌}
+use Rattle.std.specs.Prelude.{Option, Some, MatchOption}
+use Rattle.kinds.specs.declared.Kind.{Kind}
+use Rattle.kinds.specs.Numbers.{kind_number}
+use mathlib.Core.Logic.{◌⊎◌}
 use mathlib.Core.List.{List}
 use mathlib.Core.Bool.{Bool, true, false, cond}
 use Prim.Native.Nat.{ℕ, zero, suc, ◌≤◌, ◌<◌}
 use native.Mathlib.Omega.{arith}
-use lib.ListN.{length, get_or}
+use lib.ListN.{length, get_or, take}
+use lib.Seq.{length-take-le, take-take}
 use lib.Dec.{eqb}
 use borrow.Author.Tests.{eq-eqb, ne_eqb}
 use Rattle.flow.specs.declared.Found.TheVariants.{At, Nothing}
 use Rattle.flow.specs.Sheet.{kind_of}
 use Rattle.flow.specs.Kinds.{raises}
 use Rattle.flow.specs.Graph.{Graph, Label, label_node, or_break, jump, code, declare, simple_stmt, advance_to, record_code}
-use Rattle.cfg_steps.specs.declared.GraphBuilder.{GraphBuilder}
 use Rattle.cfg_edges.specs.Halves.{hi, label_list}
 use Rattle.kinds.specs.Starts.{has_start}
-use Rattle.cfg_steps.specs.Columns.{Cols, cols, settings_of, labelled, coded, simple_made, Good, Standing, Did}
-use Rattle.cfg_steps.proofs.Ops.{grown_same}
+use Rattle.cfg_steps.specs.Columns.{Place, Cols, cols, settings_of, labelled, simple_made, Good, Standing, Did}
+use Rattle.cfg_steps.proofs.Ops.{grown_same, same_labels}
 
-pub did_none : (ks : List ℕ) (b : GraphBuilder) (x : Cols) → Good b x → Did ks (λ ss g. g) 0 b x b x
+pub did_none : (ks : List ℕ) (b : Place) (x : Cols) → Good b x → Did ks (λ ss g. g) 0 b x b x
 did_none ks b x ok = record {
   good = ok;
   grown = grown_same b x;
@@ -31,7 +34,7 @@ did_none ks b x ok = record {
 }
 
 -- the same operation under another name
-pub did_as : {ks : List ℕ} {f h : List ℕ → Graph → Graph} {n m : ℕ} {b r : GraphBuilder} {x y : Cols} → n ≡ m → ((ss : List ℕ) (g : Graph) → f ss g ≡ h ss g) → Did ks f n b x r y → Did ks h m b x r y
+pub did_as : {ks : List ℕ} {f h : List ℕ → Graph → Graph} {n m : ℕ} {b r : Place} {x y : Cols} → n ≡ m → ((ss : List ℕ) (g : Graph) → f ss g ≡ h ss g) → Did ks f n b x r y → Did ks h m b x r y
 did_as q e d = record {
   good = d.good;
   grown = d.grown;
@@ -44,14 +47,14 @@ did_as q e d = record {
 
 -- ---- what the operations ask
 
-pub stands : {b : GraphBuilder} {e c n l : List ℕ} → Good b (cols e c n l) → Standing b e
+pub stands : {b : Place} {e c n l : List ℕ} → Good b (cols e c n l) → Standing b e
 stands ok = record { cursor = ok.cursor; nodes = omega (arith, ok.wide_edges, ok.nodes); few = ok.nodes }
 
-pub may_code : {b : GraphBuilder} {e c n l : List ℕ} (i : ℕ) → Good b (cols e c n l) → b.nodes < 1600 → b.codes < b.item → i < b.item
+pub may_code : {b : Place} {e c n l : List ℕ} (i : ℕ) → Good b (cols e c n l) → b.nodes < 1600 → b.codes < b.item → i < b.item
     → Standing b e × (((b.nodes < length e) × (b.nodes < 1600)) × ((b.codes < length c) × (b.codes < b.item) × (i < b.item) × (b.item ≤ 1024)))
 may_code i ok hn hc hi' = (stands ok, ((omega (arith, ok.wide_edges), hn), (omega (arith, ok.wide_codes, ok.items), hc, hi', ok.items)))
 
-pub may_jump : {b : GraphBuilder} {e c n l : List ℕ} (i t : ℕ) → Good b (cols e c n l) → b.nodes < 1600 → b.codes < b.item → i < b.item → t < b.nodes
+pub may_jump : {b : Place} {e c n l : List ℕ} (i t : ℕ) → Good b (cols e c n l) → b.nodes < 1600 → b.codes < b.item → i < b.item → t < b.nodes
     → Standing b e × (((b.nodes < length e) × (b.nodes < 1600) × (t < b.nodes)) × ((b.codes < length c) × (b.codes < b.item) × (i < b.item) × (b.item ≤ 1024)))
 may_jump i t ok hn hc hi' ht = (stands ok, ((omega (arith, ok.wide_edges), hn, ht), (omega (arith, ok.wide_codes, ok.items), hc, hi', ok.items)))
 
@@ -66,7 +69,7 @@ found_node n a v (suc k) ls h e = go (eqb a _) (found_node n a v k ls (λ j r. h
     go true r q = let z : hi (get_or ls k 0) ≡ v = cc in rw (← z) (h k (omega arith))
     go false r q = r q
 
-pub label_below : {b : GraphBuilder} {x : Cols} {v : ℕ} (a : ℕ) → Good b x → label_node a (label_list b.settings.labels x.labels) ≡ At v → v < b.nodes
+pub label_below : {b : Place} {x : Cols} {v : ℕ} (a : ℕ) → Good b x → label_node a (label_list b.settings.labels x.labels) ≡ At v → v < b.nodes
 label_below {b} {x} {v} a ok e = found_node b.nodes a v b.settings.labels x.labels ok.label_nodes e
 
 module _ (a : ℕ) (ls : List Label) (s : ℕ) (g : Graph) where
@@ -86,33 +89,6 @@ module _ (a : ℕ) (ls : List Label) (s : ℕ) (g : Graph) where
   unfolding labelled
   labelled_at v q e = rw (ne_eqb a 0 q, e)
 
--- ---- other code, by its kind
-
-module _ (k a p q s : ℕ) (g : Graph) where
-  pub coded_break : k ≡ 14 → jump s p g ≡ coded k a p q s g
-  unfolding coded
-  coded_break e = rw e
-
-  pub coded_continue : k ≡ 15 → jump s q g ≡ coded k a p q s g
-  unfolding coded
-  coded_continue e = rw e
-
-  pub coded_return : (t : ℕ) → k ≡ 16 → t ≡ cond (eqb a 1) 2 3 → jump s t g ≡ coded k a p q s g
-  unfolding coded
-  coded_return t e r = rw (e, r)
-
-  pub coded_raise : k ≡ 17 → raises a ≡ true → jump s 4 g ≡ coded k a p q s g
-  unfolding coded
-  coded_raise e r = rw (e, r)
-
-  pub coded_call : k ≡ 17 → raises a ≡ false → code s g ≡ coded k a p q s g
-  unfolding coded
-  coded_call e r = rw (e, r)
-
-  pub coded_on : (k ≡ 14 → ⊥) → (k ≡ 15 → ⊥) → (k ≡ 16 → ⊥) → (k ≡ 17 → ⊥) → code s g ≡ coded k a p q s g
-  unfolding coded
-  coded_on h14 h15 h16 h17 = rw (ne_eqb k 14 h14, ne_eqb k 15 h15, ne_eqb k 16 h16, ne_eqb k 17 h17)
-
 -- ---- a statement of one item
 
 pub starts_not : (w : ℕ) → kind_of w ≡ 12 → has_start w ≡ false
@@ -121,7 +97,11 @@ starts_not w e = rw e
 pub starts : (w : ℕ) → (kind_of w ≡ 8 → ⊥) → (kind_of w ≡ 9 → ⊥) → (kind_of w ≡ 12 → ⊥) → has_start w ≡ true
 starts w p q r = rw (ne_eqb (kind_of w) 8 p, ne_eqb (kind_of w) 9 q, ne_eqb (kind_of w) 12 r)
 
-module _ (k a s : ℕ) (b : GraphBuilder) (x : Cols) (g : Graph) where
+-- a kind whose statement is code that goes on, or no statement of one item
+abbrev pub Other : ℕ → Type 0
+Other k = (k ≡ 11 → ⊥) × (k ≡ 12 → ⊥) × (k ≡ 13 → ⊥) × (k ≡ 14 → ⊥) × (k ≡ 15 → ⊥) × (k ≡ 16 → ⊥) × (k ≡ 17 → ⊥) × (k ≡ 19 → ⊥)
+
+module _ (k a s : ℕ) (b : Place) (x : Cols) (g : Graph) where
   pub simple_name : k ≡ 11 → declare s (settings_of b x) g ≡ simple_stmt k a s (settings_of b x) g
   unfolding simple_stmt
   simple_name e = rw e
@@ -138,17 +118,40 @@ module _ (k a s : ℕ) (b : GraphBuilder) (x : Cols) (g : Graph) where
   unfolding simple_stmt
   simple_empty e = rw e
 
-  pub simple_code : (k ≡ 11 → ⊥) → (k ≡ 12 → ⊥) → (k ≡ 13 → ⊥) → (k ≡ 19 → ⊥) → coded k a b.settings.break_target b.settings.continue_target s g ≡ simple_stmt k a s (settings_of b x) g
-  unfolding simple_stmt coded settings_of
-  simple_code p q r t = rw (ne_eqb k 11 p, ne_eqb k 12 q, ne_eqb k 13 r, ne_eqb k 19 t)
+  pub simple_break : k ≡ 14 → jump s b.settings.break_target g ≡ simple_stmt k a s (settings_of b x) g
+  unfolding simple_stmt settings_of
+  simple_break e = rw e
 
-pub made_none : (k : ℕ) → (k ≡ 11) ⊎ ((k ≡ 12) ⊎ (k ≡ 19)) → 0 ≡ simple_made k
-made_none k (inl e) = rw e
-made_none k (inr (inl e)) = rw e
-made_none k (inr (inr e)) = rw e
+  pub simple_continue : k ≡ 15 → jump s b.settings.continue_target g ≡ simple_stmt k a s (settings_of b x) g
+  unfolding simple_stmt settings_of
+  simple_continue e = rw e
 
-pub made_one : (k : ℕ) → (k ≡ 11 → ⊥) → (k ≡ 12 → ⊥) → (k ≡ 19 → ⊥) → 1 ≡ simple_made k
-made_one k p q r = rw (ne_eqb k 11 p, ne_eqb k 12 q, ne_eqb k 19 r)
+  pub simple_return : (t : ℕ) → k ≡ 16 → t ≡ cond (eqb a 1) 2 3 → jump s t g ≡ simple_stmt k a s (settings_of b x) g
+  unfolding simple_stmt
+  simple_return t e r = rw (e, r)
 
-pub stands_as : {b r : GraphBuilder} {es : List ℕ} → r.nodes ≡ b.nodes → r.cursor ≡ b.cursor → Standing b es → Standing r es
+  pub simple_raise : k ≡ 17 → raises a ≡ true → jump s 4 g ≡ simple_stmt k a s (settings_of b x) g
+  unfolding simple_stmt
+  simple_raise e r = rw (e, r)
+
+  pub simple_call : k ≡ 17 → raises a ≡ false → code s g ≡ simple_stmt k a s (settings_of b x) g
+  unfolding simple_stmt
+  simple_call e r = rw (e, r)
+
+  pub simple_code : Other k → code s g ≡ simple_stmt k a s (settings_of b x) g
+  unfolding simple_stmt
+  simple_code h = rw (ne_eqb k 11 h.0, ne_eqb k 12 h.1, ne_eqb k 13 h.2, ne_eqb k 14 h.3, ne_eqb k 15 h.4, ne_eqb k 16 h.5, ne_eqb k 17 h.6, ne_eqb k 19 h.7)
+
+pub made_one : (k : ℕ) → Other k → 1 ≡ simple_made k
+made_one k h = rw (ne_eqb k 11 h.0, ne_eqb k 12 h.1, ne_eqb k 19 h.7)
+
+-- the kind that a word is found to have
+pub kind_is : {o : Option Kind} (w : ℕ) {j k : Kind} → MatchOption o ((kind_of w ≡ 0) ⊎ (19 < kind_of w)) (λ j. kind_number j ≡ kind_of w) → o ≡ Some j → j ≡ k → kind_of w ≡ kind_number k
+kind_is w q e f = sym (rw (e, f) at q)
+
+pub stands_as : {b r : Place} {es : List ℕ} → r.nodes ≡ b.nodes → r.cursor ≡ b.cursor → Standing b es → Standing r es
 stands_as {b} {r} {es} p q s = record { cursor = rw (p, q) s.cursor; nodes = omega (arith, s.nodes); few = omega (arith, s.few) }
+
+-- the labels in force, cut off from the column
+pub cut_labels : (k : ℕ) (l : List ℕ) → k ≤ length l → label_list (length (take k l)) (take k l) ≡ label_list k l
+cut_labels k l h = rw (length-take-le k l h) (same_labels k (take k l) l (take-take k k l (omega arith)))

@@ -1,11 +1,11 @@
 -- The columns of a graph that is being built, and the graph that they stand for. A word holds both successors of a node; a code's word its node and its item; a name's word its node, item and scope end; a label's word its name and node.
 -- Assumes nothing: these are definitions.
-use Rattle.std.specs.Prelude.{◌≡◌, ◌⊎◌, Bool, cond, ◌&&◌, List, [], ◌∷◌, map, ℕ, ◌+◌, ◌/◌, ◌%◌, ◌^◌, ◌≤◌, ◌<◌, length, take, drop, get_or, set, replicate, eqb}
-use Rattle.search.specs.Lent.{Column, held, left}
+use Rattle.std.specs.Prelude.{◌≡◌, Bool, cond, List, [], ◌∷◌, map, ℕ, ◌+◌, ◌/◌, ◌%◌, ◌^◌, ◌≤◌, ◌<◌, length, take, drop, get_or, set, replicate, eqb, Option, Some, None, IfSome}
+use Rattle.search.specs.Lent.{Column}
 use Rattle.flow.specs.declared.Truth.{Truth}
 use Rattle.flow.specs.Sheet.{kind_of, argument_of, start_of, member}
-use Rattle.flow.specs.Kinds.{kinds, raises}
-use Rattle.flow.specs.Graph.{exits, new_nodes, with_labels, stand_at, label_node, or_break, jump, code, connect, set_current, record_code, unless_true, unless_false, simple_stmt, Graph, Settings, Label, absent}
+use Rattle.flow.specs.Kinds.{kinds}
+use Rattle.flow.specs.Graph.{exits, new_nodes, with_labels, stand_at, label_node, or_break, jump, connect, set_current, record_code, unless_true, unless_false, simple_stmt, Graph, Settings, Label, absent}
 use Rattle.kinds.specs.Starts.{has_start}
 use Rattle.cfg_edges.specs.Halves.{lo, hi, label_list}
 use Rattle.block_settings.specs.declared.BlockSettings.{BlockSettings}
@@ -26,9 +26,26 @@ cols e c n l = record { edges = e; codes = c; names = n; labels = l }
 abbrev pub cols_at : (Column → List ℕ) → Column → Column → Column → Column → Cols
 cols_at at e c n l = cols (at e) (at c) (at n) (at l)
 
--- the columns of a call that is lent some of them, at the entry or at the exit: `λ at. cols (at edges) c n l` where only edges is lent
-abbrev pub Lent : Type 0
-Lent = (Column → List ℕ) → Cols
+-- the builder's place in the sheet, its counts, its current node and its settings
+pub record Place : Type 0 where
+  pub item : ℕ
+  pub nodes : ℕ
+  pub codes : ℕ
+  pub names : ℕ
+  pub cursor : Option ℕ
+  pub settings : BlockSettings
+
+-- what a builder says of itself, and what its columns hold
+abbrev pub place : GraphBuilder → Place
+place b = record { item = b.item; nodes = b.node_count; codes = b.code_count; names = b.name_count; cursor = b.cursor; settings = b.settings }
+
+abbrev pub columns : GraphBuilder → Cols
+columns b = cols b.edges.now b.codes.now b.names.now b.labels.now
+
+-- the current node's number, absent where there is none
+abbrev pub cursor_node : Option ℕ → ℕ
+cursor_node None = absent
+cursor_node (Some v) = v
 
 -- the code starts that code words give, by the sheet's kinds and spans
 unfoldable pub painted : List ℕ → List ℕ → List ℕ → List ℕ → List ℕ
@@ -42,7 +59,7 @@ node_of_name w = cond (eqb (w % 2 ^ 16) 65535) absent (w % 2 ^ 16)
 abbrev pub name_item : ℕ → ℕ
 name_item w = w / 2 ^ 16 % 2 ^ 16
 
-unfoldable pub graph_of : List ℕ → List ℕ → GraphBuilder → Cols → Graph
+unfoldable pub graph_of : List ℕ → List ℕ → Place → Cols → Graph
 graph_of ks ss b x = record {
   nodes = record {
     first = map lo (take b.nodes x.edges);
@@ -58,14 +75,14 @@ graph_of ks ss b x = record {
     node = map node_of_name (take b.names x.names);
     scope_end = map hi (take b.names x.names);
   };
-  current = b.cursor;
+  current = cursor_node b.cursor;
 }
 
-unfoldable pub settings_of : GraphBuilder → Cols → Settings
+unfoldable pub settings_of : Place → Cols → Settings
 settings_of b x = record { break_to = b.settings.break_target; continue_to = b.settings.continue_target; scope_end = b.settings.scope_end; labels = label_list b.settings.labels x.labels }
 
 -- other settings with the same place, counts and current node
-abbrev pub within : BlockSettings → GraphBuilder → GraphBuilder
+abbrev pub within : BlockSettings → Place → Place
 within st b = record {
   item = b.item;
   nodes = b.nodes;
@@ -76,7 +93,7 @@ within st b = record {
 }
 
 -- the columns are wide enough, and all that they hold are nodes and items that were read
-pub record Good (b : GraphBuilder) (x : Cols) : Type 0 where
+pub record Good (b : Place) (x : Cols) : Type 0 where
   pub wide_edges : 1600 ≤ length x.edges
   pub wide_codes : 1024 ≤ length x.codes
   pub wide_names : 1024 ≤ length x.names
@@ -87,7 +104,7 @@ pub record Good (b : GraphBuilder) (x : Cols) : Type 0 where
   pub codes : b.codes ≤ b.item
   pub names : b.names ≤ b.item
   pub labels : b.settings.labels ≤ b.nodes
-  pub cursor : (b.cursor < b.nodes) ⊎ (b.cursor ≡ absent)
+  pub cursor : IfSome b.cursor (λ v. v < b.nodes)
   pub break_target : b.settings.break_target < b.nodes
   pub continue_target : b.settings.continue_target < b.nodes
   pub scope_end : b.settings.scope_end < 2 ^ 32
@@ -97,13 +114,13 @@ pub record Good (b : GraphBuilder) (x : Cols) : Type 0 where
   pub label_nodes : (k : ℕ) → k < b.settings.labels → hi (get_or x.labels k 0) < b.nodes
 
 -- the current node, if there is one, has its place among the edges
-pub record Standing (b : GraphBuilder) (es : List ℕ) : Type 0 where
-  pub cursor : (b.cursor < b.nodes) ⊎ (b.cursor ≡ absent)
+pub record Standing (b : Place) (es : List ℕ) : Type 0 where
+  pub cursor : IfSome b.cursor (λ v. v < b.nodes)
   pub nodes : b.nodes ≤ length es
   pub few : b.nodes ≤ 1600
 
 -- counts grow, lengths stay, and so does what lies past the counts and the labels that were in force
-pub record Grown (b : GraphBuilder) (x : Cols) (r : GraphBuilder) (y : Cols) : Type 0 where
+pub record Grown (b : Place) (x : Cols) (r : Place) (y : Cols) : Type 0 where
   pub nodes : b.nodes ≤ r.nodes
   pub codes : b.codes ≤ r.codes
   pub names : b.names ≤ r.names
@@ -118,7 +135,7 @@ pub record Grown (b : GraphBuilder) (x : Cols) (r : GraphBuilder) (y : Cols) : T
   pub labels_length : length y.labels ≡ length x.labels
 
 -- one operation, with no item read: n nodes more, and the graph that f makes of the graph before
-pub record Did (ks : List ℕ) (f : List ℕ → Graph → Graph) (n : ℕ) (b : GraphBuilder) (x : Cols) (r : GraphBuilder) (y : Cols) : Type 0 where
+pub record Did (ks : List ℕ) (f : List ℕ → Graph → Graph) (n : ℕ) (b : Place) (x : Cols) (r : Place) (y : Cols) : Type 0 where
   pub good : Good r y
   pub grown : Grown b x r y
   pub item : r.item ≡ b.item
@@ -127,17 +144,41 @@ pub record Did (ks : List ℕ) (f : List ℕ → Graph → Graph) (n : ℕ) (b :
   pub settings : settings_of r y ≡ settings_of b x
   pub built : (ss : List ℕ) → graph_of ks ss r y ≡ f ss (graph_of ks ss b x)
 
--- a call from b to r does that operation, if the columns are good
-abbrev pub Does : List ℕ → (List ℕ → Graph → Graph) → ℕ → GraphBuilder → GraphBuilder → Lent → Type 0
-Does ks f n b r x = Good b (x held) → Did ks f n b (x held) r (x left)
+-- a call that leaves b as r does that operation, if the columns are good
+abbrev pub Does : List ℕ → (List ℕ → Graph → Graph) → ℕ → GraphBuilder → GraphBuilder → Type 0
+Does ks f n b r = Good (place b) (columns b) → Did ks f n (place b) (columns b) (place r) (columns r)
 
 -- the same with the span of item i, which gives its node a code start (true) or none (false)
-abbrev pub DoesCode : List ℕ → ℕ → Bool → (ℕ → Graph → Graph) → ℕ → GraphBuilder → GraphBuilder → Lent → Type 0
-DoesCode ks i starts f n b r x = Good b (x held) → has_start (get_or ks i 0) ≡ starts → Did ks (λ ss. f (get_or ss i 0)) n b (x held) r (x left)
+abbrev pub DoesCode : List ℕ → ℕ → Bool → (ℕ → Graph → Graph) → ℕ → GraphBuilder → GraphBuilder → Type 0
+DoesCode ks i starts f n b r = Good (place b) (columns b) → has_start (get_or ks i 0) ≡ starts → Did ks (λ ss. f (get_or ss i 0)) n (place b) (columns b) (place r) (columns r)
 
 -- "then condition to body unless true, to after unless false. UNTIL records its span at condition": the three nodes stand in a row
 abbrev pub repeat_end : Truth → ℕ → ℕ → Graph → Graph
 repeat_end t body s g = set_current (body + 2) (record_code s (body + 1) (unless_false t (connect (body + 1) (body + 2)) (unless_true t (connect (body + 1) body) g)))
+
+-- ---- which columns a call writes: the others are as they were, and each is still the column that was lent
+
+-- the sheet, and the columns by name
+abbrev pub Kept : GraphBuilder → GraphBuilder → Type 0
+Kept b r = (r.kinds ≡ b.kinds) × (r.edges.ghost_name ≡ b.edges.ghost_name) × (r.codes.ghost_name ≡ b.codes.ghost_name) × (r.names.ghost_name ≡ b.names.ghost_name) × (r.labels.ghost_name ≡ b.labels.ghost_name)
+
+abbrev pub EdgesOnly : GraphBuilder → GraphBuilder → Type 0
+EdgesOnly b r = (r.kinds ≡ b.kinds) × (r.edges.ghost_name ≡ b.edges.ghost_name) × (r.codes ≡ b.codes) × (r.names ≡ b.names) × (r.labels ≡ b.labels)
+
+abbrev pub CodesOnly : GraphBuilder → GraphBuilder → Type 0
+CodesOnly b r = (r.kinds ≡ b.kinds) × (r.edges ≡ b.edges) × (r.codes.ghost_name ≡ b.codes.ghost_name) × (r.names ≡ b.names) × (r.labels ≡ b.labels)
+
+abbrev pub NamesOnly : GraphBuilder → GraphBuilder → Type 0
+NamesOnly b r = (r.kinds ≡ b.kinds) × (r.edges ≡ b.edges) × (r.codes ≡ b.codes) × (r.names.ghost_name ≡ b.names.ghost_name) × (r.labels ≡ b.labels)
+
+abbrev pub EdgesAndCodes : GraphBuilder → GraphBuilder → Type 0
+EdgesAndCodes b r = (r.kinds ≡ b.kinds) × (r.edges.ghost_name ≡ b.edges.ghost_name) × (r.codes.ghost_name ≡ b.codes.ghost_name) × (r.names ≡ b.names) × (r.labels ≡ b.labels)
+
+abbrev pub EdgesAndLabels : GraphBuilder → GraphBuilder → Type 0
+EdgesAndLabels b r = (r.kinds ≡ b.kinds) × (r.edges.ghost_name ≡ b.edges.ghost_name) × (r.codes ≡ b.codes) × (r.names ≡ b.names) × (r.labels.ghost_name ≡ b.labels.ghost_name)
+
+abbrev pub LabelsKept : GraphBuilder → GraphBuilder → Type 0
+LabelsKept b r = (r.kinds ≡ b.kinds) × (r.edges.ghost_name ≡ b.edges.ghost_name) × (r.codes.ghost_name ≡ b.codes.ghost_name) × (r.names.ghost_name ≡ b.names.ghost_name) × (r.labels ≡ b.labels)
 
 -- ---- the labels standing directly in a block
 
@@ -146,7 +187,7 @@ abbrev pub LabelsFit : List ℕ → Type 0
 LabelsFit ks = (i : ℕ) → i < length ks → kind_of (get_or ks i 0) ≡ 12 → argument_of (get_or ks i 0) < 2 ^ 32
 
 -- the names as' have nodes and are in force
-pub record Entered (ks as' : List ℕ) (b : GraphBuilder) (x : Cols) (r : GraphBuilder) (y : Cols) : Type 0 where
+pub record Entered (ks as' : List ℕ) (b : Place) (x : Cols) (r : Place) (y : Cols) : Type 0 where
   pub good : Good r y
   pub grown : Grown b x r y
   pub item : r.item ≡ b.item
@@ -161,9 +202,9 @@ pub record Entered (ks as' : List ℕ) (b : GraphBuilder) (x : Cols) (r : GraphB
   pub in_force : label_list r.settings.labels y.labels ≡ with_labels as' b.nodes (label_list b.settings.labels x.labels)
   pub built : (ss : List ℕ) → graph_of ks ss r y ≡ new_nodes as' (graph_of ks ss b x)
 
--- a call from b to r enters the names as', if the columns are good
-abbrev pub Enters : List ℕ → List ℕ → GraphBuilder → GraphBuilder → Lent → Type 0
-Enters ks as' b r x = Good b (x held) → Entered ks as' b (x held) r (x left)
+-- a call that leaves b as r enters the names as', if the columns are good
+abbrev pub Enters : List ℕ → List ℕ → GraphBuilder → GraphBuilder → Type 0
+Enters ks as' b r = Good (place b) (columns b) → Entered ks as' (place b) (columns b) (place r) (columns r)
 
 -- ---- statements of one item
 
@@ -175,19 +216,11 @@ labelled a ls s g = cond (eqb a 0) g (stand_at (label_node a ls) s g)
 abbrev pub gone : ℕ → List Label → ℕ → Graph → Graph
 gone a ls s = jump s (or_break (label_node a ls))
 
--- the kinds whose statement asks for no label, by the targets of BREAK and CONTINUE
-unfoldable pub coded : ℕ → ℕ → ℕ → ℕ → ℕ → Graph → Graph
-coded k a break_to continue_to s g =
-    cond (eqb k BREAK) (jump s break_to g)
-    (cond (eqb k CONTINUE) (jump s continue_to g)
-    (cond (eqb k RETURN) (jump s (cond (eqb a 1) ReturnValue ReturnEmpty) g)
-    (cond (eqb k CALL && raises a) (jump s Error g) (code s g))))
-
 -- how many nodes a statement of one item makes; a label's node is made as its block is entered
 abbrev pub simple_made : ℕ → ℕ
 simple_made k = cond (member k (NAME ∷ LABEL ∷ EMPTY ∷ [])) 0 1
 
--- a call from b to r does the statement of the one item i, whose word is w
-abbrev pub DoesSimple : List ℕ → ℕ → ℕ → GraphBuilder → GraphBuilder → Lent → Type 0
-DoesSimple ks i w b r x =
-    get_or ks i 0 ≡ w → Did ks (λ ss. simple_stmt (kind_of w) (argument_of w) (get_or ss i 0) (settings_of b (x held))) (simple_made (kind_of w)) b (x held) r (x left)
+-- a call that leaves b as r does the statement of the one item i, whose word is w
+abbrev pub DoesSimple : List ℕ → ℕ → ℕ → GraphBuilder → GraphBuilder → Type 0
+DoesSimple ks i w b r =
+    get_or ks i 0 ≡ w → Did ks (λ ss. simple_stmt (kind_of w) (argument_of w) (get_or ss i 0) (settings_of (place b) (columns b))) (simple_made (kind_of w)) (place b) (columns b) (place r) (columns r)

@@ -1,6 +1,6 @@
 -- From the words of a built graph, taken apart, to the columns of its chart.
 -- Assumes nothing.
-use mathlib.Core.Path.{◌≡◌, refl, sym, ap, ◌∙◌, subst, subst₃}
+use mathlib.Core.Path.{◌≡◌, refl, sym, ap, ◌∙◌, subst}
 use mathlib.Core.List.{List, ◌++◌, map}
 use Prim.Native.Nat.{ℕ, ◌≤◌, ◌<◌}
 use native.Mathlib.Omega.{arith}
@@ -12,11 +12,10 @@ use Rattle.flow.specs.Graph.{Graph, node_count, entry_node, graph}
 use Rattle.flow.specs.Reachable.{reachable, counts_of}
 use Rattle.flow.specs.Admitted.{AdmittedSheet}
 use Rattle.flow.proofs.Flags.{reachable_length}
-use Rattle.cfg_steps.specs.declared.GraphBuilder.{GraphBuilder}
 use Rattle.cfg_edges.specs.Halves.{lo, hi}
 use Rattle.cfg_steps.specs.Columns.{cols, node_of_name, name_item, painted, graph_of}
 use Rattle.cfg_steps.proofs.Ops.{painted_length}
-use Rattle.cfg.specs.Steps.{Sane, Wide as WideWords, WholeRoom, Whole}
+use Rattle.cfg.specs.Steps.{Sane, Wide as WideWords, WholeRoom, Whole, counted}
 use Rattle.cfg.proofs.Sanity.{sane, whole_room}
 use Rattle.cfg.proofs.Sheets.{is_graph}
 use Rattle.code_columns.specs.Words.{CodeWithin}
@@ -43,11 +42,9 @@ build_asks {S} edges codes names labels p a b c d = (
   subst (λ (k : List ℕ). WholeRoom k) (sym p.kinds) (whole_room S p.admitted),
 )
 
-module _ {S ks ss : List ℕ} {e : ℕ} (p : PartsOf S ks ss e) {f cn nn r f' cn' nn' r' : List ℕ} {b : GraphBuilder} (w : Whole ks ss e (cols f cn nn r) b (cols f' cn' nn' r')) where
-  is_built : graph_of ks ss b (cols f' cn' nn' r') ≡ graph S
-  is_built =
-      (λ i. graph_of (p.kinds i) (p.spans i) b (cols f' cn' nn' r'))
-      ∙ is_graph S (subst₃ (λ (a c : List ℕ) (d : ℕ). Whole a c d (cols f cn nn r) b (cols f' cn' nn' r')) p.kinds p.spans p.outer w)
+module _ {S ks ss : List ℕ} {e : ℕ} (p : PartsOf S ks ss e) {f cn nn r f' cn' nn' r' : List ℕ} {b : Counts} (w : Whole ks ss e (cols f cn nn r) b (cols f' cn' nn' r')) where
+  is_built : graph_of ks ss (counted b w.item w.cursor w.settings) (cols f' cn' nn' r') ≡ graph S
+  is_built = is_graph S p.kinds p.spans p.outer w
 
   -- what the code and name words name
   pub codes_within : (k : ℕ) → k < b.codes → CodeWithin b.nodes ks ss (get_or cn' k 0)

@@ -32,18 +32,19 @@ fn write_chart(
     requires wide { Wide (columns first.old second.old start.old reachable.old code_span.old code_node.old name_span.old name_node.old name_end.old) }
     ensures { ChartedOf kinds.now spans.now scope_end result (lent first second start reachable code_span code_node name_span name_node name_end) }
 {
-    let b = of_block(kinds, first, code_node, name_node, reachable, scope_end);
-    let nodes = b.nodes;
-    let codes = b.codes;
-    let names = b.names;
-    split_nodes(first, second, start, reachable, nodes);
-    split_codes(kinds, spans, code_node, code_span, start, codes, nodes);
-    split_names(spans, name_node, name_span, name_end, names);
-    Counts {
-        nodes,
-        codes,
-        names,
-    }
+    let counts = of_block(kinds, first, code_node, name_node, reachable, scope_end);
+    split_nodes(first, second, start, reachable, counts.nodes);
+    split_codes(
+        kinds,
+        spans,
+        code_node,
+        code_span,
+        start,
+        counts.codes,
+        counts.nodes,
+    );
+    split_names(spans, name_node, name_span, name_end, counts.names);
+    counts
 }
 
 // The chart of a sheet that is admitted.

@@ -3,5 +3,5 @@
 use Rattle.cfg_steps.proofs.Loops.{arms_end_did}
 use Rattle.cfg_steps.proofs.GraphBuilder.arms_end.Goals as goal
 
-pub returns : goal.returns
-returns c = λ ks k n l ok. arms_end_did ks _ _ k n l ok c.args.test c.args.join c.args.falls _ c.connect_if.ensures c.requires.test_lt_nodes.0 c.requires.test_lt_nodes.1
+pub returns-clause-built : goal.returns-clause-built
+returns-clause-built c = λ ks ok. arms_end_did ks _ _ _ _ _ ok c.args.test c.args.join c.args.falls _ (rw c.then_some.ensures at c.connect.ensures) c.requires.test_lt_nodes.0 c.requires.test_lt_nodes.1

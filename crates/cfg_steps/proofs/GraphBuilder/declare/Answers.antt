@@ -4,5 +4,5 @@ use native.Mathlib.Omega.{arith}
 use Rattle.cfg_steps.proofs.Ops.{declare_did}
 use Rattle.cfg_steps.proofs.GraphBuilder.declare.Goals as goal
 
-pub returns : goal.returns
-returns c = λ ks e k l ok. declare_did ks _ e k _ l ok _ (omega arith) c.requires.i_lt_item.0 c.requires.names_in_bounds.1
+pub returns-clause-built : goal.returns-clause-built
+returns-clause-built c = λ ks ok. rw (c.push.ensures.0, c.push.ensures.1, c.node_in_name-node.ensures) (declare_did ks _ _ _ _ _ ok _ (omega arith) c.requires.i_lt_item.0 c.requires.names_in_bounds.1)

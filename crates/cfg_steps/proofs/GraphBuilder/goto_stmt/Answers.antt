@@ -6,12 +6,12 @@ use Rattle.flow.specs.Graph.{jump, or_break}
 use Rattle.cfg_steps.proofs.Simple.{did_as, may_jump, label_below}
 use Rattle.cfg_steps.proofs.GraphBuilder.goto_stmt.Goals as goal
 
-pub returns-in_default : goal.returns-in_default
-returns-in_default c = λ ks n ok q. did_as refl (λ ss g. ap (λ f. jump (get_or ss c.args.i 0) (or_break f) g) (sym (sym c.label_node.ensures ∙ c.in_default.is))) (c.jump.ensures ks n _ ok q)
+pub returns-in_default-clause-built : goal.returns-in_default-clause-built
+returns-in_default-clause-built c = λ ks ok q. did_as refl (λ ss g. ap (λ f. jump (get_or ss c.args.i 0) (or_break f) g) (sym (sym c.label_node.ensures ∙ c.in_default.is))) (c.jump.ensures.built ks ok q)
 
 pub jump-requires-2 : goal.jump-requires-2
 jump-requires-2 c =
-    let r = may_jump _ _ c.requires.by_index.1 c.requires.nodes_bound.0 c.requires.nodes_bound.1 c.requires.nodes_bound.2 (label_below c.args.name c.requires.by_index.1 (sym c.label_node.ensures ∙ c.in-At.is)) in record { standing = r.0; nodes_in_bounds = r.1.0; codes_in_bounds = r.1.1 }
+    let r = may_jump _ _ c.requires.good c.requires.nodes_bound.0 c.requires.nodes_bound.1 c.requires.nodes_bound.2 (label_below c.args.name c.requires.good (sym c.label_node.ensures ∙ c.in-At.is)) in record { standing = r.0; nodes_in_bounds = r.1.0; codes_in_bounds = r.1.1 }
 
-pub returns : goal.returns
-returns c = λ ks n ok q. did_as refl (λ ss g. ap (λ f. jump (get_or ss c.args.i 0) (or_break f) g) (sym (sym c.label_node.ensures ∙ c.in-At.is))) (c.jump-2.ensures ks n _ ok q)
+pub returns-clause-built : goal.returns-clause-built
+returns-clause-built c = λ ks ok q. did_as refl (λ ss g. ap (λ f. jump (get_or ss c.args.i 0) (or_break f) g) (sym (sym c.label_node.ensures ∙ c.in-At.is))) (c.jump-2.ensures.built ks ok q)

@@ -3,5 +3,5 @@
 use Rattle.cfg_steps.proofs.Scan.{label_entered}
 use Rattle.cfg_steps.proofs.GraphBuilder.new_label.Goals as goal
 
-pub returns : goal.returns
-returns c = λ ks k n ok. label_entered ks _ _ k n _ _ ok c.requires.nodes_bound.0 c.requires.nodes_bound.1
+pub returns-clause-entered : goal.returns-clause-entered
+returns-clause-entered c = λ ks ok. rw (c.push.ensures.0, c.push.ensures.1, c.push-2.ensures.0, c.push-2.ensures.1) (label_entered ks _ _ _ _ _ _ ok c.requires.nodes_bound.0 c.requires.nodes_bound.1)

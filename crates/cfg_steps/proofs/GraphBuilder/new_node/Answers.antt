@@ -3,5 +3,5 @@
 use Rattle.cfg_steps.proofs.Ops.{new_did}
 use Rattle.cfg_steps.proofs.GraphBuilder.new_node.Goals as goal
 
-pub returns : goal.returns
-returns c = λ ks k n l ok. new_did ks _ _ k n l ok c.requires.1
+pub returns-clause-built : goal.returns-clause-built
+returns-clause-built c = λ ks ok. rw (c.push.ensures.0, c.push.ensures.1) (new_did ks _ _ _ _ _ ok c.requires.1)

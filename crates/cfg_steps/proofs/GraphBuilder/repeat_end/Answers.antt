@@ -4,5 +4,5 @@ use native.Mathlib.Omega.{arith}
 use Rattle.cfg_steps.proofs.Loops.{repeat_did}
 use Rattle.cfg_steps.proofs.GraphBuilder.repeat_end.Goals as goal
 
-pub returns : goal.returns
-returns c = λ ks n l ok q. repeat_did ks _ _ n l _ c.args.body c.args.j c.args.truth _ _ (c.record_code-t.ensures.does_code ks _ n l ok q) c.may_fail-fails.ensures c.may_hold-holds.ensures c.connect_if.ensures c.connect_if-2.ensures (omega arith)
+pub returns-clause-built : goal.returns-clause-built
+returns-clause-built c = λ ks ok q. repeat_did ks _ _ _ _ _ c.args.body c.args.j c.args.truth _ _ (c.record_code.ensures.does_code ks ok q) c.may_fail.ensures c.may_hold.ensures (rw c.then_some.ensures at c.connect.ensures) (rw c.then_some-2.ensures at c.connect-2.ensures) (omega (arith, c.record_code.ensures.nodes_value.0))

@@ -1,28 +1,39 @@
--- `cfg_steps::GraphBuilder::simple_stmt` meets its contract: names, labels, gotos, empty statements and statements with code.
+-- `cfg_steps::GraphBuilder::simple_stmt` meets its contract: names, labels, gotos, empty statements and statements with code, by kind.
 -- Assumes nothing.
-use mathlib.Core.Logic.{inl, inr}
-use native.Mathlib.Omega.{arith}
-use Prim.Native.Nat.{◌%◌}
-use Rattle.cfg_steps.proofs.Simple.{did_none, did_as, starts, starts_not, simple_name, simple_label, simple_goto, simple_empty, simple_code, made_none, made_one}
+use mathlib.Core.Path.{sym, ◌∙◌}
+use Rattle.std.proofs.Common.{rules}
+use Rattle.flow.specs.Sheet.{kind_of}
+use Rattle.cfg_steps.proofs.Simple.{did_none, did_as, kind_is, simple_name, simple_label, simple_goto, simple_empty, simple_break, simple_continue, simple_return, simple_raise, simple_call, Other, simple_code, made_one, starts}
 use Rattle.cfg_steps.proofs.GraphBuilder.simple_stmt.Goals as goal
+use Rattle.cfg_steps.proofs.GraphBuilder.simple_stmt.Goals.{in_default-via-in-Some-Call+else-call_raises, in_default-via-in-Some+in_default, in_default-via-in_default}
 
-pub returns-then-kind-eq-NAME : goal.returns-then-kind-eq-NAME
-returns-then-kind-eq-NAME c = λ ks e. did_as (made_none _ (inl c.if-kind-eq-NAME.true)) (λ ss g. simple_name _ _ _ _ _ g c.if-kind-eq-NAME.true) (c.declare.ensures ks _ _ _ c.requires.good)
+pub returns-in-Some-Name-clause-built : goal.returns-in-Some-Name-clause-built
+returns-in-Some-Name-clause-built c = λ ks e. let k = kind_is _ c.of.ensures c.in-Some-Name.is c.in-Some-Name.field-0-is in did_as (rw k) (λ ss g. simple_name _ _ _ _ _ g k) (c.declare.ensures.built ks c.requires.good)
 
-pub returns-then-kind-eq-LABEL : goal.returns-then-kind-eq-LABEL
-returns-then-kind-eq-LABEL c = λ ks e. did_as (made_none _ (inr (inl c.if-kind-eq-LABEL.true))) (λ ss g. simple_label _ _ _ _ _ g c.if-kind-eq-LABEL.true) (c.label_stmt.ensures ks _ c.requires.good (rw e (starts_not c.args.w c.if-kind-eq-LABEL.true)))
+pub returns-in-Some-Label-clause-built : goal.returns-in-Some-Label-clause-built
+returns-in-Some-Label-clause-built c = λ ks e. let k = kind_is _ c.of.ensures c.in-Some-Label.is c.in-Some-Label.field-0-is in did_as (rw k) (λ ss g. simple_label _ _ _ _ _ g k) (c.label_stmt.ensures.built ks c.requires.good (rw (e, k)))
 
-pub goto_stmt-requires : goal.goto_stmt-requires
-goto_stmt-requires c = record { by_index = (_, c.requires.good); nodes_bound = (omega (arith, made_one (c.args.w % 256) c.if-kind-eq-NAME.false c.if-kind-eq-LABEL.false (λ z. omega arith)), c.requires.w_bound.1, c.requires.w_bound.3) }
+pub returns-in-Some-Goto-clause-built : goal.returns-in-Some-Goto-clause-built
+returns-in-Some-Goto-clause-built c = λ ks e. let k = kind_is _ c.of.ensures c.in-Some-Goto.is c.in-Some-Goto.field-0-is in did_as (rw k) (λ ss g. simple_goto _ _ _ _ _ g k) (c.goto_stmt.ensures.built ks c.requires.good (rw (e, k)))
 
-pub returns-then-kind-eq-GOTO : goal.returns-then-kind-eq-GOTO
-returns-then-kind-eq-GOTO c = λ ks e. did_as (made_one _ c.if-kind-eq-NAME.false c.if-kind-eq-LABEL.false (λ z. omega arith)) (λ ss g. simple_goto _ _ _ _ _ g c.if-kind-eq-GOTO.true) (c.goto_stmt.ensures ks _ c.requires.good (rw e (starts c.args.w c.requires.w_bound.4 c.requires.w_bound.5 c.if-kind-eq-LABEL.false)))
+pub returns-in-Some-Empty-clause-built : goal.returns-in-Some-Empty-clause-built
+returns-in-Some-Empty-clause-built c = λ ks e. let k = kind_is _ c.of.ensures c.in-Some-Empty.is c.in-Some-Empty.field-0-is in did_as (rw k) (λ ss g. simple_empty _ _ _ _ _ g k) (did_none ks _ _ c.requires.good)
 
-pub returns-then-kind-eq-EMPTY : goal.returns-then-kind-eq-EMPTY
-returns-then-kind-eq-EMPTY c = λ ks e. did_as (made_none _ (inr (inr c.if-kind-eq-EMPTY.true))) (λ ss g. simple_empty _ _ _ _ _ g c.if-kind-eq-EMPTY.true) (did_none ks _ _ c.requires.good)
+pub returns-in-Some-Break-clause-built : goal.returns-in-Some-Break-clause-built
+returns-in-Some-Break-clause-built c = λ ks e. let k = kind_is _ c.of.ensures c.in-Some-Break.is c.in-Some-Break.field-0-is in did_as (rw k) (λ ss g. simple_break _ _ _ _ _ g k) (c.jump.ensures.built ks c.requires.good (rw (e, k)))
 
-pub code_stmt-requires : goal.code_stmt-requires
-code_stmt-requires c = record { by_index = (_, _, c.requires.good); nodes_bound = (omega (arith, made_one (c.args.w % 256) c.if-kind-eq-NAME.false c.if-kind-eq-LABEL.false c.if-kind-eq-EMPTY.false), c.requires.w_bound.1, c.requires.w_bound.3) }
+pub returns-in-Some-Continue-clause-built : goal.returns-in-Some-Continue-clause-built
+returns-in-Some-Continue-clause-built c = λ ks e. let k = kind_is _ c.of.ensures c.in-Some-Continue.is c.in-Some-Continue.field-0-is in did_as (rw k) (λ ss g. simple_continue _ _ _ _ _ g k) (c.jump-in-Some-Continue.ensures.built ks c.requires.good (rw (e, k)))
 
-pub returns : goal.returns
-returns c = λ ks e. did_as (made_one _ c.if-kind-eq-NAME.false c.if-kind-eq-LABEL.false c.if-kind-eq-EMPTY.false) (λ ss g. simple_code _ _ _ _ _ g c.if-kind-eq-NAME.false c.if-kind-eq-LABEL.false c.if-kind-eq-GOTO.false c.if-kind-eq-EMPTY.false) (c.code_stmt.ensures ks _ _ c.requires.good (rw e (starts c.args.w c.requires.w_bound.4 c.requires.w_bound.5 c.if-kind-eq-LABEL.false)))
+pub returns-in-Some-Return-clause-built : goal.returns-in-Some-Return-clause-built
+returns-in-Some-Return-clause-built c = λ ks e. let k = kind_is _ c.of.ensures c.in-Some-Return.is c.in-Some-Return.field-0-is in did_as (rw k) (λ ss g. simple_return _ _ _ _ _ g _ k c.return_exit.ensures.0) (c.jump-in-Some-Return.ensures.built ks c.requires.good (rw (e, k)))
+
+pub returns-in-Some-Call-clause-built : goal.returns-in-Some-Call-clause-built
+returns-in-Some-Call-clause-built c = λ ks e. let k = kind_is _ c.of.ensures c.in-Some-Call.is c.in-Some-Call.field-0-is in did_as (rw k) (λ ss g. simple_raise _ _ _ _ _ g k (sym c.call_raises.ensures ∙ c.if-call_raises.true)) (c.jump-in-Some-Call.ensures.built ks c.requires.good (rw (e, k)))
+
+pub returns-in_default-clause-built : goal.returns-in_default-clause-built
+returns-in_default-clause-built c = elim c.in_default.branch [
+  | in_default-via-in-Some-Call+else-call_raises w ↦ λ ks e. let k = kind_is _ c.of.ensures w.in-Some-Call.is w.in-Some-Call.field-0-is in did_as (rw k) (λ ss g. simple_call _ _ _ _ _ g k (sym w.call_raises.ensures ∙ w.if-call_raises.false)) (c.code.ensures.by_index ks c.requires.good (rw (e, k)))
+  | in_default-via-in-Some+in_default w ↦ λ ks e. let o : Other (kind_of c.args.w) = (search rules, search rules, search rules, search rules, search rules, search rules, search rules, search rules) in did_as (made_one _ o) (λ ss g. simple_code _ _ _ _ _ g o) (c.code.ensures.by_index ks c.requires.good (rw e (starts _ c.requires.w_bound.4 c.requires.w_bound.5 o.1)))
+  | in_default-via-in_default w ↦ λ ks e. let o : Other (kind_of c.args.w) = (search rules, search rules, search rules, search rules, search rules, search rules, search rules, search rules) in did_as (made_one _ o) (λ ss g. simple_code _ _ _ _ _ g o) (c.code.ensures.by_index ks c.requires.good (rw e (starts _ c.requires.w_bound.4 c.requires.w_bound.5 o.1)))
+]
