@@ -2,14 +2,22 @@
 -- Assumes nothing.
 use mathlib.Core.Path.{◌≡◌, refl, sym, ap, ◌∙◌}
 use mathlib.Core.List.{List, [], ◌∷◌, ◌++◌}
-use Prim.Native.Nat.{ℕ, ◌+◌, ◌*◌, ◌^◌, ◌<◌}
+use mathlib.Core.Bool.{Bool, true, false, cond, ◌&&◌}
+use Prim.Native.Nat.{ℕ, zero, suc, ◌+◌, ◌*◌, ◌^◌, ◌<◌}
 use native.Mathlib.Numerals.{add-one}
 use native.Mathlib.Omega.{arith}
-use lib.ListN.{length, set, length-set, length-append}
-use lib.Seq.{take-set-le, get_or-set_same, drop-set-lt}
+use lib.ListN.{length, drop, get_or, set, length-set, length-append}
+use lib.Dec.{eqb}
+use Rattle.search.proofs.Bools.{and_both}
+use Rattle.flow.specs.Sheet.{kind_of, argument_of}
+use Rattle.kinds.specs.Label.{is_label}
+use Rattle.blocks.specs.Open.{labels_here, labels_in, ends_at, depth_after}
+use Rattle.blocks.proofs.Scan.{label_kind}
+use lib.Seq.{take-set-le, get_or-set_same, drop-set-lt, get_or-drop, get_or-append_seam}
+use Rattle.std.proofs.lemmas.List.{length-drop}
 use Rattle.flow.specs.Graph.{Graph, Label, new_node, new_nodes, with_labels}
 use Rattle.cfg_edges.specs.Halves.{hi, label_list}
-use Rattle.cfg_steps.specs.Columns.{Place, Cols, cols, graph_of, Good, Entered}
+use Rattle.cfg_steps.specs.Columns.{Place, Cols, cols, graph_of, Good, Entered, LabelsFit}
 use Rattle.cfg_steps.proofs.Fits.{each_more, good_of}
 use Rattle.cfg_steps.proofs.Ops.{grown_same, grown_trans, same_labels, lo_of, hi_of, new_did}
 
@@ -111,5 +119,29 @@ label_entered ks b e c n l a ok hn ha =
       built = d.built;
     }
 
-pub entered_empty : (ks as' : List ℕ) (b : Place) (x : Cols) → as' ≡ [] → Good b x → Entered ks as' b x b x
-entered_empty ks as' b x e ok = rw e (entered_none ks b x ok)
+-- ---- the names of labels fit their words
+
+small_at : (ws : List ℕ) (d : ℕ) → LabelsFit ws → (k : ℕ) → k < length (labels_in ws d) → get_or (labels_in ws d) k 0 < 2 ^ 32
+unfolding labels_in labels_here
+small_at [] d f k h = absurd (omega arith)
+small_at (w ∷ ws) d f k h = go (ends_at (kind_of w) d) (λ j q. small_at ws (depth_after (kind_of w) d) (λ i p e. f (suc i) (omega arith) e) j q) h
+  where
+    next : ℕ
+    next = depth_after (kind_of w) d
+
+    here : (b : Bool) → (b ≡ true → kind_of w ≡ 12) → ((j : ℕ) → j < length (labels_in ws next) → get_or (labels_in ws next) j 0 < 2 ^ 32) → (k : ℕ) → k < length (cond b (argument_of w ∷ []) [] ++ labels_in ws next) → get_or (cond b (argument_of w ∷ []) [] ++ labels_in ws next) k 0 < 2 ^ 32
+    here true q r zero h = f 0 (omega arith) (q refl)
+    here true q r (suc k) h = r k (omega arith)
+    here false q r k h = r k h
+
+    go : (t : Bool) → ((j : ℕ) → j < length (labels_in ws next) → get_or (labels_in ws next) j 0 < 2 ^ 32) → k < length (cond t [] (cond (eqb d 0 && is_label w) (argument_of w ∷ []) [] ++ labels_in ws next)) → get_or (cond t [] (cond (eqb d 0 && is_label w) (argument_of w ∷ []) [] ++ labels_in ws next)) k 0 < 2 ^ 32
+    go true r h = absurd (omega arith)
+    go false r h = here (eqb d 0 && is_label w) (λ e. label_kind w (and_both (eqb d 0) (is_label w) e).1) r k h
+
+pub small_of : (ws : List ℕ) (d : ℕ) (found rest : List ℕ) {a : ℕ} → LabelsFit ws → labels_in ws d ≡ found ++ (a ∷ rest) → a < 2 ^ 32
+small_of ws d found rest {a} f e =
+    let p : length found < length (labels_in ws d) = omega (arith, ap length e, length-append found (a ∷ rest)) in
+    rw (e, get_or-append_seam found a rest 0) at (small_at ws d f (length found) p)
+
+pub fit_from : (ks : List ℕ) (j : ℕ) → LabelsFit ks → LabelsFit (drop j ks)
+fit_from ks j f i h e = rw (get_or-drop) (f (j + i) (omega (arith, length-drop j ks)) (rw (get_or-drop) at e))

@@ -5,15 +5,15 @@
 ghost use Rattle.std.specs.Prelude.{◌≡◌, true, false, cond, eqb, List, [], ◌∷◌, ℕ, ◌+◌, ◌%◌, ◌≤◌, ◌<◌, ◌^◌, length, get_or, set};
 ghost use Rattle.flow.specs.Sheet.{kind_of, argument_of};
 ghost use Rattle.flow.specs.Graph.{new_node, advance_to, code, close_into, jump, record_code, declare, connect, set_current, enter_when, unless_true, label_node};
-ghost use Rattle.blocks.specs.Open.{labels_at, labels_here};
+ghost use Rattle.blocks.specs.Open.{labels_at};
 ghost use Rattle.cfg_edges.specs.Halves.{label_list};
 ghost use Rattle.cfg_steps.specs.Columns.{place, columns, cursor_node, settings_of, Good, Standing, Does, DoesCode, DoesSimple, Enters, LabelsFit, EdgesOnly, CodesOnly, NamesOnly, EdgesAndCodes, EdgesAndLabels, LabelsKept, Kept, labelled, gone, repeat_end, simple_made};
 
 use block_settings::BlockSettings;
-use blocks::{depth_after, ends_at};
+use blocks::block_labels;
 use cfg_edges::{connect, label_node};
 use flow::{Found, Truth};
-use kinds::{Kind, call_raises, is_label, may_fail, may_hold};
+use kinds::{Kind, call_raises, may_fail, may_hold};
 use words::{ARGUMENT, HALF, NAME_ITEM, NAME_WITHOUT_NODE, NO_SUCCESSORS, exit};
 
 // The numbers that a name's word has for a node.
@@ -163,22 +163,6 @@ impl GraphBuilder<'_> {
         push(self.edges, &mut self.node_count, NO_SUCCESSORS);
     }
 
-    // The same, where an item is a named label that stands directly in the block.
-    fn label_here(&mut self, w: u64, depth: usize)
-        requires good { Good (place self.old) (columns self.old) }
-        requires depth_bound { (self.old.node_count + length (labels_here w depth) ≤ 1600) × ((kind_of w ≡ 12) → argument_of w < 2 ^ 32) }
-        ensures kept { EdgesAndLabels self.old self.new }
-        ensures entered { (ks : List ℕ) → Enters ks (labels_here w depth) self.old self.new }
-    {
-        if depth != 0 {
-            return;
-        }
-        if !is_label(w) {
-            return;
-        }
-        self.new_label(w / ARGUMENT);
-    }
-
     // Each named label standing directly in the block that starts at the builder's item gets a node, in order.
     pub fn enter_block(&mut self)
         requires item_in_bounds { (self.old.item ≤ length self.old.kinds.now) × (length self.old.kinds.now ≤ 1024) × LabelsFit self.old.kinds.now }
@@ -187,16 +171,8 @@ impl GraphBuilder<'_> {
         ensures kept { EdgesAndLabels self.old self.new }
         ensures entered { (ss : List ℕ) → length ss ≡ length self.old.kinds.now → Enters self.old.kinds.now (labels_at self.old.kinds.now ss self.old.item) self.old self.new }
     {
-        let kinds = self.kinds;
-        let mut depth = 0;
-        for j in self.item..kinds.len() {
-            let w = kinds[j];
-            let kind = w % ARGUMENT;
-            if ends_at(kind, depth) {
-                return;
-            }
-            self.label_here(w, depth);
-            depth = depth_after(kind, depth);
+        for name in block_labels(self.kinds, self.item) {
+            self.new_label(name);
         }
     }
 }

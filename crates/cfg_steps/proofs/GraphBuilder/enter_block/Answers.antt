@@ -1,30 +1,53 @@
--- `cfg_steps::GraphBuilder::enter_block` meets its contract: after some items the labels that stand directly in the block so far have their nodes.
+-- `cfg_steps::GraphBuilder::enter_block` meets its contract: the labels so far have their nodes.
 -- Assumes nothing.
+use Prim.Native.Nat.{ℕ, ◌+◌}
+use mathlib.Core.Path.{◌≡◌, refl, sym, ap, subst, ◌∙◌}
+use mathlib.Core.List.{List, [], ◌∷◌, ◌++◌, append_assoc, append-nil}
 use native.Mathlib.Omega.{arith}
-use mathlib.Core.Path.{refl, ◌∙◌, sym}
-use Rattle.blocks.proofs.Scan.{depth_step, scan_start, scan_more, scan_ended, scan_over, scan_room}
-use Rattle.cfg_steps.proofs.Scan.{entered_none, entered_trans}
+use lib.ListN.{length, drop, length-append}
+use Rattle.blocks.specs.Open.{labels_at, labels_in}
+use Rattle.blocks.proofs.Scan.{labels_law}
+use Rattle.cfg_steps.specs.Columns.{place, columns, Entered}
+use Rattle.cfg_steps.proofs.Scan.{entered_none, entered_trans, fit_from, small_of}
 use Rattle.cfg_steps.proofs.GraphBuilder.enter_block.Goals as goal
+use Rattle.cfg_steps.proofs.GraphBuilder.enter_block.Goals.{After-into_iter-name-iterator}
 
-pub loop-j-init : goal.loop-j-init
-loop-j-init c = (omega arith, (refl, refl, refl, refl, refl), λ ss e ok. scan_start (entered_none _ _ _ ok))
+-- what the iterator gives are the labels of the block
+scan : (c : After-into_iter-name-iterator) → c.into_iter-name-iterator.result ≡ labels_in (drop c.args.self.now.item c.args.self.now.kinds.now) 0
+scan c = c.into_iter-name-iterator.ensures.into_iter_gives ∙ c.block_labels-name-items.ensures.scan
 
-pub returns-then-ends_at-clause-entered : goal.returns-then-ends_at-clause-entered
-returns-then-ends_at-clause-entered c = λ ss e ok. scan_ended e (c.loop-j.invariant.2 ss e ok) (omega arith) (sym c.ends_at.ensures ∙ c.if-ends_at.true)
+gives : (c : After-into_iter-name-iterator) (ss : List ℕ) → length ss ≡ length c.args.self.now.kinds.now → c.into_iter-name-iterator.result ≡ labels_at c.args.self.now.kinds.now ss c.args.self.now.item
+gives c ss e = scan c ∙ labels_law c.args.self.now.kinds.now ss e c.args.self.now.item
 
-pub label_here-requires-clause-depth_bound : goal.label_here-requires-clause-depth_bound
-label_here-requires-clause-depth_bound c =
-    let s = c.loop-j.invariant.2 _ refl c.requires.good in
-    (scan_room refl s (omega arith) (sym c.ends_at.ensures ∙ c.if-ends_at.false) c.args.self.now.node_count s.entered.nodes (c.requires.room _ refl), c.requires.item_in_bounds.2 _ (omega arith))
+pub loop-name-init : goal.loop-name-init
+loop-name-init c = record { can = tt; finite = tt; left = refl; kept = (refl, refl, refl, refl, refl); entered = λ ks ok. entered_none ks _ _ ok }
 
-pub loop-j-preserved : goal.loop-j-preserved
-loop-j-preserved c =
-    let k = c.label_here.ensures.kept in
-    let i = c.loop-j.invariant.1 in (
-      depth_step _ c.loop-j.depth c.loop-j.j c.depth_after-depth.ensures (omega (arith, c.loop-j.invariant.0)),
-      (k.0 ∙ i.0, k.1 ∙ i.1, k.2 ∙ i.2, k.3 ∙ i.3, k.4 ∙ i.4),
-      λ ss e ok. rw c.depth_after-depth.ensures (scan_more e (c.loop-j.invariant.2 ss e ok) (omega arith) (sym c.ends_at.ensures ∙ c.if-ends_at.false) (entered_trans (c.label_here.ensures.entered _ (c.loop-j.invariant.2 ss e ok).entered.good))),
-    )
+pub new_label-requires : goal.new_label-requires
+new_label-requires c =
+    let d = (goal.at.new_label-requires c).After-into_iter-name-iterator in
+    let ks = c.args.self.now.kinds.now in
+    let n = c.loop-name.invariant.entered ks c.requires.good in
+    let all = ap length (sym c.loop-name.invariant.left ∙ gives d ks refl) in
+    let room : length c.loop-name.yielded + length c.loop-name.name-iterator ≡ length (labels_at ks ks c.args.self.now.item) = omega (arith, all, length-append c.loop-name.yielded c.loop-name.name-iterator) in
+    record {
+      good = n.good;
+      nodes_bound = (omega (arith, n.nodes, room, ap length c.in-Some.ensures.steps, c.requires.room ks refl), small_of _ _ _ _ (fit_from _ c.args.self.now.item c.requires.item_in_bounds.2) (sym (scan d) ∙ c.loop-name.invariant.left ∙ ap (λ (z : List ℕ). c.loop-name.yielded ++ z) c.in-Some.ensures.steps));
+    }
+
+pub loop-name-preserved : goal.loop-name-preserved
+loop-name-preserved c =
+    let i = c.loop-name.invariant.kept in
+    let k = c.new_label.ensures.kept in
+    record {
+      can = tt;
+      finite = tt;
+      left = c.loop-name.invariant.left ∙ ap (λ (z : List ℕ). c.loop-name.yielded ++ z) c.in-Some.ensures.steps ∙ sym (append_assoc c.loop-name.yielded (c.in-Some.name ∷ []) c.next.new.self);
+      kept = (k.0 ∙ i.0, k.1 ∙ i.1, k.2 ∙ i.2, k.3 ∙ i.3, k.4 ∙ i.4);
+      entered = λ ks ok. let n = c.loop-name.invariant.entered ks ok in entered_trans (c.new_label.ensures.entered ks n.good) c.loop-name.yielded n;
+    }
 
 pub returns-clause-entered : goal.returns-clause-entered
-returns-clause-entered c = λ ss e ok. scan_over e (c.loop-j.invariant.2 ss e ok) (omega arith)
+returns-clause-entered c =
+    λ ss e ok.
+    let all = sym (append-nil c.loop-name.yielded) ∙ ap (λ (z : List ℕ). c.loop-name.yielded ++ z) (sym c.in-None.ensures.steps.0) ∙ sym c.loop-name.invariant.left ∙ gives (goal.at.returns-clause-entered c).After-into_iter-name-iterator ss e in
+    subst (λ (z : List ℕ). Entered c.args.self.now.kinds.now z (place c.args.self.now) (columns c.args.self.now) (place c.loop-name.self) (columns c.loop-name.self)) all (c.loop-name.invariant.entered c.args.self.now.kinds.now ok)
