@@ -7,7 +7,7 @@ ghost use Rattle.sheet_parts.specs.Parts.{Counted};
 
 use count_tests::{either_miscounted, miscounted};
 use depth_tests::too_deep;
-use flow::{Refusal, Verdict};
+use flow::Refusal;
 use item_tests::bad_item;
 use line_tests::off_the_line;
 use name_tests::bad_name;
@@ -17,28 +17,28 @@ use use_tests::{bad_use, name_count};
 
 // 3 to 7, which ask of the sheet alone.
 #[tactic(auto, unfolding(flow::specs::Refusals::first_applying, flow::specs::Refusals::item_tests, flow::specs::Refusals::bad_item, flow::specs::Refusals::too_deep, flow::specs::Refusals::bad_nesting, flow::specs::Refusals::off_the_line, flow::specs::Refusals::bad_name))]
-fn item_verdict(sheet: &[u64]) -> Verdict
+fn item_verdict(sheet: &[u64]) -> Result<(), Refusal>
     requires { Counted 2 sheet.now }
     ensures { result ≡ first_applying (item_tests sheet.now) }
 {
     let outer = sheet[1];
     let items = Items::of_sheet(sheet);
     if bad_item(outer, items) {
-        return Verdict::Refused(Refusal::BadItem);
+        return Err(Refusal::BadItem);
     }
     if too_deep(items) {
-        return Verdict::Refused(Refusal::TooDeep);
+        return Err(Refusal::TooDeep);
     }
     if bad_nesting(items.words, items.spans) {
-        return Verdict::Refused(Refusal::BadNesting);
+        return Err(Refusal::BadNesting);
     }
     if off_the_line(outer, items.words, items.spans) {
-        return Verdict::Refused(Refusal::OffTheLine);
+        return Err(Refusal::OffTheLine);
     }
     if bad_name(items) {
-        return Verdict::Refused(Refusal::BadName);
+        return Err(Refusal::BadName);
     }
-    Verdict::Admitted
+    Ok(())
 }
 
 // 8: "local number not below the names, high part not 0 to 2 or 4 to 6, or start past end".
@@ -53,36 +53,33 @@ fn use_is_bad(sheet: &[u64], uses: &[u64]) -> bool
 
 // 1 to 7. `short` and `miscounted` are refusals 1 and 2 as measured: a lent column is too short, a sheet is miscounted.
 #[tactic(auto, using(crate::proofs::Verdicts::too_short, crate::proofs::Verdicts::wrong_count, crate::proofs::Verdicts::well_counted))]
-fn leading_verdict(short: bool, miscounted: bool, sheet: &[u64]) -> Verdict
+fn leading_verdict(short: bool, miscounted: bool, sheet: &[u64]) -> Result<(), Refusal>
     requires { miscounted ≡ false → Counted 2 sheet.now }
     ensures { result ≡ first_applying (leading_tests short miscounted sheet.now) }
 {
     if short {
-        return Verdict::Refused(Refusal::BenchTooSmall);
+        return Err(Refusal::BenchTooSmall);
     }
     if miscounted {
-        return Verdict::Refused(Refusal::Miscount);
+        return Err(Refusal::Miscount);
     }
     item_verdict(sheet)
 }
 
 // Of every call that takes a sheet. The call has measured its own lent columns.
-pub fn sheet_verdict(short: bool, sheet: &[u64]) -> Verdict
+pub fn sheet_verdict(short: bool, sheet: &[u64]) -> Result<(), Refusal>
     ensures { result ≡ sheet_verdict short sheet.now }
 {
     leading_verdict(short, miscounted(sheet, 2), sheet)
 }
 
 // Of every call that takes a pair. A further test of the pair comes behind 8.
-pub fn pair_verdict(short: bool, sheet: &[u64], uses: &[u64]) -> Verdict
+pub fn pair_verdict(short: bool, sheet: &[u64], uses: &[u64]) -> Result<(), Refusal>
     ensures { result ≡ pair_verdict short sheet.now uses.now }
 {
-    let leading = leading_verdict(short, either_miscounted(sheet, uses), sheet);
-    if let Verdict::Refused(refusal) = leading {
-        return Verdict::Refused(refusal);
-    }
+    leading_verdict(short, either_miscounted(sheet, uses), sheet)?;
     if use_is_bad(sheet, uses) {
-        return Verdict::Refused(Refusal::BadUse);
+        return Err(Refusal::BadUse);
     }
-    Verdict::Admitted
+    Ok(())
 }

@@ -3,12 +3,10 @@
 use mathlib.Core.Path.{◌≡◌, refl, sym, ap, ◌∙◌, subst}
 use mathlib.Core.List.{List}
 use mathlib.Core.Bool.{true}
-use Rattle.std.specs.Prelude.{Some}
+use Rattle.std.specs.Prelude.{Some, Bool, Option, None}
 use Prim.Native.Nat.{ℕ, ◌+◌, ◌≤◌, ◌<◌}
 use native.Mathlib.Omega.{arith}
 use lib.ListN.{length, get_or}
-use Rattle.flow.specs.declared.Truth.{Truth}
-use Rattle.flow.specs.declared.Truth.TheVariants.{Unknown}
 use Rattle.flow.specs.Sheet.{kind_of, condition_of, scope_end_of}
 use Rattle.flow.specs.Kinds.{literal_truth}
 use Rattle.flow.specs.Tree.{Stmt, Block, Open, while_loop, repeat_loop, for_loop, if_stmt, no_more, in_front, outer}
@@ -155,7 +153,7 @@ module _ (ks ss : List ℕ) (e : length ss ≡ length ks) (few : length ks ≤ 1
 
   -- ---- each loop
 
-  pub while_opened : {b h t r : Place} {x y z u : Cols} (truth : Truth) (s j : ℕ) → kind_of word ≡ 2 → truth ≡ literal_truth (condition_of word) → s ≡ scope_end_of word
+  pub while_opened : {b h t r : Place} {x y z u : Cols} (truth : Option Bool) (s j : ℕ) → kind_of word ≡ 2 → truth ≡ literal_truth (condition_of word) → s ≡ scope_end_of word
       → b.item ≡ i + 1 → Good b x → o.top.arms ≡ no_more
       → Did ks (λ js g. enter_when truth (new_node (code (get_or js i 0) g))) 2 b x h y → Looped ks ss s (b.nodes + 1) b.nodes h y t z
       → (t.item < length ks → j ≡ t.item + 1) → (length ks ≤ t.item → j ≡ t.item) → j ≤ length ks → t.item ≤ j
@@ -165,7 +163,7 @@ module _ (ks ss : List ℕ) (e : length ss ≡ length ks) (few : length ks ≤ 1
       loop_opened (while_loop word (get_or ss i 0) B) _ _ 2 s _ _ j at ok a (read_at ks ss e i lt ∙ read_while (item_at ks ss i) o k) hd bd j1 j2 j3 j4 tl
       (λ g c. rw (et, es, c))
 
-  pub repeat_opened : {b h t r : Place} {x y z u : Cols} (truth : Truth) (s j : ℕ) → kind_of word ≡ 3 → truth ≡ literal_truth (condition_of word) → s ≡ scope_end_of word
+  pub repeat_opened : {b h t r : Place} {x y z u : Cols} (truth : Option Bool) (s j : ℕ) → kind_of word ≡ 3 → truth ≡ literal_truth (condition_of word) → s ≡ scope_end_of word
       → b.item ≡ i + 1 → Good b x → o.top.arms ≡ no_more
       → Did ks (λ js g. advance_to b.nodes (new_node (new_node (new_node g)))) 3 b x h y → Looped ks ss s (b.nodes + 2) (b.nodes + 1) h y t z
       → (t.item < length ks → j ≡ t.item + 1) → (length ks ≤ t.item → j ≡ t.item) → j ≤ length ks → t.item ≤ j → get_or ss t.item 0 ≡ o.top.close
@@ -179,7 +177,7 @@ module _ (ks ss : List ℕ) (e : length ss ≡ length ks) (few : length ks ≤ 1
       → b.item ≡ i + 1 → Good b x → o.top.arms ≡ no_more
       → Did ks (λ js g. new_node (advance_to (b.nodes + 1) (new_node (code (get_or js i 0) g)))) 3 b x h y → Looped ks ss s (b.nodes + 1 + 1) (b.nodes + 1) h y t z
       → (t.item < length ks → j ≡ t.item + 1) → (length ks ≤ t.item → j ≡ t.item) → j ≤ length ks → t.item ≤ j
-      → Did ks (λ js g. set_current (b.nodes + 1 + 1) (unless_true Unknown (connect (b.nodes + 1) (b.nodes + 1 + 1)) g)) 0 (with_item j t) z r u → Opened ks ss i b x r u
+      → Did ks (λ js g. set_current (b.nodes + 1 + 1) (unless_true None (connect (b.nodes + 1) (b.nodes + 1 + 1)) g)) 0 (with_item j t) z r u → Opened ks ss i b x r u
   unfolding build_stmt
   for_opened {b} s j k es at ok a hd bd j1 j2 j3 j4 tl =
       let two : b.nodes + 1 + 1 ≡ b.nodes + 2 = omega arith in

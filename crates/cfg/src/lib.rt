@@ -10,7 +10,7 @@ ghost use Rattle.cfg.specs.Steps.{Sane, ForSpans, Stepped, Opened, Finished, Sco
 use block_settings::BlockSettings;
 use blocks::ends_at;
 use cfg_steps::GraphBuilder;
-use flow::{Counts, Truth};
+use flow::Counts;
 use if_builder::IfBuilder;
 use kinds::{Kind, literal_truth};
 use loop_nodes::repeat_targets;
@@ -119,7 +119,7 @@ fn for_loop(b: &mut GraphBuilder<'_>, i: usize)
     b.for_head(i);
     loop_body(b, scope_end, head + 1, head);
     b.item = past(b.item, b.kinds.len());
-    b.loop_end(head, Truth::Unknown);
+    b.loop_end(head, None);
 }
 
 // The IF of item i.

@@ -9,7 +9,7 @@ use native.Mathlib.Numerals.{sub-one}
 use native.Mathlib.Omega.{arith}
 use lib.ListN.{get_or}
 use lib.Dec.{eqb}
-use Rattle.flow.specs.declared.Found.TheVariants.{At, Nothing}
+use Rattle.std.specs.Prelude.{Some, None}
 use Rattle.flow.specs.Graph.{absent, label_node}
 use Rattle.cfg_edges.specs.Halves.{lo, hi, label_list}
 
@@ -21,11 +21,11 @@ is_node (inr e) q = absurd (q e)
 -- ---- looking a label up
 
 pub look_step : (a k : ℕ) (ls : List ℕ) → 0 < k
-    → label_node a (label_list k ls) ≡ cond (eqb a (lo (get_or ls (k - 1) 0))) (At (hi (get_or ls (k - 1) 0))) (label_node a (label_list (k - 1) ls))
+    → label_node a (label_list k ls) ≡ cond (eqb a (lo (get_or ls (k - 1) 0))) (Some (hi (get_or ls (k - 1) 0))) (label_node a (label_list (k - 1) ls))
 unfolding label_node label_list
 look_step a zero ls h = absurd (omega arith)
 look_step a (suc j) ls h = rw (sub-one (suc j))
 
-pub look_none : (a : ℕ) (ls : List ℕ) → label_node a (label_list 0 ls) ≡ Nothing
+pub look_none : (a : ℕ) (ls : List ℕ) → label_node a (label_list 0 ls) ≡ None
 unfolding label_node label_list
 look_none a ls = refl

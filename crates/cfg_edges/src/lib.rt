@@ -5,7 +5,6 @@ ghost use Rattle.std.specs.Prelude.{◌≡◌, ◌≤◌, ◌<◌, ◌^◌, leng
 ghost use Rattle.flow.specs.Graph.{label_node};
 ghost use Rattle.cfg_edges.specs.Halves.{joined_from, label_list};
 
-use flow::Found;
 use words::{ABSENT, HALF};
 
 // An edge, in the first free place of the node that it leaves; no edge where it leaves none.
@@ -29,7 +28,7 @@ pub fn connect(edges: &mut [u64], from: Option<usize>, to: usize)
 }
 
 // The node of the innermost, then latest, label of a name, among the labels in force.
-pub fn label_node(labels: &[u64], name: u64) -> Found
+pub fn label_node(labels: &[u64], name: u64) -> Option<usize>
     ensures { result ≡ label_node name (label_list (length labels.now) labels.now) }
 {
     let mut k = labels.len();
@@ -37,8 +36,8 @@ pub fn label_node(labels: &[u64], name: u64) -> Found
         k -= 1;
         let w = labels[k];
         if name == w % HALF {
-            return Found::At((w / HALF) as usize);
+            return Some((w / HALF) as usize);
         }
     }
-    Found::Nothing
+    None
 }

@@ -2,15 +2,13 @@
 -- Assumes nothing.
 use mathlib.Core.Path.{◌≡◌, refl, ap, ◌∙◌, subst}
 use mathlib.Core.Logic.{inl}
-use Rattle.std.specs.Prelude.{Option, Some, IfSome}
+use Rattle.std.specs.Prelude.{Option, Some, IfSome, None}
 use Rattle.std.specs.Bool.{then_some}
 use mathlib.Core.List.{List}
 use mathlib.Core.Bool.{Bool, true, false, cond}
 use Prim.Native.Nat.{ℕ, ◌+◌, ◌<◌}
 use native.Mathlib.Omega.{arith}
 use lib.ListN.{get_or}
-use Rattle.flow.specs.declared.Truth.{Truth}
-use Rattle.flow.specs.declared.Truth.TheVariants.{False, True, Unknown}
 use Rattle.flow.specs.Graph.{Graph, absent, connect, set_current, record_code, enter_when, unless_true, unless_false}
 use Rattle.cfg_edges.specs.Halves.{joined_from}
 use Rattle.kinds.specs.Truths.{may_fail, may_hold}
@@ -55,25 +53,25 @@ if_did ks b e c n l ok a t v false e' q ha ht hv = rw q (move_did ks b e c n l o
 pub did_at : (f : ℕ → List ℕ → Graph → Graph) {ks : List ℕ} {k h v : ℕ} {b r : Place} {x y : Cols} → h ≡ v → Did ks (f h) k b x r y → Did ks (f v) k b x r y
 did_at f {ks} {k} {b = b} {r} {x} {y} e d = subst (λ (z : ℕ). Did ks (f z) k b x r y) e d
 
-pub fails_edge : (t : Truth) (a b : ℕ) (g : Graph) → cond (may_fail t) (connect a b g) g ≡ unless_true t (connect a b) g
-fails_edge False a b g = refl
-fails_edge True a b g = refl
-fails_edge Unknown a b g = refl
+pub fails_edge : (t : Option Bool) (a b : ℕ) (g : Graph) → cond (may_fail t) (connect a b g) g ≡ unless_true t (connect a b) g
+fails_edge (Some false) a b g = refl
+fails_edge (Some true) a b g = refl
+fails_edge None a b g = refl
 
-pub holds_edge : (t : Truth) (a b : ℕ) (g : Graph) → cond (may_hold t) (connect a b g) g ≡ unless_false t (connect a b) g
-holds_edge False a b g = refl
-holds_edge True a b g = refl
-holds_edge Unknown a b g = refl
+pub holds_edge : (t : Option Bool) (a b : ℕ) (g : Graph) → cond (may_hold t) (connect a b g) g ≡ unless_false t (connect a b) g
+holds_edge (Some false) a b g = refl
+holds_edge (Some true) a b g = refl
+holds_edge None a b g = refl
 
-pub enter_held : (t : Truth) (g : Graph) → may_hold t ≡ true → g ≡ enter_when t g
-enter_held False g e = absurd (let z : ◌≡◌ {A = ℕ} 0 1 = ap (λ (b : Bool). cond b 1 0) e in omega arith)
-enter_held True g e = refl
-enter_held Unknown g e = refl
+pub enter_held : (t : Option Bool) (g : Graph) → may_hold t ≡ true → g ≡ enter_when t g
+enter_held (Some false) g e = absurd (let z : ◌≡◌ {A = ℕ} 0 1 = ap (λ (b : Bool). cond b 1 0) e in omega arith)
+enter_held (Some true) g e = refl
+enter_held None g e = refl
 
-pub enter_never : (t : Truth) (g : Graph) → may_hold t ≡ false → set_current absent g ≡ enter_when t g
-enter_never False g e = refl
-enter_never True g e = absurd (let z : ◌≡◌ {A = ℕ} 1 0 = ap (λ (b : Bool). cond b 1 0) e in omega arith)
-enter_never Unknown g e = absurd (let z : ◌≡◌ {A = ℕ} 1 0 = ap (λ (b : Bool). cond b 1 0) e in omega arith)
+pub enter_never : (t : Option Bool) (g : Graph) → may_hold t ≡ false → set_current absent g ≡ enter_when t g
+enter_never (Some false) g e = refl
+enter_never (Some true) g e = absurd (let z : ◌≡◌ {A = ℕ} 1 0 = ap (λ (b : Bool). cond b 1 0) e in omega arith)
+enter_never None g e = absurd (let z : ◌≡◌ {A = ℕ} 1 0 = ap (λ (b : Bool). cond b 1 0) e in omega arith)
 
 -- the current node is overwritten
 pub moved_twice : (u v : ℕ) (w : Bool) (a b : ℕ) (g : Graph) → set_current v (cond w (connect a b (set_current u g)) (set_current u g)) ≡ set_current v (cond w (connect a b g) g)
@@ -82,14 +80,14 @@ moved_twice u v true a b g = refl
 moved_twice u v false a b g = refl
 
 -- a span and edges leave each other alone
-span_last : (t : Truth) (body s : ℕ) (g : Graph)
+span_last : (t : Option Bool) (body s : ℕ) (g : Graph)
     → set_current (body + 2) (unless_false t (connect (body + 1) (body + 2)) (unless_true t (connect (body + 1) body) (record_code s (body + 1) g))) ≡ repeat_end t body s g
 unfolding set_current connect record_code
-span_last False body s g = refl
-span_last True body s g = refl
-span_last Unknown body s g = refl
+span_last (Some false) body s g = refl
+span_last (Some true) body s g = refl
+span_last None body s g = refl
 
-pub repeat_did : (ks e c n l : List ℕ) {b : Place} {x : Cols} (t : Place) (body j : ℕ) (truth : Truth) (e1 e2 : List ℕ) {p q : Bool}
+pub repeat_did : (ks e c n l : List ℕ) {b : Place} {x : Cols} (t : Place) (body j : ℕ) (truth : Option Bool) (e1 e2 : List ℕ) {p q : Bool}
     → (d : Did ks (λ ss. record_code (get_or ss j 0) (body + 1)) 0 b x t (cols e c n l)) → p ≡ may_fail truth → q ≡ may_hold truth → e1 ≡ joined_from (then_some p (body + 1)) body e → e2 ≡ joined_from (then_some q (body + 1)) (body + 2) e1 → body + 2 < t.nodes
     → Did ks (λ ss. repeat_end truth body (get_or ss j 0)) 0 b x (with_cursor ks t e c n l d.good (Some (body + 2))) (cols e2 c n l)
 repeat_did ks e c n l t body j truth e1 e2 {p} {q} d ep eq h1 h2 hb =
@@ -97,7 +95,7 @@ repeat_did ks e c n l t body j truth e1 e2 {p} {q} d ep eq h1 h2 hb =
     let d2 = if_did ks _ e1 c n l d1.good (body + 1) (body + 2) (Some (body + 2)) q e2 h2 (omega arith) hb hb in
     did_as (omega arith) (λ ss g. moved_twice (body + 2) (body + 2) q (body + 1) (body + 2) _ ∙ ap (set_current (body + 2)) (same_edges truth p q ep eq (record_code (get_or ss j 0) (body + 1) g)) ∙ span_last truth body (get_or ss j 0) g) (did_trans (did_trans d d1) d2)
   where
-    same_edges : (t : Truth) (p q : Bool) → p ≡ may_fail t → q ≡ may_hold t → (g : Graph)
+    same_edges : (t : Option Bool) (p q : Bool) → p ≡ may_fail t → q ≡ may_hold t → (g : Graph)
         → cond q (connect (body + 1) (body + 2) (cond p (connect (body + 1) body g) g)) (cond p (connect (body + 1) body g) g)
         ≡ unless_false t (connect (body + 1) (body + 2)) (unless_true t (connect (body + 1) body) g)
     same_edges t p q ep eq g = rw (ep, eq, fails_edge t (body + 1) body g) (holds_edge t (body + 1) (body + 2) _)

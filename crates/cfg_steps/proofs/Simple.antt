@@ -1,7 +1,7 @@
 -- Statements of one item.
 -- Assumes nothing.
 use mathlib.Core.Path.{◌≡◌, refl, sym, ◌∙◌}
-use Rattle.std.specs.Prelude.{Option, Some, MatchOption}
+use Rattle.std.specs.Prelude.{Option, Some, MatchOption, None}
 use Rattle.kinds.specs.declared.Kind.{Kind}
 use Rattle.kinds.specs.Numbers.{kind_number}
 use mathlib.Core.Logic.{◌⊎◌}
@@ -13,7 +13,6 @@ use lib.ListN.{length, get_or, take}
 use lib.Seq.{length-take-le, take-take}
 use lib.Dec.{eqb}
 use borrow.Author.Tests.{eq-eqb, ne_eqb}
-use Rattle.flow.specs.declared.Found.TheVariants.{At, Nothing}
 use Rattle.flow.specs.Sheet.{kind_of}
 use Rattle.flow.specs.Kinds.{raises}
 use Rattle.flow.specs.Graph.{Graph, Label, label_node, or_break, jump, code, declare, simple_stmt, advance_to, record_code}
@@ -60,16 +59,16 @@ may_jump i t ok hn hc hi' ht = (stands ok, ((omega (arith, ok.wide_edges), hn, h
 
 -- ---- labels
 
-found_node : (n a v k : ℕ) (ls : List ℕ) → ((j : ℕ) → j < k → hi (get_or ls j 0) < n) → label_node a (label_list k ls) ≡ At v → v < n
+found_node : (n a v k : ℕ) (ls : List ℕ) → ((j : ℕ) → j < k → hi (get_or ls j 0) < n) → label_node a (label_list k ls) ≡ Some v → v < n
 unfolding label_node label_list
 found_node n a v zero ls h e = absurd (let z : ◌≡◌ {A = ℕ} 0 1 = cc in omega arith)
 found_node n a v (suc k) ls h e = go (eqb a _) (found_node n a v k ls (λ j r. h j (omega arith))) e
   where
-    go : (t : Bool) → (label_node a (label_list k ls) ≡ At v → v < n) → cond t (At (hi (get_or ls k 0))) (label_node a (label_list k ls)) ≡ At v → v < n
+    go : (t : Bool) → (label_node a (label_list k ls) ≡ Some v → v < n) → cond t (Some (hi (get_or ls k 0))) (label_node a (label_list k ls)) ≡ Some v → v < n
     go true r q = let z : hi (get_or ls k 0) ≡ v = cc in rw (← z) (h k (omega arith))
     go false r q = r q
 
-pub label_below : {b : Place} {x : Cols} {v : ℕ} (a : ℕ) → Good b x → label_node a (label_list b.settings.labels x.labels) ≡ At v → v < b.nodes
+pub label_below : {b : Place} {x : Cols} {v : ℕ} (a : ℕ) → Good b x → label_node a (label_list b.settings.labels x.labels) ≡ Some v → v < b.nodes
 label_below {b} {x} {v} a ok e = found_node b.nodes a v b.settings.labels x.labels ok.label_nodes e
 
 module _ (a : ℕ) (ls : List Label) (s : ℕ) (g : Graph) where
@@ -77,7 +76,7 @@ module _ (a : ℕ) (ls : List Label) (s : ℕ) (g : Graph) where
   unfolding labelled
   labelled_none e = rw (eq-eqb a 0 e)
 
-  pub labelled_lost : label_node a ls ≡ Nothing → g ≡ labelled a ls s g
+  pub labelled_lost : label_node a ls ≡ None → g ≡ labelled a ls s g
   unfolding labelled
   labelled_lost e = rw e (go (eqb a 0))
     where
@@ -85,7 +84,7 @@ module _ (a : ℕ) (ls : List Label) (s : ℕ) (g : Graph) where
       go true = refl
       go false = refl
 
-  pub labelled_at : (v : ℕ) → (a ≡ 0 → ⊥) → label_node a ls ≡ At v → advance_to v (record_code s v g) ≡ labelled a ls s g
+  pub labelled_at : (v : ℕ) → (a ≡ 0 → ⊥) → label_node a ls ≡ Some v → advance_to v (record_code s v g) ≡ labelled a ls s g
   unfolding labelled
   labelled_at v q e = rw (ne_eqb a 0 q, e)
 

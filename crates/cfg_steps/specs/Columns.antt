@@ -2,7 +2,6 @@
 -- Assumes nothing: these are definitions.
 use Rattle.std.specs.Prelude.{◌≡◌, Bool, cond, List, [], ◌∷◌, map, ℕ, ◌+◌, ◌/◌, ◌%◌, ◌^◌, ◌≤◌, ◌<◌, length, take, drop, get_or, set, replicate, eqb, Option, Some, None, IfSome}
 use Rattle.search.specs.Lent.{Column}
-use Rattle.flow.specs.declared.Truth.{Truth}
 use Rattle.flow.specs.Sheet.{kind_of, argument_of, start_of, member}
 use Rattle.flow.specs.Kinds.{kinds}
 use Rattle.flow.specs.Graph.{exits, new_nodes, with_labels, stand_at, label_node, or_break, jump, connect, set_current, record_code, unless_true, unless_false, simple_stmt, Graph, Settings, Label, absent}
@@ -153,7 +152,7 @@ abbrev pub DoesCode : List ℕ → ℕ → Bool → (ℕ → Graph → Graph) �
 DoesCode ks i starts f n b r = Good (place b) (columns b) → has_start (get_or ks i 0) ≡ starts → Did ks (λ ss. f (get_or ss i 0)) n (place b) (columns b) (place r) (columns r)
 
 -- "then condition to body unless true, to after unless false. UNTIL records its span at condition": the three nodes stand in a row
-abbrev pub repeat_end : Truth → ℕ → ℕ → Graph → Graph
+abbrev pub repeat_end : Option Bool → ℕ → ℕ → Graph → Graph
 repeat_end t body s g = set_current (body + 2) (record_code s (body + 1) (unless_false t (connect (body + 1) (body + 2)) (unless_true t (connect (body + 1) body) g)))
 
 -- ---- which columns a call writes: the others are as they were, and each is still the column that was lent

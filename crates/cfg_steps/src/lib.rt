@@ -12,7 +12,6 @@ ghost use Rattle.cfg_steps.specs.Columns.{place, columns, cursor_node, settings_
 use block_settings::BlockSettings;
 use blocks::block_labels;
 use cfg_edges::{connect, label_node};
-use flow::{Found, Truth};
 use kinds::{Kind, call_raises, may_fail, may_hold};
 use words::{ARGUMENT, HALF, NAME_ITEM, NAME_WITHOUT_NODE, NO_SUCCESSORS, exit};
 
@@ -179,7 +178,7 @@ impl GraphBuilder<'_> {
 
 impl GraphBuilder<'_> {
     // The node of the innermost, then latest, label in force of a name.
-    fn label_node(&self, name: u64) -> Found
+    fn label_node(&self, name: u64) -> Option<usize>
         requires { self.now.settings.labels ≤ length self.now.labels.now }
         ensures { result ≡ label_node name (label_list self.now.settings.labels self.now.labels.now) }
     {
@@ -196,7 +195,7 @@ impl GraphBuilder<'_> {
         if name == 0 {
             return;
         }
-        let Found::At(node) = self.label_node(name) else {
+        let Some(node) = self.label_node(name) else {
             return;
         };
         self.record_code(i, node);
@@ -210,7 +209,7 @@ impl GraphBuilder<'_> {
         ensures kept { EdgesAndCodes self.old self.new }
         ensures built { (ks : List ℕ) → DoesCode ks i true (gone name (label_list self.old.settings.labels self.old.labels.now)) 1 self.old self.new }
     {
-        let Found::At(node) = self.label_node(name) else {
+        let Some(node) = self.label_node(name) else {
             return self.jump(i, exit::BREAK);
         };
         self.jump(i, node);
@@ -261,7 +260,7 @@ impl GraphBuilder<'_> {
     }
 
     // WHILE's head and the node after it; a false condition enters the body with nothing current.
-    pub fn while_head(&mut self, i: usize, truth: Truth)
+    pub fn while_head(&mut self, i: usize, truth: Option<bool>)
         requires good { Good (place self.old) (columns self.old) }
         requires nodes_bound { (self.old.node_count + 2 ≤ 1600) × (self.old.code_count < self.old.item) × (i < self.old.item) }
         ensures kept { EdgesAndCodes self.old self.new }
@@ -301,7 +300,7 @@ impl GraphBuilder<'_> {
     }
 
     // Past a loop: its head goes on to the node after it where the condition may fail, and that is current.
-    pub fn loop_end(&mut self, head: usize, truth: Truth)
+    pub fn loop_end(&mut self, head: usize, truth: Option<bool>)
         requires good { Good (place self.old) (columns self.old) }
         requires head_bound { head + 1 < self.old.node_count }
         ensures kept { EdgesOnly self.old self.new }
@@ -313,7 +312,7 @@ impl GraphBuilder<'_> {
     }
 
     // Past a REPEAT: the span of item j at its condition, which goes back to the body and on to the node after.
-    pub fn repeat_end(&mut self, j: usize, body: usize, truth: Truth)
+    pub fn repeat_end(&mut self, j: usize, body: usize, truth: Option<bool>)
         requires good { Good (place self.old) (columns self.old) }
         requires body_bound { (body + 2 < self.old.node_count) × (self.old.code_count < self.old.item) × (j < self.old.item) }
         ensures kept { EdgesAndCodes self.old self.new }

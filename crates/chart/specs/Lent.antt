@@ -1,16 +1,15 @@
 -- What a chart's columns hold, by the sheet and by what they held before.
 -- Assumes nothing: these are definitions.
-use Rattle.std.specs.Prelude.{◌≡◌, Bool, List, [], ◌∷◌, ◌++◌, ℕ, ◌≤◌, ◌<◌, length, get_or, drop}
+use Rattle.std.specs.Prelude.{◌≡◌, Bool, List, [], ◌∷◌, ◌++◌, ℕ, ◌≤◌, ◌<◌, length, get_or, drop, Ok, Err}
 use Rattle.search.specs.Lent.{Column, held, left}
 use Rattle.column_lengths.specs.Lengths.{chart_too_short}
 use Rattle.flow.specs.declared.Counts.{Counts}
-use Rattle.flow.specs.declared.Verdict.{Verdict}
-use Rattle.flow.specs.declared.Verdict.TheVariants.{Admitted, Refused}
 use Rattle.flow.specs.Sheet.{kind_words, span_words, outer_end}
 use Rattle.flow.specs.Locals.{locals}
 use Rattle.flow.specs.Admitted.{AdmittedSheet}
 use Rattle.flow.specs.Graph.{graph}
 use Rattle.flow.specs.Reachable.{reachable, counts_of, Parallel, Flagged}
+use Rattle.flow.specs.Refusals.{Verdict}
 
 -- "cells past the written entries keep their content"
 abbrev pub overlay : List ℕ → List ℕ → List ℕ
@@ -102,7 +101,7 @@ ChartedOf kinds spans e r l = (S : List ℕ) → PartsOf S kinds spans e → Cha
 
 -- "A refusal writes nothing."
 abbrev pub chart_leaves : Verdict → List ℕ → Columns → Columns
-chart_leaves v S x = elim v [ Refused r ↦ x | Admitted ↦ chart_of S x ]
+chart_leaves v S x = elim v [ Err r ↦ x | Ok tt ↦ chart_of S x ]
 
 -- what the columns of an accepted call show: those of one count are equally long, there is one local a name, and each node's flag is 1 exactly where a path from the entry leads
 pub record Shown (S : List ℕ) (y : Columns) : Type 0 where

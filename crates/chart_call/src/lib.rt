@@ -4,7 +4,7 @@
 ghost use Rattle.chart.specs.Lent.{lent};
 ghost use Rattle.chart_call.specs.Promises.{ChartPromise};
 
-use flow::{ChartAnswer, Verdict};
+use flow::{Counts, Refusal};
 
 // The graph of a sheet, in the columns that are lent.
 pub fn chart(
@@ -18,7 +18,7 @@ pub fn chart(
     name_span: &mut [u64],
     name_node: &mut [u64],
     name_end: &mut [u64],
-) -> ChartAnswer
+) -> Result<Counts, Refusal>
     ensures { ChartPromise sheet.now result (lent first second start reachable code_span code_node name_span name_node name_end) }
 {
     let short = column_lengths::chart_short(
@@ -32,13 +32,9 @@ pub fn chart(
         name_node.len(),
         name_end.len(),
     );
-    let verdict = admission::sheet_verdict(short, sheet);
-    if let Verdict::Refused(refusal) = verdict {
-        return ChartAnswer::Refused(refusal);
-    }
-    let counts = chart::of_sheet(
+    admission::sheet_verdict(short, sheet)?;
+    Ok(chart::of_sheet(
         sheet, first, second, start, reachable, code_span, code_node, name_span, name_node,
         name_end,
-    );
-    ChartAnswer::Charted(counts)
+    ))
 }

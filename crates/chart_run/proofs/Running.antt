@@ -6,9 +6,9 @@ use mathlib.Core.List.{List}
 use Prim.Native.Nat.{ℕ, ◌≤◌}
 use native.Mathlib.Omega.{arith}
 use lib.ListN.{length, take}
+use Rattle.std.specs.Prelude.{Option}
 use Rattle.flow.specs.declared.Counts.{Counts}
-use Rattle.flow.specs.declared.Found.{Found}
-use Rattle.flow.specs.declared.RunAnswer.TheVariants.{Ran}
+use Rattle.flow.specs.declared.Ran.{Ran}
 use Rattle.flow.specs.Graph.{node_count, graph}
 use Rattle.flow.specs.Reachable.{reachable, node_among, node_at, can_run}
 use Rattle.flow.specs.Admitted.{AdmittedSheet}
@@ -24,18 +24,18 @@ module _ {S : List ℕ} {r : Counts} {l : Lent} (a : AdmittedSheet S) (h : Chart
   pub node_asks : ((r.codes ≤ length y.codes.span) × (r.codes ≤ length y.codes.node)) × Rising r.codes y.codes.span
   node_asks = (((spans_read a h).long, (code_nodes_read a h).long), ends_rise a h)
 
-  pub place_is : (o : ℕ) {p : Found} → p ≡ node_among (take r.codes y.codes.span) (take r.codes y.codes.node) o → p ≡ node_at (graph S) o
+  pub place_is : (o : ℕ) {p : Option ℕ} → p ≡ node_among (take r.codes y.codes.span) (take r.codes y.codes.node) o → p ≡ node_at (graph S) o
   unfolding node_at
   place_is o e = e ∙ ap₂ (λ (s n : List ℕ). node_among s n o) (spans_read a h).cells (code_nodes_read a h).cells
 
-  pub place_in : (o : ℕ) {p : Found} → p ≡ node_at (graph S) o → Within (node_count (graph S)) p
+  pub place_in : (o : ℕ) {p : Option ℕ} → p ≡ node_at (graph S) o → Within (node_count (graph S)) p
   place_in o e v q = code_node_law S o v (sym e ∙ q)
 
-  pub place_long : (o : ℕ) {p : Found} → p ≡ node_at (graph S) o → Within (length y.nodes.reachable) p
+  pub place_long : (o : ℕ) {p : Option ℕ} → p ≡ node_at (graph S) o → Within (length y.nodes.reachable) p
   place_long o e v q = omega (arith, place_in o e v q, (flags_read a h).long, nodes_are a h)
 
   pub flags_are : take (node_count (graph S)) y.nodes.reachable ≡ reachable (graph S)
   flags_are = ap (λ (k : ℕ). take k y.nodes.reachable) (sym (nodes_are a h)) ∙ (flags_read a h).cells
 
-pub ran : (S : List ℕ) (o : ℕ) {p : Found} {b : Bool} → p ≡ node_at (graph S) o → b ≡ can_run (graph S) p → Ran p b ≡ Ran (node_at (graph S) o) (can_run (graph S) (node_at (graph S) o))
-ran S o e f = ap₂ Ran e (f ∙ ap (can_run (graph S)) e)
+pub ran : (S : List ℕ) (o : ℕ) {p : Option ℕ} {b : Bool} → p ≡ node_at (graph S) o → b ≡ can_run (graph S) p → ◌≡◌ {A = Ran} (record { node = p; can_run = b }) (record { node = node_at (graph S) o; can_run = can_run (graph S) (node_at (graph S) o) })
+ran S o e f = ap₂ (λ (q : Option ℕ) (c : Bool). record { node = q; can_run = c }) e (f ∙ ap (can_run (graph S)) e)

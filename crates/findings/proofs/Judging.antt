@@ -7,9 +7,8 @@ use native.Mathlib.Omega.{arith}
 use lib.ListN.{length, get_or, take, drop, length-map}
 use lib.Seq.{take_at}
 use mathlib.Core.Bool.{false}
+use Rattle.std.specs.Prelude.{Ok}
 use Rattle.flow.specs.declared.Counts.{Counts}
-use Rattle.flow.specs.declared.Verdict.TheVariants.{Admitted}
-use Rattle.flow.specs.declared.JudgeAnswer.TheVariants.{Judged}
 use Rattle.flow.specs.Sheet.{kind_words, use_words, use_spans}
 use Rattle.flow.specs.Refusals.{sheet_verdict}
 use Rattle.flow.specs.Graph.{graph}
@@ -29,7 +28,7 @@ use Rattle.chart.proofs.Read.{Begins, nodes_are, names_are, first_read, second_r
 use Rattle.findings.proofs.Spans.{words_known, spans_by_words}
 use Rattle.findings.specs.Accepted.{FindingsLent, Searchable, FindingsWritten, Accepted}
 
-module _ {S U : List ℕ} {r : Counts} {l : Lent} (v : sheet_verdict false S ≡ Admitted) (a : AdmittedSheet S) (u : AdmittedUses S U) (h : Charted S r l) where
+module _ {S U : List ℕ} {r : Counts} {l : Lent} (v : sheet_verdict false S ≡ Ok tt) (a : AdmittedSheet S) (u : AdmittedUses S U) (h : Charted S r l) where
   abbrev y : Columns
   y = l.after
 
@@ -123,9 +122,9 @@ module _ {S U : List ℕ} (a : AdmittedSheet S) (u : AdmittedUses S U) (c : Coun
         marks = k;
       }
 
-pub accepted : {S U : List ℕ} {l : Lent} {f : FindingsLent} {c : Counts} {r : ℕ} → AdmittedSheet S → Charted S c l → FindingsWritten S U r f → Accepted S U (Judged c r) l f
+pub accepted : {S U : List ℕ} {l : Lent} {f : FindingsLent} {c : Counts} {r : ℕ} → AdmittedSheet S → Charted S c l → FindingsWritten S U r f → Accepted S U (record { counts = c; findings = r }) l f
 accepted {S} {U} {f = f} a h g = record {
-  answer = ap₂ Judged h.counts g.count;
+  answer = ap₂ (λ (k : Counts) (n : ℕ). record { counts = k; findings = n }) h.counts g.count;
   columns = h.written;
   shown = shown a h;
   found = record { count = refl; words = g.words; spans = g.spans; marks = g.marks };

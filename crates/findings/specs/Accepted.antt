@@ -2,8 +2,7 @@
 -- Assumes nothing: these are definitions.
 use Rattle.std.specs.Prelude.{◌≡◌, List, ℕ, ◌≤◌, length, take}
 use Rattle.flow.specs.declared.Counts.{Counts}
-use Rattle.flow.specs.declared.JudgeAnswer.{JudgeAnswer}
-use Rattle.flow.specs.declared.JudgeAnswer.TheVariants.{Judged}
+use Rattle.flow.specs.declared.Judgement.{Judgement}
 use Rattle.flow.specs.Sheet.{kind_words, use_words, use_spans}
 use Rattle.flow.specs.Graph.{graph}
 use Rattle.flow.specs.Reachable.{counts_of}
@@ -43,8 +42,8 @@ pub record FindingsWritten (S U : List ℕ) (r : ℕ) (f : FindingsLent) : Type 
   pub marks : Figures S U (length (locals S)) f.before.mark f.after.mark
 
 -- the same with the chart
-pub record Accepted (S U : List ℕ) (r : JudgeAnswer) (l : Lent) (f : FindingsLent) : Type 0 where
-  pub answer : r ≡ Judged (counts_of (graph S)) (length (findings S U))
+pub record Accepted (S U : List ℕ) (r : Judgement) (l : Lent) (f : FindingsLent) : Type 0 where
+  pub answer : r ≡ record { counts = counts_of (graph S); findings = length (findings S U) }
   pub columns : l.after ≡ chart_of S l.before
   pub shown : Shown S l.after
   pub found : FindingsWritten S U (length (findings S U)) f

@@ -8,8 +8,8 @@ use native.Mathlib.Omega.{arith}
 use borrow.Author.Tests.{ltb-true, leb-true, not-false}
 use lib.Dec.{leb, ltb}
 use lib.ListN.{length, get_or, length-take, length-drop}
+use Rattle.std.specs.Prelude.{Ok}
 use Rattle.search.proofs.Bools.{neither, and_both}
-use Rattle.flow.specs.declared.Verdict.TheVariants.{Admitted}
 use Rattle.flow.specs.Sheet.{count_word, kind_words, span_words, items, member, use_words, use_spans, local_of, use_kind_of}
 use Rattle.flow.specs.Kinds.{is_code}
 use Rattle.flow.specs.Refusals.{miscount, bad_item, too_deep, bad_nesting, off_the_line, bad_name, name_count, use_fits, uses_fit, bad_use, first_applying, item_tests, sheet_tests, pair_tests, sheet_verdict, pair_verdict}
@@ -22,7 +22,7 @@ use Rattle.flow.proofs.Room.{length_zip, roomy}
 use Rattle.flow.proofs.Written.{graph_columns}
 use Rattle.flow.proofs.Spans.{tree_codes, tree_names, name_count_law, names_spans, few_spans, ends_rise}
 
-module _ (S : List ℕ) (e : sheet_verdict false S ≡ Admitted) where
+module _ (S : List ℕ) (e : sheet_verdict false S ≡ Ok tt) where
   passes : Passed S
   passes = sheet_passed false S e
 
@@ -78,9 +78,9 @@ module _ (S : List ℕ) (e : sheet_verdict false S ≡ Admitted) where
 
 -- ---- the calls that lend columns, and those that take a pair
 
-pub of_sheet : (short : Bool) (S : List ℕ) → sheet_verdict short S ≡ Admitted → (short ≡ false) × (sheet_verdict false S ≡ Admitted)
+pub of_sheet : (short : Bool) (S : List ℕ) → sheet_verdict short S ≡ Ok tt → (short ≡ false) × (sheet_verdict false S ≡ Ok tt)
 unfolding sheet_verdict sheet_tests
-of_sheet short S e = let z : short ≡ false = passed (sheet_tests short S) e 1 in (z, subst (λ (b : Bool). sheet_verdict b S ≡ Admitted) z e)
+of_sheet short S e = let z : short ≡ false = passed (sheet_tests short S) e 1 in (z, subst (λ (b : Bool). sheet_verdict b S ≡ Ok tt) z e)
 
 abbrev high_parts : List ℕ
 high_parts = 0 ∷ 1 ∷ 2 ∷ 4 ∷ 5 ∷ 6 ∷ []
@@ -94,7 +94,7 @@ uses_at_law n (w ∷ ws) ss e zero h =
     (ltb-true _ _ g.0, leb-true _ _ (every (λ x. leb (x % 4) 2) high_parts (w / 65536) refl (member_in _ high_parts g.1)))
 uses_at_law n (w ∷ ws) ss e (suc u) h = uses_at_law n ws (tail ss) (and_both (use_fits n w (get_or ss 0 0)) _ e).1 u (omega arith)
 
-module _ (short : Bool) (S U : List ℕ) (e : pair_verdict short S U ≡ Admitted) where
+module _ (short : Bool) (S U : List ℕ) (e : pair_verdict short S U ≡ Ok tt) where
   -- no test of the pair applies, by its number
   none : (k : ℕ) → applies k (pair_tests short S U) ≡ false
   unfolding pair_verdict
@@ -104,7 +104,7 @@ module _ (short : Bool) (S U : List ℕ) (e : pair_verdict short S U ≡ Admitte
   unfolding pair_tests
   counts = neither (miscount 2 S) (miscount 1 U) (none 2)
 
-  pair_sheet : sheet_verdict false S ≡ Admitted
+  pair_sheet : sheet_verdict false S ≡ Ok tt
   unfolding sheet_verdict sheet_tests pair_tests item_tests first_applying
   pair_sheet =
       let item : bad_item S ≡ false = none 3 in

@@ -10,11 +10,8 @@ use native.Mathlib.Decide.{ℕ_discrete}
 use borrow.Author.Tests.{ne_eqb}
 use lib.Dec.{eqb}
 use lib.ListN.{length, length-append, length-set}
+use Rattle.std.specs.Prelude.{Option, Some, None}
 use Rattle.search.specs.Search.{In}
-use Rattle.flow.specs.declared.Truth.{Truth}
-use Rattle.flow.specs.declared.Truth.TheVariants.{False, True, Unknown}
-use Rattle.flow.specs.declared.Found.{Found}
-use Rattle.flow.specs.declared.Found.TheVariants.{At, Nothing}
 use Rattle.flow.specs.Sheet.{items, outer_end, member, kind_of, argument_of, scope_end_of, condition_of, start_of}
 use Rattle.flow.specs.Kinds.{kinds, literal_truth, raises}
 use Rattle.flow.specs.Tree.{Stmt, Block, Arms, simple, do_block, while_loop, repeat_loop, for_loop, if_stmt, done, then, no_more, elseif, otherwise, tree, label_name, labels_of}
@@ -177,10 +174,10 @@ module _ {c d : Bool} {P : ℕ → List ℕ → List ℕ → Graph → Type 0} (
   unfolding jump
   jumped s b h r = close b (λ t. omega (arith, h t)) (coded s r)
 
-  by_truth : {n : ℕ} {cs ns : List ℕ} (t : Truth) {x y z : Graph} → Holds n cs ns x → Holds n cs ns y → Holds n cs ns z → Holds n cs ns (elim t [ False ↦ x | True ↦ y | Unknown ↦ z ])
-  by_truth False r s u = r
-  by_truth True r s u = s
-  by_truth Unknown r s u = u
+  by_truth : {n : ℕ} {cs ns : List ℕ} (t : Option Bool) {x y z : Graph} → Holds n cs ns x → Holds n cs ns y → Holds n cs ns z → Holds n cs ns (elim t [ Some false ↦ x | Some true ↦ y | None ↦ z ])
+  by_truth (Some false) r s u = r
+  by_truth (Some true) r s u = s
+  by_truth None r s u = u
 
   entering : {n : ℕ} {cs ns : List ℕ} {g : Graph} (as' : List ℕ) → Holds n cs ns g → Holds (n + length as') cs ns (new_nodes as' g)
   unfolding new_nodes
@@ -193,11 +190,11 @@ module _ {c d : Bool} {P : ℕ → List ℕ → List ℕ → Graph → Type 0} (
   unwritten true s h r = absurd (h refl)
   unwritten false s h r = r
 
-  stand : {n : ℕ} {cs ns : List ℕ} {g : Graph} (s a : ℕ) (f : Found) → (c ≡ true → Looked n (In a (a ∷ [])) f) → Holds n cs ns g → Holds n (put c s cs) ns (stand_at f s g)
-  stand s a (At v) h r = advance v (λ t. (h t).1) (span s v h r)
-  stand s a Nothing h r = unwritten c s (λ t. h t (inl refl)) r
+  stand : {n : ℕ} {cs ns : List ℕ} {g : Graph} (s a : ℕ) (f : Option ℕ) → (c ≡ true → Looked n (In a (a ∷ [])) f) → Holds n cs ns g → Holds n (put c s cs) ns (stand_at f s g)
+  stand s a (Some v) h r = advance v (λ t. (h t).1) (span s v h r)
+  stand s a None h r = unwritten c s (λ t. h t (inl refl)) r
 
-  label : {n : ℕ} {cs ns : List ℕ} {g : Graph} (s a : ℕ) (f : Found) (b : Bool) → (c ≡ true → Looked n (In a (cond (not b) (a ∷ []) [])) f) → Holds n cs ns g
+  label : {n : ℕ} {cs ns : List ℕ} {g : Graph} (s a : ℕ) (f : Option ℕ) (b : Bool) → (c ≡ true → Looked n (In a (cond (not b) (a ∷ []) [])) f) → Holds n cs ns g
       → Holds (n + (cond b 0 1 - length (cond (not b) (a ∷ []) []))) (put (c && not b) s cs) ns (cond b g (stand_at f s g))
   label s a f true h r = rw (and-false c) (counted r (omega arith))
   label s a f false h r = rw (and-true c) (counted (stand s a f h r) (omega arith))

@@ -7,8 +7,7 @@ use mathlib.Core.List.{List, [], ◌∷◌, ◌++◌}
 use native.Mathlib.Omega.{arith}
 use lib.ListN.{get_or}
 use lib.Dec.{ltb}
-use Rattle.flow.specs.declared.Found.{Found}
-use Rattle.flow.specs.declared.Found.TheVariants.{At, Nothing}
+use Rattle.std.specs.Prelude.{Option, Some, None}
 use Rattle.flow.specs.Sheet.{end_of}
 use Rattle.flow.specs.Graph.{node_count, new_node, connect, set_current, record_code, set_start, declare, start_graph, graph}
 use Rattle.flow.specs.Reachable.{node_among, node_at}
@@ -40,9 +39,9 @@ codes_below : (S : List ℕ) → AllBelow (node_count (graph S)) (graph S).codes
 unfolding start_graph new_node
 codes_below S = let r = whole codes_kept S nothing_known (λ i. omega arith) in rw r.count r.holds
 
-abbrev Within : ℕ → Found → Type 0
-Within n (At v) = v < n
-Within n Nothing = Unit {0}
+abbrev Within : ℕ → Option ℕ → Type 0
+Within n (Some v) = v < n
+Within n None = Unit {0}
 
 among : (ss vs : List ℕ) (o n : ℕ) → AllBelow n vs → Within n (node_among ss vs o)
 unfolding node_among
@@ -51,6 +50,6 @@ among (s ∷ ss) [] o n h = tt
 among (s ∷ ss) (v ∷ vs) o n h = either (Within n) (ltb o (end_of s)) (h 0) (among ss vs o n (λ i. h (suc i)))
 
 -- the node of an offset is a node
-pub code_node_law : (S : List ℕ) (o v : ℕ) → node_at (graph S) o ≡ At v → v < node_count (graph S)
+pub code_node_law : (S : List ℕ) (o v : ℕ) → node_at (graph S) o ≡ Some v → v < node_count (graph S)
 unfolding node_at
 code_node_law S o v e = subst (Within (node_count (graph S))) e (among _ _ o _ (codes_below S))

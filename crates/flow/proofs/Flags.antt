@@ -10,11 +10,10 @@ use native.Mathlib.Omega.{arith}
 use borrow.Author.Tests.{ltb-true, eqb-true}
 use lib.Dec.{ltb}
 use lib.ListN.{length, get_or, take}
+use Rattle.std.specs.Prelude.{Option, Some, None}
 use Rattle.search.proofs.Bools.{and_both, not_false_true}
 use Rattle.search.specs.Search.{In, Reach, here, on, closure, filter}
 use Rattle.search.proofs.Closure.{Nodes, closure_length, closure_bits, closure_sound, closure_complete}
-use Rattle.flow.specs.declared.Found.{Found}
-use Rattle.flow.specs.declared.Found.TheVariants.{At, Nothing}
 use Rattle.flow.specs.Sheet.{member}
 use Rattle.flow.specs.Graph.{Graph, absent, node_count, entry_node, graph}
 use Rattle.flow.specs.Reachable.{successors, Reachable, Flagged, reachable, CanRun, can_run}
@@ -72,10 +71,10 @@ module _ (ws : List ℕ) where
   reachable_flagged = record { bit = λ v h. reachable_flags.bits v; exactly = λ v h. reachable_decides v }
 
   -- "yes exactly when there is none or the node is reachable"
-  pub can_run_decides : (f : Found) → (can_run (graph ws) f ≡ true) ↔ CanRun (graph ws) f
+  pub can_run_decides : (f : Option ℕ) → (can_run (graph ws) f ≡ true) ↔ CanRun (graph ws) f
   unfolding can_run
-  can_run_decides (At v) = (λ e. (reachable_decides v).0 (eqb-true (get_or (reachable (graph ws)) v 0) 1 e), λ r. rw ((reachable_decides v).1 r))
-  can_run_decides Nothing = (λ e. tt, λ u. refl)
+  can_run_decides (Some v) = (λ e. (reachable_decides v).0 (eqb-true (get_or (reachable (graph ws)) v 0) 1 e), λ r. rw ((reachable_decides v).1 r))
+  can_run_decides None = (λ e. tt, λ u. refl)
 
   pub reachable_length : length (reachable (graph ws)) ≡ node_count (graph ws)
   reachable_length = reachable_flags.size

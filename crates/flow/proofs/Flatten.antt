@@ -8,8 +8,8 @@ use mathlib.Core.List.{List, [], ◌∷◌, ◌++◌, map, append_assoc}
 use native.Mathlib.Omega.{arith}
 use borrow.Author.Tests.{eqb-true}
 use lib.Dec.{eqb, leb}
+use Rattle.std.specs.Prelude.{Ok}
 use Rattle.search.proofs.Bools.{and_both}
-use Rattle.flow.specs.declared.Verdict.TheVariants.{Admitted}
 use Rattle.flow.specs.Sheet.{Item, items, kind, kind_of, argument_of, start_of, end_of, member, all}
 use Rattle.flow.specs.Kinds.{kinds, argument_fits, spanless, item_fits, closes}
 use Rattle.flow.specs.Refusals.{pairs_up, sheet_verdict}
@@ -178,7 +178,7 @@ pub tree_items : (is : List Item) → pairs_up [] is ≡ true → flatten (tree 
 unfolding tree open_items
 tree_items is p = parsed_items (parsed [] is tt p)
 
-module _ (S : List ℕ) (e : sheet_verdict false S ≡ Admitted) where
+module _ (S : List ℕ) (e : sheet_verdict false S ≡ Ok tt) where
   pub flatten_tree : flatten (tree (items S)) ≡ items S
   flatten_tree = let p = sheet_passed false S e in tree_items (items S) p.pairs ∙ kept_all (items S) p.fits
 

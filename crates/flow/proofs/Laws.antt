@@ -11,8 +11,7 @@ use native.Mathlib.Decide.{ℕ_discrete, dec_lt}
 use borrow.Author.Tests.{eqb-true, eq-eqb}
 use lib.Dec.{eqb}
 use lib.ListN.{length, get_or}
-use Rattle.flow.specs.declared.Found.{Found}
-use Rattle.flow.specs.declared.Found.TheVariants.{At, Nothing}
+use Rattle.std.specs.Prelude.{Option, Some, None}
 use Rattle.flow.specs.Locals.{only_if}
 use Rattle.flow.specs.Findings.{is_found}
 
@@ -45,9 +44,9 @@ pub eqb_law : (a b : ℕ) → (eqb a b ≡ true) ↔ (a ≡ b)
 eqb_law a b = (eqb-true a b, eq-eqb a b)
 
 -- what is found is a node
-pub found_law : (f : Found) → (is_found f ≡ true) ↔ ((v : ℕ) × (f ≡ At v))
-found_law (At v) = (λ e. (v, refl), λ q. refl)
-found_law Nothing = (λ e. absurd (false≢true e), λ q. ap is_found q.1)
+pub found_law : (f : Option ℕ) → (is_found f ≡ true) ↔ ((v : ℕ) × (f ≡ Some v))
+found_law (Some v) = (λ e. (v, refl), λ q. refl)
+found_law None = (λ e. absurd (false≢true e), λ q. ap is_found q.1)
 
 -- ---- the first number from k on with a property
 

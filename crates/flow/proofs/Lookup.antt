@@ -8,9 +8,8 @@ use mathlib.Core.List.Memᴰ
 use mathlib.Core.List.{List, [], ◌∷◌, ◌++◌, Memᴰ}
 use borrow.Author.Tests.{eqb-true, eqb-false}
 use lib.Dec.{eqb}
+use Rattle.std.specs.Prelude.{Option, Some}
 use Rattle.search.proofs.Bools.{and_both}
-use Rattle.flow.specs.declared.Found.{Found}
-use Rattle.flow.specs.declared.Found.TheVariants.{At}
 use Rattle.flow.specs.Sheet.{items, outer_end, member, kind_of, argument_of}
 use Rattle.flow.specs.Kinds.{kinds}
 use Rattle.flow.specs.Tree.{Stmt, Block, Arms, simple, do_block, while_loop, repeat_loop, for_loop, if_stmt, done, then, no_more, elseif, otherwise, tree, label_name, labels_of}
@@ -39,7 +38,7 @@ pub data Comes (S : List ℕ) : Block → List ℕ → Settings → Type 0 where
 
 -- the builder's lookup gives a node for the name a
 abbrev pub LooksUp : ℕ → Settings → Type 0
-LooksUp a st = (v : ℕ) × (label_node a st.labels ≡ At v)
+LooksUp a st = (v : ℕ) × (label_node a st.labels ≡ Some v)
 
 -- ---- a name
 
@@ -47,7 +46,7 @@ pub one_of_append : (a : ℕ) (xs ys : List ℕ) → member a (xs ++ ys) ≡ (me
 one_of_append a [] ys = refl
 one_of_append a (x ∷ xs) ys = ap (eqb a x ||◌) (one_of_append a xs ys) ∙ sym (or_assoc (eqb a x) (member a xs) (member a ys))
 
-newer : (t u : Bool) (v : ℕ) (f : Found) → (u || is_found (cond t (At v) f)) ≡ (t || u || is_found f)
+newer : (t u : Bool) (v : ℕ) (f : Option ℕ) → (u || is_found (cond t (Some v) f)) ≡ (t || u || is_found f)
 newer true true v f = refl
 newer true false v f = refl
 newer false u v f = refl

@@ -7,8 +7,8 @@ use mathlib.Core.List.{List, [], ◌∷◌}
 use native.Mathlib.Omega.{arith}
 use lib.Dec.{eqb}
 use lib.ListN.{length, get_or}
+use Rattle.std.specs.Prelude.{Ok}
 use Rattle.search.proofs.Bools.{and_both}
-use Rattle.flow.specs.declared.Verdict.TheVariants.{Admitted}
 use Rattle.flow.specs.Sheet.{Item, items, kind}
 use Rattle.flow.specs.Kinds.{kinds}
 use Rattle.flow.specs.Refusals.{may_follow, side_by_side, sheet_verdict}
@@ -89,7 +89,7 @@ names_kept = record {
   name = λ {n} {g = g} s st h r. snoc_below g.names.node g.current n (h refl refl).1 r;
 }
 
-module _ (S : List ℕ) (e : sheet_verdict false S ≡ Admitted) where
+module _ (S : List ℕ) (e : sheet_verdict false S ≡ Ok tt) where
   follow_tree : Follow false (tree (items S))
   unfolding tree
   follow_tree = let p = sheet_passed false S e in (follow (parsed [] (items S) tt p.pairs) 0 p.beside).top.0

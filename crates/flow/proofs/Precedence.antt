@@ -7,10 +7,9 @@ use Prim.Native.Nat.{ℕ, zero, suc, ◌+◌, ◌<◌}
 use native.Mathlib.Omega.{arith}
 use lib.Dec.{eqb}
 use lib.ListN.{length, get_or, length-append}
+use Rattle.std.specs.Prelude.{Ok, Err}
 use Rattle.flow.specs.declared.Refusal.{Refusal}
-use Rattle.flow.specs.declared.Verdict.{Verdict}
-use Rattle.flow.specs.declared.Verdict.TheVariants.{Admitted, Refused}
-use Rattle.flow.specs.Refusals.{one, number, Test, first_applying, item_tests, sheet_tests, pair_tests, sheet_verdict}
+use Rattle.flow.specs.Refusals.{Verdict, one, number, Test, first_applying, item_tests, sheet_tests, pair_tests, sheet_verdict}
 use Rattle.flow.specs.Answers.{tells, found_values, count_values}
 use Rattle.flow.specs.Graph.{graph}
 use Rattle.flow.specs.Reachable.{node_at, can_run, run, counts_of, chart}
@@ -53,35 +52,35 @@ pub record Foremost (ts : List Test) (k : ℕ) : Type 0 where
   pub none : NoneApplies before
   pub numbered : number refusal ≡ k
 
-pub admitted_none : (ts : List Test) → first_applying ts ≡ Admitted → NoneApplies ts
+pub admitted_none : (ts : List Test) → first_applying ts ≡ Ok tt → NoneApplies ts
 unfolding first_applying
 admitted_none [] e = tt
 admitted_none (t ∷ ts) e = let p = passed_one t.1 t.0 (first_applying ts) e in (p.0, admitted_none ts p.1)
 
 -- "Sheets are admitted when none applies"; nothing rests on it
-pub none_admitted : (ts : List Test) → NoneApplies ts → first_applying ts ≡ Admitted
+pub none_admitted : (ts : List Test) → NoneApplies ts → first_applying ts ≡ Ok tt
 unfolding first_applying
 none_admitted [] n = refl
 none_admitted (t ∷ ts) n = rw n.0 (none_admitted ts n.1)
 
 abbrev refusal_of : Verdict → Refusal → Refusal
-refusal_of v r = elim v [ Refused q ↦ q | Admitted ↦ r ]
+refusal_of v r = elim v [ Err q ↦ q | Ok tt ↦ r ]
 
-either_foremost : (t : Test) (ts : List Test) (r : Refusal) → (first_applying ts ≡ Refused r → Foremost ts (number r)) → (b : Bool) → t.1 ≡ b → cond b (Refused t.0) (first_applying ts) ≡ Refused r → Foremost (t ∷ ts) (number r)
+either_foremost : (t : Test) (ts : List Test) (r : Refusal) → (first_applying ts ≡ Err r → Foremost ts (number r)) → (b : Bool) → t.1 ≡ b → cond b (Err t.0) (first_applying ts) ≡ Err r → Foremost (t ∷ ts) (number r)
 either_foremost t ts r rest true p q = record { before = []; refusal = t.0; after = ts; order = λ i. (t.0, p i) ∷ ts; none = tt; numbered = ap (λ (v : Verdict). number (refusal_of v r)) q }
 either_foremost t ts r rest false p q = let f = rest q in record { before = t ∷ f.before; refusal = f.refusal; after = f.after; order = λ i. t ∷ f.order i; none = (p, f.none); numbered = f.numbered }
 
-pub refused_foremost : (ts : List Test) (r : Refusal) → first_applying ts ≡ Refused r → Foremost ts (number r)
+pub refused_foremost : (ts : List Test) (r : Refusal) → first_applying ts ≡ Err r → Foremost ts (number r)
 unfolding first_applying
 refused_foremost [] r e = let z : ◌≡◌ {A = ℕ} 0 1 = cc in absurd (omega arith)
 refused_foremost (t ∷ ts) r e = either_foremost t ts r (refused_foremost ts r) t.1 refl e
 
-behind : (r : Refusal) (xs ys : List Test) → NoneApplies xs → first_applying (xs ++ ((r, true) ∷ ys)) ≡ Refused r
+behind : (r : Refusal) (xs ys : List Test) → NoneApplies xs → first_applying (xs ++ ((r, true) ∷ ys)) ≡ Err r
 unfolding first_applying
 behind r [] ys n = refl
 behind r (x ∷ xs) ys n = rw n.0 (behind r xs ys n.1)
 
-pub foremost_refused : (ts : List Test) (k : ℕ) (f : Foremost ts k) → first_applying ts ≡ Refused f.refusal
+pub foremost_refused : (ts : List Test) (k : ℕ) (f : Foremost ts k) → first_applying ts ≡ Err f.refusal
 foremost_refused ts k f = ap first_applying f.order ∙ behind f.refusal f.before f.after f.none
 
 -- ---- by number: k - 1 tests stand before the one with the number k
@@ -122,15 +121,15 @@ scoped_place short S U C = place_number 9 (scoped_tests short S U C) (scoped_num
 
 module _ (ts : List Test) (values : List ℕ) where
   applies_by : (k : ℕ) (v : Verdict) → first_applying ts ≡ v → (tells v values).number ≡ suc k → Foremost ts (suc k)
-  applies_by k Admitted e n = absurd (omega arith)
-  applies_by k (Refused r) e n = subst (Foremost ts) n (refused_foremost ts r e)
+  applies_by k (Ok tt) e n = absurd (omega arith)
+  applies_by k (Err r) e n = subst (Foremost ts) n (refused_foremost ts r e)
 
   pub number_applies : (k : ℕ) → (tells (first_applying ts) values).number ≡ suc k → Foremost ts (suc k)
   number_applies k = applies_by k (first_applying ts) refl
 
   none_by : (v : Verdict) → first_applying ts ≡ v → (tells v values).number ≡ 0 → NoneApplies ts
-  none_by Admitted e n = admitted_none ts e
-  none_by (Refused r) e n = absurd (true≢false (sym (ap (λ (k : ℕ). eqb k 0) n) ∙ refuses r))
+  none_by (Ok tt) e n = admitted_none ts e
+  none_by (Err r) e n = absurd (true≢false (sym (ap (λ (k : ℕ). eqb k 0) n) ∙ refuses r))
 
   pub zero_admits : (tells (first_applying ts) values).number ≡ 0 → NoneApplies ts
   zero_admits = none_by (first_applying ts) refl

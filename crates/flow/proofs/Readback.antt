@@ -7,7 +7,7 @@ use mathlib.Core.Bool.{true, false, false≢true}
 use mathlib.Core.List.{List, [], ◌∷◌, ◌++◌, append_assoc, append-nil}
 use borrow.Author.Tests.{ne_eqb}
 use lib.Dec.{eqb}
-use Rattle.flow.specs.declared.Verdict.TheVariants.{Admitted}
+use Rattle.std.specs.Prelude.{Ok}
 use Rattle.flow.specs.Sheet.{Item, items, kind_of}
 use Rattle.flow.specs.Kinds.{kinds}
 use Rattle.flow.specs.Refusals.{sheet_verdict}
@@ -82,7 +82,7 @@ tree_flatten b k =
     let e : parse (flatten b) ≡ filled b (parse []) = ap parse (sym (append-nil (flatten b))) ∙ block_read b k [] ∙ fills b (parse []) in
     ap (λ (o : Open). o.top.body) e
 
-module _ (S : List ℕ) (e : sheet_verdict false S ≡ Admitted) where
+module _ (S : List ℕ) (e : sheet_verdict false S ≡ Ok tt) where
   -- which statements and blocks there are the items say, whatever the order of reading
   pub tree_law : (b : Block) → (b ≡ tree (items S)) ↔ (BlockKinds b × (flatten b ≡ items S))
   tree_law b = (λ q. rw q (tree_kinds S e, flatten_tree S e), λ q. sym (tree_flatten b q.0) ∙ ap tree q.1)

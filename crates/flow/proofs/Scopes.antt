@@ -10,9 +10,9 @@ use lib.ListN.{length, take, drop, get_or, length-drop, length-append, take-appe
 use lib.Seq.{take_at, take_all, take-length, drop-append_seam, length-take-le}
 use lib.Dec.{eqb, leb}
 use borrow.Author.Tests.{eqb-true, eqb-false, eq-eqb, ne_eqb, leb-true, ltb-true, not-false}
+use Rattle.std.specs.Prelude.{Ok}
 use Rattle.search.proofs.Bools.{and_both}
 use Rattle.flow.specs.Sheet.{all, count_word, items, use_words, use_spans, local_of, use_kind_of, crossing_of}
-use Rattle.flow.specs.declared.Verdict.TheVariants.{Admitted}
 use Rattle.flow.specs.Refusals.{one, name_count, Test, first_applying, item_tests, pair_tests, pair_verdict}
 use Rattle.flow.specs.Admitted.{AdmittedUses, AdmittedScopes}
 use Rattle.flow.specs.Scopes.{scope_kinds, parent_words, scope_numbers, parents_lower, scopes_fit, name_scope, use_scope, FUNCTION, Crosses, met, further, Lower, crosses, crosses_by, crosses_at, is_below, scopes_wrong, with_crossing, crossed_from, use_sheet, crossed, Replaced, bad_scopes, scoped_tests, scoped_verdict}
@@ -222,7 +222,7 @@ crossed_replaced S U [] n a e = absurd (n refl)
 crossed_replaced S U (c ∷ C) n a e = replaced_so S U (c ∷ C) a (admitted_scopes _ _ (c ∷ C) (not-false _ e))
 
 -- the tests in front passed
-front_passed : (ts us : List Test) → first_applying (ts ++ us) ≡ Admitted → first_applying ts ≡ Admitted
+front_passed : (ts us : List Test) → first_applying (ts ++ us) ≡ Ok tt → first_applying ts ≡ Ok tt
 unfolding first_applying
 front_passed [] us e = refl
 front_passed (t ∷ ts) us e = let p = passed_one t.1 t.0 (first_applying (ts ++ us)) e in rw p.0 (front_passed ts us p.1)
@@ -235,11 +235,11 @@ no_scopes_verdict short S U = refl
 
 -- ---- what the verdict of all three sheets shows
 
-module _ (short : Bool) (S U C : List ℕ) (e : scoped_verdict short S U C ≡ Admitted) where
+module _ (short : Bool) (S U C : List ℕ) (e : scoped_verdict short S U C ≡ Ok tt) where
   pub scoped_fits : bad_scopes S U C ≡ false
   unfolding scoped_verdict scoped_tests pair_tests item_tests
   scoped_fits = passed (scoped_tests short S U C) e 9
 
-  pub scoped_pair : pair_verdict short S U ≡ Admitted
+  pub scoped_pair : pair_verdict short S U ≡ Ok tt
   unfolding scoped_verdict scoped_tests pair_verdict
   scoped_pair = front_passed (pair_tests short S U) _ e

@@ -11,9 +11,8 @@ use native.Mathlib.Decide.{ℕ_discrete}
 use borrow.Author.Tests.{ne_eqb, eq-eqb}
 use lib.Dec.{eqb}
 use lib.ListN.{length}
+use Rattle.std.specs.Prelude.{Option, Some, None}
 use Rattle.search.specs.Search.{In}
-use Rattle.flow.specs.declared.Found.{Found}
-use Rattle.flow.specs.declared.Found.TheVariants.{At, Nothing}
 use Rattle.flow.specs.Tree.{Block, labels_of}
 use Rattle.flow.specs.Graph.{Graph, Label, Settings, node_count, label_node, or_break, with_labels, inside, in_loop}
 
@@ -25,13 +24,13 @@ pub node_more : {m n v : ℕ} → m ≤ n → Node m v → Node n v
 node_more l h = (h.0, omega arith)
 
 -- where a label is found is a node; it is found if A
-abbrev pub Looked : ℕ → Type 0 → Found → Type 0
-Looked n A (At v) = Node n v
-Looked n A Nothing = A → ⊥
+abbrev pub Looked : ℕ → Type 0 → Option ℕ → Type 0
+Looked n A (Some v) = Node n v
+Looked n A None = A → ⊥
 
-looked : {m n : ℕ} {A B : Type 0} (f : Found) → m ≤ n → (B → A) → Looked m A f → Looked n B f
-looked (At v) l h q = node_more l q
-looked Nothing l h q = λ b. q (h b)
+looked : {m n : ℕ} {A B : Type 0} (f : Option ℕ) → m ≤ n → (B → A) → Looked m A f → Looked n B f
+looked (Some v) l h q = node_more l q
+looked None l h q = λ b. q (h b)
 
 -- a block's labels come to stand for the nodes from v on
 labels_stand : (n : ℕ) (A : ℕ → Type 0) (as' : List ℕ) (v : ℕ) (ls : List Label) → 6 ≤ v → v + length as' ≤ n → ((a : ℕ) → Looked n (A a) (label_node a ls)) → (a : ℕ) → Looked n (In a as' ⊎ A a) (label_node a (with_labels as' v ls))
@@ -41,7 +40,7 @@ labels_stand n A (x ∷ as') v ls l h q a =
     looked (label_node a (with_labels as' (v + 1) (record { name = x; node = v } ∷ ls))) (le_refl n) (⊎_elim (⊎_elim (λ e. inr (inl e)) (λ i. inl i)) (λ y. inr (inr y)))
     (labels_stand n (λ b. (b ≡ x) ⊎ A b) as' (v + 1) (record { name = x; node = v } ∷ ls) (omega arith) (omega arith) newest a)
   where
-    newest : (b : ℕ) → Looked n ((b ≡ x) ⊎ A b) (cond (eqb b x) (At v) (label_node b ls))
+    newest : (b : ℕ) → Looked n ((b ≡ x) ⊎ A b) (cond (eqb b x) (Some v) (label_node b ls))
     newest b = elim (ℕ_discrete b x) [
       | yes e ↦ rw (eq-eqb b x e) (l, omega arith)
       | no e ↦ rw (ne_eqb b x e) (looked (label_node b ls) (le_refl n) (⊎_elim (λ z. absurd (e z)) (λ y. y)) (q b))
@@ -78,6 +77,6 @@ fits_inside {n} {st} e b g c l w =
           (labels_stand _ (λ x. ⊥) (labels_of b) (node_count g) st.labels (omega arith) (omega arith) u.labels a);
     }
 
-pub or_break_law : {n : ℕ} (A : Type 0) (f : Found) → 6 ≤ n → Looked n A f → or_break f < n
-or_break_law A (At v) l h = h.1
-or_break_law A Nothing l h = omega arith
+pub or_break_law : {n : ℕ} (A : Type 0) (f : Option ℕ) → 6 ≤ n → Looked n A f → or_break f < n
+or_break_law A (Some v) l h = h.1
+or_break_law A None l h = omega arith

@@ -8,14 +8,13 @@ use native.Mathlib.Omega.{arith}
 use borrow.Author.Tests.{ltb-true, ltb-false, leb-true, eqb-true, not-false}
 use lib.Dec.{eqb, leb, ltb}
 use lib.ListN.{length, get_or}
+use Rattle.std.specs.Prelude.{Ok, Err}
 use Rattle.search.proofs.Bools.{neither, and_both}
 use Rattle.search.specs.Search.{In, filter}
 use Rattle.flow.specs.declared.Refusal.{Refusal}
-use Rattle.flow.specs.declared.Verdict.{Verdict}
-use Rattle.flow.specs.declared.Verdict.TheVariants.{Admitted, Refused}
 use Rattle.flow.specs.Sheet.{Item, all, kind, count_word, outer_end, items, start_of, end_of, argument_of}
 use Rattle.flow.specs.Kinds.{argument_fits, item_fits}
-use Rattle.flow.specs.Refusals.{number, Test, first_applying, miscount, bad_item, pairs_up, bad_nesting, in_order, off_the_line, item_tests, sheet_tests, sheet_verdict, outnumbered, too_deep, side_by_side, inside_scopes, names_fit, bad_name}
+use Rattle.flow.specs.Refusals.{Verdict, number, Test, first_applying, miscount, bad_item, pairs_up, bad_nesting, in_order, off_the_line, item_tests, sheet_tests, sheet_verdict, outnumbered, too_deep, side_by_side, inside_scopes, names_fit, bad_name}
 use Rattle.flow.specs.Admitted.{an_item}
 use Rattle.search.proofs.Worklist.{filter_in}
 
@@ -39,12 +38,12 @@ abbrev pub applies : ℕ → List Test → Bool
 applies k [] = false
 applies k (t ∷ ts) = cond (eqb (number t.0) k) t.1 (applies k ts)
 
-pub passed_one : (b : Bool) (r : Refusal) (v : Verdict) → cond b (Refused r) v ≡ Admitted → (b ≡ false) × (v ≡ Admitted)
+pub passed_one : (b : Bool) (r : Refusal) (v : Verdict) → cond b (Err r) v ≡ Ok tt → (b ≡ false) × (v ≡ Ok tt)
 passed_one true r v e = let z : ◌≡◌ {A = ℕ} 0 1 = cc in absurd (omega arith)
 passed_one false r v e = (refl, e)
 
 -- where a call is admitted no test applies, by its number: a test more moves none of the others
-pub passed : (ts : List Test) → first_applying ts ≡ Admitted → (k : ℕ) → applies k ts ≡ false
+pub passed : (ts : List Test) → first_applying ts ≡ Ok tt → (k : ℕ) → applies k ts ≡ false
 unfolding first_applying
 passed [] e k = refl
 passed (t ∷ ts) e k = let p = passed_one t.1 t.0 (first_applying ts) e in rw (p.0, passed ts p.1 k) (same (eqb (number t.0) k) false)
@@ -70,7 +69,7 @@ pub record Passed (ws : List ℕ) : Type 0 where
   pub inside_scopes : inside_scopes (Rattle.flow.specs.Sheet.outer_end ws ∷ []) (items ws) ≡ true
   pub named : names_fit 0 0 (items ws) ≡ true
 
-pub sheet_passed : (short : Bool) (ws : List ℕ) → sheet_verdict short ws ≡ Admitted → Passed ws
+pub sheet_passed : (short : Bool) (ws : List ℕ) → sheet_verdict short ws ≡ Ok tt → Passed ws
 unfolding sheet_verdict sheet_tests item_tests bad_item too_deep bad_nesting off_the_line bad_name
 sheet_passed short ws e =
     let p = passed (sheet_tests short ws) e in

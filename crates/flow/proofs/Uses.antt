@@ -14,7 +14,7 @@ use borrow.Author.Tests.{eqb-true, eqb-false}
 use lib.Dec.{eqb}
 use lib.ListN.{length, get_or, drop, drop_of_length-le}
 use lib.Seq.{drop-cons}
-use Rattle.flow.specs.declared.Found.TheVariants.{At}
+use Rattle.std.specs.Prelude.{Some}
 use Rattle.flow.specs.Sheet.{all, start_of, use_words, use_spans, local_of, use_kind_of}
 use Rattle.flow.specs.Graph.{graph}
 use Rattle.flow.specs.Reachable.{node_at}
@@ -91,7 +91,7 @@ pub data FirstIs (S U : List ℕ) (ℓ v k : ℕ) (r : Meeting) : Type 0 where
 
 module _ (S U : List ℕ) (ℓ : ℕ) (all : AllFound S U ℓ) where
   pub own_at : (u v : ℕ) → Own U ℓ u → node_num S U u ≡ v → OwnAt S U ℓ u v
-  own_at u v o e = let f = all u o in record { own = o; at_node = f.1 ∙ ap At (sym (ap node_of f.1) ∙ e) }
+  own_at u v o e = let f = all u o in record { own = o; at_node = f.1 ∙ ap Some (sym (ap node_of f.1) ∙ e) }
 
   pub first_is : (v : ℕ) {k : ℕ} {us : List Use} → From S U ℓ k us → FirstIs S U ℓ v k (first_at v us)
   unfolding first_at

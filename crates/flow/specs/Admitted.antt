@@ -1,7 +1,6 @@
 -- What 01's table shows of a sheet that it admits: the facts that later layers lean on. `proofs/Admission.antt` draws them from `sheet_verdict`.
 -- Assumes nothing: these are definitions.
-use Rattle.std.specs.Prelude.{◌≡◌, Bool, true, false, List, [], ◌∷◌, ◌++◌, ℕ, ◌+◌, ◌*◌, ◌^◌, ◌≤◌, ◌<◌, length, get_or, drop, eqb}
-use Rattle.flow.specs.declared.Verdict.TheVariants.{Admitted}
+use Rattle.std.specs.Prelude.{◌≡◌, Bool, true, false, List, [], ◌∷◌, ◌++◌, ℕ, ◌+◌, ◌*◌, ◌^◌, ◌≤◌, ◌<◌, length, get_or, drop, eqb, Ok}
 use Rattle.flow.specs.Sheet.{Item, kind, count_word, outer_end, items, kind_words, span_words, zip, kind_of, end_of, use_words, use_spans, local_of, use_kind_of}
 use Rattle.flow.specs.Kinds.{kinds, item_fits, is_code}
 use Rattle.flow.specs.Refusals.{name_count, sheet_verdict, outnumbered, pairs_up, side_by_side, in_order, inside_scopes, names_fit}
@@ -82,5 +81,5 @@ pub record AdmittedScopes (names uses : ℕ) (C : List ℕ) : Type 0 where
 -- what the verdict of a pair shows
 pub record AdmittedPair (short : Bool) (S U : List ℕ) : Type 0 where
   pub enough : short ≡ false
-  pub sheet : sheet_verdict false S ≡ Admitted
+  pub sheet : sheet_verdict false S ≡ Ok tt
   pub uses : AdmittedUses S U

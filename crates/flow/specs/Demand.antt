@@ -1,7 +1,6 @@
 -- Demand 3, over what judge writes. Here w is a use number, as u is.
 -- Assumes nothing: these are definitions.
-use Rattle.std.specs.Prelude.{◌≡◌, ◌⊎◌, ◌↔◌, true, List, [], ◌∷◌, ◌++◌, ℕ, ◌+◌, ◌-◌, ◌/◌, ◌%◌, ◌^◌, ◌<◌, min, length, get_or}
-use Rattle.flow.specs.declared.Found.TheVariants.{At}
+use Rattle.std.specs.Prelude.{◌≡◌, ◌⊎◌, ◌↔◌, true, List, [], ◌∷◌, ◌++◌, ℕ, ◌+◌, ◌-◌, ◌/◌, ◌%◌, ◌^◌, ◌<◌, min, length, get_or, Some}
 use Rattle.flow.specs.Sheet.{Word, Span, Node, LocalNumber, UseNumber, use_words, use_spans, local_of, use_kind_of, start_of}
 use Rattle.flow.specs.Answers.{found_values}
 use Rattle.flow.specs.Graph.{graph}
@@ -38,7 +37,7 @@ InClosure S U ℓ u = is_in_closure (local_at S ℓ) (use_word U u) ≡ true
 
 -- "A use's node is that of its span's start."
 abbrev pub AtNode : List Word → List Word → UseNumber → Node → Type 0
-AtNode S U u v = node_at (graph S) (start_of (use_span U u)) ≡ At v
+AtNode S U u v = node_at (graph S) (start_of (use_span U u)) ≡ Some v
 
 -- "whose uses all find a node"
 abbrev pub AllFound : List Word → List Word → LocalNumber → Type 0

@@ -1,10 +1,8 @@
 -- The findings, computed. Nobody has to believe this file: judge's promise fixes the same list over paths (`Demand.antt`), and `proofs/Demand3.antt` shows that they agree.
 -- Assumes nothing: these are definitions.
-use Rattle.std.specs.Prelude.{Bool, true, false, cond, ◌&&◌, ◌||◌, not, ℕ, zero, suc, ◌+◌, length, get_or, eqb, ltb}
+use Rattle.std.specs.Prelude.{Bool, true, false, cond, ◌&&◌, ◌||◌, not, ℕ, zero, suc, ◌+◌, length, get_or, eqb, ltb, Option, Some, None}
 use mathlib.Core.List.{List, [], ◌∷◌, ◌++◌, tail, map}
 use Rattle.search.specs.Search.{closure, filter}
-use Rattle.flow.specs.declared.Found.{Found}
-use Rattle.flow.specs.declared.Found.TheVariants.{At, Nothing}
 use Rattle.flow.specs.Sheet.{Word, Span, Node, LocalNumber, UseNumber, member, all, start_of, use_words, use_spans, local_of, use_kind_of}
 use Rattle.flow.specs.Graph.{Graph, node_count, graph}
 use Rattle.flow.specs.Reachable.{successors, node_at}
@@ -12,14 +10,14 @@ use Rattle.flow.specs.Locals.{only_if, Local, locals, no_value, writes_judged, t
 
 -- a use of a local, with its number and the node of its span's start; below, u is a use and us are uses in use order
 abbrev pub Use : Type 0
-Use = record { number : UseNumber; span : Span; kind : ℕ; in_closure : Bool; found : Found }
+Use = record { number : UseNumber; span : Span; kind : ℕ; in_closure : Bool; found : Option ℕ }
 
-abbrev pub is_found : Found → Bool
-is_found f = elim f [ At v ↦ true | Nothing ↦ false ]
+abbrev pub is_found : Option ℕ → Bool
+is_found f = elim f [ Some v ↦ true | None ↦ false ]
 
 -- the node that was found, 0 where none was; a local with such a use yields nothing
-abbrev pub node_of : Found → Node
-node_of f = elim f [ At v ↦ v | Nothing ↦ 0 ]
+abbrev pub node_of : Option ℕ → Node
+node_of f = elim f [ Some v ↦ v | None ↦ 0 ]
 
 abbrev pub node : Use → Node
 node u = node_of u.found

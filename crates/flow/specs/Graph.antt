@@ -1,10 +1,6 @@
 -- 01, "From items to edges (cfg.rs)": the graph by the statement rules, in their order. Operations bear the names of the Rust's methods.
 -- Assumes nothing: these are definitions.
-use Rattle.std.specs.Prelude.{Bool, true, false, cond, ◌&&◌, List, [], ◌∷◌, ◌++◌, ℕ, ◌+◌, length, get_or, set, eqb}
-use Rattle.flow.specs.declared.Truth.{Truth}
-use Rattle.flow.specs.declared.Truth.TheVariants.{False, True, Unknown}
-use Rattle.flow.specs.declared.Found.{Found}
-use Rattle.flow.specs.declared.Found.TheVariants.{At, Nothing}
+use Rattle.std.specs.Prelude.{Bool, true, false, cond, ◌&&◌, List, [], ◌∷◌, ◌++◌, ℕ, ◌+◌, length, get_or, set, eqb, Option, Some, None}
 use Rattle.flow.specs.Sheet.{Word, Span, Node, items, outer_end, kind_of, argument_of, condition_of, scope_end_of, start_of}
 use Rattle.flow.specs.Kinds.{kinds, literal_truth, raises}
 use Rattle.flow.specs.Tree.{Stmt, Block, Arms, simple, do_block, while_loop, repeat_loop, for_loop, if_stmt, done, then, no_more, elseif, otherwise, tree, labels_of}
@@ -100,17 +96,17 @@ declare s st g =
     record { nodes = g.nodes; codes = g.codes; names = n; current = g.current }
 
 -- "A name means the innermost, then latest, such label": the labels in force, the latest first. Name 0 has no label.
-unfoldable pub label_node : ℕ → List Label → Found
-label_node a [] = Nothing
-label_node a (l ∷ ls) = cond (eqb a l.name) (At l.node) (label_node a ls)
+unfoldable pub label_node : ℕ → List Label → Option ℕ
+label_node a [] = None
+label_node a (l ∷ ls) = cond (eqb a l.name) (Some l.node) (label_node a ls)
 
 -- "LABEL records its span at its label's node (code start remains 0) and moves there."
-abbrev pub stand_at : Found → Span → Graph → Graph
-stand_at f s g = elim f [ At v ↦ advance_to v (record_code s v g) | Nothing ↦ g ]
+abbrev pub stand_at : Option ℕ → Span → Graph → Graph
+stand_at f s g = elim f [ Some v ↦ advance_to v (record_code s v g) | None ↦ g ]
 
 -- "GOTO jumps to its label; when no visible label is found it jumps to exit Break."
-abbrev pub or_break : Found → Node
-or_break f = elim f [ At v ↦ v | Nothing ↦ Break ]
+abbrev pub or_break : Option ℕ → Node
+or_break f = elim f [ Some v ↦ v | None ↦ Break ]
 
 -- a statement of one item, by its kind, argument and span. LABEL: "Name 0 does nothing." "BREAK, CONTINUE, RETURN, a raising CALL jump: RETURN to ReturnValue or ReturnEmpty by its argument, CALL to Error"
 unfoldable pub simple_stmt : ℕ → ℕ → Span → Settings → Graph → Graph
@@ -147,15 +143,15 @@ unfoldable pub in_loop : Node → Node → Settings → Settings
 in_loop after next st = record { break_to = after; continue_to = next; scope_end = st.scope_end; labels = st.labels }
 
 -- "unless the condition is true"; "unless true", "unless false"
-abbrev pub unless_true : Truth → (Graph → Graph) → Graph → Graph
-unless_true t step g = elim t [ False ↦ step g | True ↦ g | Unknown ↦ step g ]
+abbrev pub unless_true : Option Bool → (Graph → Graph) → Graph → Graph
+unless_true t step g = elim t [ Some false ↦ step g | Some true ↦ g | None ↦ step g ]
 
-abbrev pub unless_false : Truth → (Graph → Graph) → Graph → Graph
-unless_false t step g = elim t [ False ↦ g | True ↦ step g | Unknown ↦ step g ]
+abbrev pub unless_false : Option Bool → (Graph → Graph) → Graph → Graph
+unless_false t step g = elim t [ Some false ↦ g | Some true ↦ step g | None ↦ step g ]
 
 -- "A false condition enters the body with nothing current."
-abbrev pub enter_when : Truth → Graph → Graph
-enter_when t g = elim t [ False ↦ set_current absent g | True ↦ g | Unknown ↦ g ]
+abbrev pub enter_when : Option Bool → Graph → Graph
+enter_when t g = elim t [ Some false ↦ set_current absent g | Some true ↦ g | None ↦ g ]
 
 -- the steps of a rule, in the order of its sentence: a graph, and what is done to it next
 infixl 1 ◌▷◌

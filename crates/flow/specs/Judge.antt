@@ -2,7 +2,6 @@
 -- Which findings these are, `Demand.antt` fixes over paths; `findings` only computes them (`proofs/Judged.antt`).
 -- Assumes nothing: these are definitions.
 use Rattle.std.specs.Prelude.{Bool, List, [], ◌∷◌, ◌++◌, map, length}
-use Rattle.flow.specs.declared.Verdict.{Verdict}
 use Rattle.flow.specs.Sheet.{Word, Span}
 use Rattle.flow.specs.Scopes.{crossed, scoped_verdict}
 use Rattle.flow.specs.Answers.{Told, tells, count_values}
@@ -10,6 +9,7 @@ use Rattle.flow.specs.Graph.{graph}
 use Rattle.flow.specs.Reachable.{counts_of}
 use Rattle.flow.specs.Locals.{Finding}
 use Rattle.flow.specs.Findings.{findings}
+use Rattle.flow.specs.Refusals.{Verdict}
 
 -- "A finding is list .. + 2 × local + 2^32 × .., and beside it the span": the words of a list of findings, and the spans beside them
 abbrev pub words_of : List Finding → List Word

@@ -1,8 +1,6 @@
 -- 01, "The sheet", the table of kinds: what each kind's argument and span may be, which kinds are code, what a condition is known to be, and which call raises.
 -- Assumes nothing: these are definitions.
-use Rattle.std.specs.Prelude.{Bool, true, false, cond, ◌&&◌, ◌||◌, not, [], ◌∷◌, ℕ, ◌/◌, ◌%◌, ◌^◌, eqb, leb, ltb}
-use Rattle.flow.specs.declared.Truth.{Truth}
-use Rattle.flow.specs.declared.Truth.TheVariants.{False, True, Unknown}
+use Rattle.std.specs.Prelude.{Bool, true, false, cond, ◌&&◌, ◌||◌, not, [], ◌∷◌, ℕ, ◌/◌, ◌%◌, ◌^◌, eqb, leb, ltb, Option, Some, None}
 use Rattle.flow.specs.Sheet.{Item, kind, member, argument_of, start_of, end_of}
 
 -- The table's column of kinds
@@ -50,8 +48,8 @@ is_code i =
     || (eqb (kind i) LABEL && not (eqb (argument_of i.word) 0))
 
 -- "Nil 0, False 1 are false; True 2 .. FunctionDef 8 are true; 9 to 18 are unknown."
-unfoldable pub literal_truth : ℕ → Truth
-literal_truth c = cond (leb c 1) False (cond (leb c 8) True Unknown)
+unfoldable pub literal_truth : ℕ → Option Bool
+literal_truth c = cond (leb c 1) (Some false) (cond (leb c 8) (Some true) None)
 
 -- "It raises exactly when the argument is 6": no method call (1), of bare `error` (2), whose span holds a reference of that name (4), which is not resolved (8), under no local `_ENV` (16), with neither `_ENV` (32) nor `error` (64) assigned
 abbrev pub raises : ℕ → Bool

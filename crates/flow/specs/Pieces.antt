@@ -1,15 +1,11 @@
 -- 01, "Bench pieces": the starred ones as one list that one evaluation checks, and three more that show a slip which no starred piece shows. `pieces_hold` is that evaluation; `printed_sheet_words` and `printed_use_words` are 01's own words for the printed sheet.
 -- Assumes nothing.
-use Rattle.std.specs.Prelude.{◌≡◌, refl, Bool, true, false, ◌&&◌, not, List, [], ◌∷◌, ◌++◌, map, ℕ, ◌+◌, ◌*◌, ◌^◌, length, get_or, eqb}
+use Rattle.std.specs.Prelude.{◌≡◌, refl, Bool, true, false, ◌&&◌, not, List, [], ◌∷◌, ◌++◌, map, ℕ, ◌+◌, ◌*◌, ◌^◌, length, get_or, eqb, Option, Some, None, Ok, Err}
 use Prim.Native.String.{String}
-use Rattle.flow.specs.declared.Found.{Found}
-use Rattle.flow.specs.declared.Found.TheVariants.{At, Nothing}
-use Rattle.flow.specs.declared.Verdict.{Verdict}
-use Rattle.flow.specs.declared.Verdict.TheVariants.{Admitted, Refused}
 use Rattle.search.specs.Search.{closure}
 use Rattle.flow.specs.Sheet.{all, Item}
 use Rattle.flow.specs.Kinds.{kinds, argument_fits, item_fits, is_code, literal_truth}
-use Rattle.flow.specs.Refusals.{pair_verdict, miscount, bad_item, outnumbered, too_deep, may_stand, open_after, pairs_up, may_follow, side_by_side, bad_nesting, in_order, scopes_after, inside_scopes, off_the_line, name_fits, names_fit, bad_name, name_count, use_fits, uses_fit, bad_use, first_applying, item_tests, pair_tests}
+use Rattle.flow.specs.Refusals.{Verdict, pair_verdict, miscount, bad_item, outnumbered, too_deep, may_stand, open_after, pairs_up, may_follow, side_by_side, bad_nesting, in_order, scopes_after, inside_scopes, off_the_line, name_fits, names_fit, bad_name, name_count, use_fits, uses_fit, bad_use, first_applying, item_tests, pair_tests}
 use Rattle.flow.specs.Graph.{node_count, graph, new_node, connect, set_current, advance_to, record_code, set_start, code, close_into, jump, declare, label_node, simple_stmt, new_nodes, with_labels, entered, inside, in_loop, start_graph, outside, build_stmt, build_block, build_arms}
 use Rattle.flow.specs.Reachable.{successors, reachable, node_at, can_run, node_among}
 use Rattle.flow.specs.Locals.{Finding, locals_from, locals, no_value, writes_judged, tracked, is_in_closure}
@@ -42,7 +38,7 @@ pub data Fact : Type 0 where
   nodes : ℕ → Fact
   edges : ℕ → List ℕ → Fact
   reached : ℕ → ℕ → Fact
-  offset : ℕ → Found → Bool → Fact
+  offset : ℕ → Option ℕ → Bool → Fact
   lists : List Finding → Fact
   prints : String → Fact
 
@@ -52,11 +48,11 @@ same_list [] (y ∷ ys) = false
 same_list (x ∷ xs) [] = false
 same_list (x ∷ xs) (y ∷ ys) = eqb x y && same_list xs ys
 
-abbrev pub same_found : Found → Found → Bool
-same_found (At v) (At w) = eqb v w
-same_found (At v) Nothing = false
-same_found Nothing (At w) = false
-same_found Nothing Nothing = true
+abbrev pub same_found : Option ℕ → Option ℕ → Bool
+same_found (Some v) (Some w) = eqb v w
+same_found (Some v) None = false
+same_found None (Some w) = false
+same_found None None = true
 
 abbrev pub same_bool : Bool → Bool → Bool
 same_bool true b = b
@@ -79,8 +75,8 @@ pub record Piece : Type 0 where
   pub facts : List Fact
 
 abbrev pub is_admitted : Verdict → Bool
-is_admitted Admitted = true
-is_admitted (Refused r) = false
+is_admitted (Ok tt) = true
+is_admitted (Err r) = false
 
 abbrev pub every : List ℕ → List ℕ → List Fact → Bool
 every S U [] = true
@@ -113,7 +109,7 @@ starred =
     ∷ record {
       sheet_of = printed_sheet;
       uses_of = printed_uses;
-      facts = prints "graph 9 3 1\nexits 1 0 0 0 0\noverwritten 0 6 7\n" ∷ lists (record { word = 1; span = 6 + 2 ^ 32 * 7 } ∷ []) ∷ offset 8 (At 6) true ∷ offset 9 (At 7) true ∷ offset 22 Nothing true ∷ [];
+      facts = prints "graph 9 3 1\nexits 1 0 0 0 0\noverwritten 0 6 7\n" ∷ lists (record { word = 1; span = 6 + 2 ^ 32 * 7 } ∷ []) ∷ offset 8 (Some 6) true ∷ offset 9 (Some 7) true ∷ offset 22 None true ∷ [];
     }
     ∷ record {
       sheet_of = sheet 30 (item WHILE (with_scope 1 20) 0 11 ∷ item PLAIN 0 12 15 ∷ item END 0 0 0 ∷ []);

@@ -1,9 +1,7 @@
 -- 01, "From items to edges", its last paragraph: reachability, the node of an offset, and what run and chart answer.
 -- Assumes nothing: these are definitions.
-use Rattle.std.specs.Prelude.{◌≡◌, ◌↔◌, Bool, true, false, cond, List, [], ◌∷◌, ℕ, ◌≤◌, ◌<◌, length, get_or, eqb, ltb}
+use Rattle.std.specs.Prelude.{◌≡◌, ◌↔◌, Bool, true, false, cond, List, [], ◌∷◌, ℕ, ◌≤◌, ◌<◌, length, get_or, eqb, ltb, Option, Some, None}
 use Rattle.search.specs.Search.{Reach, closure, filter}
-use Rattle.flow.specs.declared.Found.{Found}
-use Rattle.flow.specs.declared.Found.TheVariants.{At, Nothing}
 use Rattle.flow.specs.declared.Counts.{Counts}
 use Rattle.flow.specs.Sheet.{Word, Span, Node, end_of}
 use Rattle.flow.specs.Refusals.{one, sheet_verdict}
@@ -28,20 +26,20 @@ unfoldable pub reachable : Graph → List ℕ
 reachable g = closure (entry_node ∷ []) (successors g) (node_count g)
 
 -- "The node of an offset is that of the first code whose end is greater than the offset."
-unfoldable pub node_among : List Span → List Node → ℕ → Found
-node_among [] vs o = Nothing
-node_among (s ∷ ss) [] o = Nothing
-node_among (s ∷ ss) (v ∷ vs) o = cond (ltb o (end_of s)) (At v) (node_among ss vs o)
+unfoldable pub node_among : List Span → List Node → ℕ → Option ℕ
+node_among [] vs o = None
+node_among (s ∷ ss) [] o = None
+node_among (s ∷ ss) (v ∷ vs) o = cond (ltb o (end_of s)) (Some v) (node_among ss vs o)
 
-unfoldable pub node_at : Graph → ℕ → Found
+unfoldable pub node_at : Graph → ℕ → Option ℕ
 node_at g o = node_among g.codes.span g.codes.node o
 
 -- "yes exactly when there is none or the node is reachable": over paths, and computed
-abbrev pub CanRun : Graph → Found → Type 0
-CanRun g f = elim f [ At v ↦ Reachable g v | Nothing ↦ Unit {0} ]
+abbrev pub CanRun : Graph → Option ℕ → Type 0
+CanRun g f = elim f [ Some v ↦ Reachable g v | None ↦ Unit {0} ]
 
-unfoldable pub can_run : Graph → Found → Bool
-can_run g f = elim f [ At v ↦ eqb (get_or (reachable g) v 0) 1 | Nothing ↦ true ]
+unfoldable pub can_run : Graph → Option ℕ → Bool
+can_run g f = elim f [ Some v ↦ eqb (get_or (reachable g) v 0) 1 | None ↦ true ]
 
 -- "Run takes a 32-bit offset and gives that node or none, and yes": its number and values
 unfoldable pub run : List Word → ℕ → Told

@@ -1,11 +1,9 @@
 -- 01, "Turned back": each refusal as one test of the input, and the first that applies in the order of precedence: one verdict for the calls that take a sheet, one for those that take a pair.
 -- Assumes nothing: these are definitions.
-use Rattle.std.specs.Prelude.{Bool, true, cond, ◌&&◌, ◌||◌, not, ℕ, ◌+◌, ◌*◌, ◌/◌, ◌^◌, length, get_or, eqb, leb, ltb}
+use Rattle.std.specs.Prelude.{Bool, true, cond, ◌&&◌, ◌||◌, not, ℕ, ◌+◌, ◌*◌, ◌/◌, ◌^◌, length, get_or, eqb, leb, ltb, Result, Ok, Err}
 use mathlib.Core.List.{List, [], ◌∷◌, ◌++◌, tail}
 use Rattle.flow.specs.declared.Refusal.{Refusal}
 use Rattle.flow.specs.declared.Refusal.TheVariants.{BenchTooSmall, Miscount, BadItem, TooDeep, BadNesting, OffTheLine, BadName, BadUse, BadScope}
-use Rattle.flow.specs.declared.Verdict.{Verdict}
-use Rattle.flow.specs.declared.Verdict.TheVariants.{Admitted, Refused}
 use Rattle.flow.specs.Sheet.{Word, Span, Item, kind, member, all, count_word, outer_end, items, start_of, end_of, scope_end_of, use_words, use_spans, local_of}
 use Rattle.flow.specs.Kinds.{kinds, item_fits, opens, closes, is_code}
 open kinds use {REPEAT, IF, ELSEIF, ELSE, END, UNTIL, LOCAL, NAME, CONTINUE, RETURN}
@@ -115,14 +113,18 @@ uses_fit names (w ∷ ws) ss = use_fits names w (get_or ss 0 0) && uses_fit name
 unfoldable pub bad_use : List Word → List Word → Bool
 bad_use S U = not (uses_fit (name_count (items S)) (use_words U) (use_spans U))
 
+-- whether a call's input is taken
+abbrev pub Verdict : Type 0
+Verdict = Result (Unit {0}) Refusal
+
 -- a refusal, and whether it applies
 abbrev pub Test : Type 0
 Test = Refusal × Bool
 
 -- "The lowest number that applies is returned, and no other case refuses": the tests stand in the order of precedence, which is that of their numbers (`proofs/Precedence.antt`)
 unfoldable pub first_applying : List Test → Verdict
-first_applying [] = Admitted
-first_applying (t ∷ ts) = cond t.1 (Refused t.0) (first_applying ts)
+first_applying [] = Ok tt
+first_applying (t ∷ ts) = cond t.1 (Err t.0) (first_applying ts)
 
 -- 3 to 7, which ask of the sheet alone
 unfoldable pub item_tests : List Word → List Test

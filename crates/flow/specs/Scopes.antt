@@ -3,9 +3,8 @@
 -- Assumes nothing: these are definitions.
 use Rattle.std.specs.Prelude.{◌≡◌, ◌↔◌, Bool, true, false, cond, ◌&&◌, not, List, [], ◌∷◌, ◌++◌, ℕ, zero, suc, ◌+◌, ◌*◌, ◌≤◌, ◌<◌, length, take, drop, get_or, eqb, leb, ltb}
 use Rattle.flow.specs.declared.Refusal.TheVariants.{BadScope}
-use Rattle.flow.specs.declared.Verdict.{Verdict}
 use Rattle.flow.specs.Sheet.{Word, Span, LocalNumber, UseNumber, all, count_word, items, use_words, use_spans, local_of, use_kind_of, crossing_of}
-use Rattle.flow.specs.Refusals.{one, name_count, Test, first_applying, pair_tests}
+use Rattle.flow.specs.Refusals.{Verdict, one, name_count, Test, first_applying, pair_tests}
 
 -- ---- what must be believed
 

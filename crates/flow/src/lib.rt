@@ -1,20 +1,8 @@
-// The answers that the definitions of `specs/` and the calls share. No code of its own.
+// The answers that the definitions of `specs/` and the calls share.
 #![tactic(auto)]
 
-// What a condition is known to be.
-#[derive(Clone, Copy)]
-pub enum Truth {
-    False,
-    True,
-    Unknown,
-}
-
-// What looking something up finds: the node of a label or of an offset's code; or nothing.
-#[derive(Clone, Copy)]
-pub enum Found {
-    At(usize),
-    Nothing,
-}
+ghost use Rattle.std.specs.Prelude.{◌≡◌, ◌≤◌};
+ghost use Rattle.flow.specs.Refusals.{number};
 
 // Why a call is refused.
 #[derive(Clone, Copy)]
@@ -30,14 +18,26 @@ pub enum Refusal {
     BadScope,
 }
 
-// Whether a call's input is taken.
-#[derive(Clone, Copy)]
-pub enum Verdict {
-    Admitted,
-    Refused(Refusal),
+// The table's number of a refusal.
+impl From<Refusal> for u64 {
+    ghost from_gives = { λ refusal n. (n ≡ number refusal) × (1 ≤ n) × (n ≤ 15) };
+
+    fn from(refusal: Refusal) -> u64 {
+        match refusal {
+            Refusal::BenchTooSmall => 1,
+            Refusal::Miscount => 2,
+            Refusal::BadItem => 3,
+            Refusal::TooDeep => 4,
+            Refusal::BadNesting => 5,
+            Refusal::OffTheLine => 6,
+            Refusal::BadName => 7,
+            Refusal::BadUse => 8,
+            Refusal::BadScope => 9,
+        }
+    }
 }
 
-// How many entries a chart has.
+// How many entries a chart has: what chart answers.
 #[derive(Clone, Copy)]
 pub struct Counts {
     pub nodes: usize,
@@ -45,31 +45,16 @@ pub struct Counts {
     pub names: usize,
 }
 
-// What chart answers.
-#[derive(Clone, Copy)]
-pub enum ChartAnswer {
-    Refused(Refusal),
-    Charted(Counts),
-}
-
 // What run answers: the node of the offset's code, if there is one, and whether that code can run.
 #[derive(Clone, Copy)]
-pub enum RunAnswer {
-    Refused(Refusal),
-    Ran(Found, bool),
+pub struct Ran {
+    pub node: Option<usize>,
+    pub can_run: bool,
 }
 
 // What judge answers: a chart's counts, and the number of findings.
 #[derive(Clone, Copy)]
-pub enum JudgeAnswer {
-    Refused(Refusal),
-    Judged(Counts, usize),
-}
-
-// What the label check answers.
-#[derive(Clone, Copy)]
-pub enum LabelAnswer {
-    Refused(Refusal),
-    Yes,
-    No,
+pub struct Judgement {
+    pub counts: Counts,
+    pub findings: usize,
 }

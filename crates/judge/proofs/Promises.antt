@@ -7,16 +7,14 @@ use Prim.Native.Nat.{ℕ}
 use lib.ListN.{length, take, drop, length-map}
 use lib.Seq.{take_at}
 use native.Mathlib.Omega.{arith}
+use Rattle.std.specs.Prelude.{Ok, Err}
 use Rattle.column_lengths.specs.Lengths.{judge_too_short}
 use Rattle.column_lengths.proofs.Long.{all_long}
 use Rattle.flow.specs.declared.Refusal.{Refusal}
-use Rattle.flow.specs.declared.Verdict.{Verdict}
-use Rattle.flow.specs.declared.Verdict.TheVariants.{Admitted, Refused}
-use Rattle.flow.specs.declared.JudgeAnswer.{JudgeAnswer}
-use Rattle.flow.specs.declared.JudgeAnswer.TheVariants.{Refused as JudgeRefused}
-use Rattle.flow.specs.Refusals.{first_applying, item_tests, pair_tests, pair_verdict}
+use Rattle.flow.specs.declared.Judgement.{Judgement}
+use Rattle.flow.specs.Refusals.{Verdict, first_applying, item_tests, pair_tests, pair_verdict}
 use Rattle.flow.specs.Scopes.{crossed, scopes_wrong, scoped_tests, scoped_verdict}
-use Rattle.flow.specs.Answers.{judge_told}
+use Rattle.flow.specs.Answers.{JudgeAnswer, judge_told}
 use Rattle.flow.specs.Locals.{Finding}
 use Rattle.flow.specs.Findings.{findings}
 use Rattle.flow.specs.Judge.{judge}
@@ -31,7 +29,7 @@ use Rattle.chart.proofs.Widths.{wide}
 use Rattle.findings.specs.Accepted.{FindingColumns, Long, Accepted}
 use Rattle.judge.specs.Lent.{JudgeLent, judge_short, short, found_in, Judges, JudgePromise}
 
-never : {v : Verdict} {r : Refusal} → v ≡ Refused r → v ≡ Admitted → ⊥
+never : {v : Verdict} {r : Refusal} → v ≡ Err r → v ≡ Ok tt → ⊥
 never p q = let z : ◌≡◌ {A = ℕ} 0 1 = cc in omega arith
 
 as_supplied : (S U C : List ℕ) → C ≡ [] → crossed S U C ≡ U
@@ -39,7 +37,7 @@ unfolding crossed
 as_supplied S U C e = ap (crossed S U) e
 
 module _ (S U C : List ℕ) (x : Columns) (f : FindingColumns) where
-  pub judge_refused : {r : Refusal} → scoped_verdict (judge_short x f) S U C ≡ Refused r → JudgePromise S U C (JudgeRefused r) (record { chart = record { before = x; after = x }; found = record { before = f; after = f } })
+  pub judge_refused : {r : Refusal} → scoped_verdict (judge_short x f) S U C ≡ Err r → JudgePromise S U C (Err r) (record { chart = record { before = x; after = x }; found = record { before = f; after = f } })
   judge_refused e = record {
     judges = record {
       told = rw e;
@@ -54,7 +52,7 @@ module _ (S U C : List ℕ) (x : Columns) (f : FindingColumns) where
     replaced = λ q. absurd (never e q);
   }
 
-  module _ (e : scoped_verdict (judge_short x f) S U C ≡ Admitted) where
+  module _ (e : scoped_verdict (judge_short x f) S U C ≡ Ok tt) where
     pub ok : AdmittedPair (judge_short x f) S U
     ok = of_pair (judge_short x f) S U (scoped_pair (judge_short x f) S U C e)
 
@@ -69,18 +67,18 @@ module _ (S U C : List ℕ) (x : Columns) (f : FindingColumns) where
     abbrev N : List ℕ
     N = crossed S U C
 
-    module _ {r : JudgeAnswer} {y : Columns} {g : FindingColumns} (a : Accepted S N r (record { before = x; after = y }) (record { before = f; after = g })) where
-      counted : found_in r ≡ length (findings S N)
-      counted = ap found_in a.answer
+    module _ {r : Judgement} {y : Columns} {g : FindingColumns} (a : Accepted S N r (record { before = x; after = y }) (record { before = f; after = g })) where
+      counted : found_in (Ok r) ≡ length (findings S N)
+      counted = ap (λ (j : Judgement). found_in (Ok j)) a.answer
 
       -- as many cells as judge tells are the findings
-      written : (part : Finding → ℕ) (old : List ℕ) {new : List ℕ} → length (map part (findings S N)) ≡ length (findings S N) → new ≡ overlay (map part (findings S N)) old → take (found_in r) new ≡ map part (findings S N)
+      written : (part : Finding → ℕ) (old : List ℕ) {new : List ℕ} → length (map part (findings S N)) ≡ length (findings S N) → new ≡ overlay (map part (findings S N)) old → take (found_in (Ok r)) new ≡ map part (findings S N)
       written part old n q = rw (counted, q) (take_at (map part (findings S N)) (drop (length (map part (findings S N))) old) (length (findings S N)) n)
 
-      pub judge_accepted : JudgePromise S U C r (record { chart = record { before = x; after = y }; found = record { before = f; after = g } })
+      pub judge_accepted : JudgePromise S U C (Ok r) (record { chart = record { before = x; after = y }; found = record { before = f; after = g } })
       judge_accepted = record {
         judges = record {
-          told = rw e (ap judge_told a.answer);
+          told = rw e (ap (λ (j : Judgement). judge_told (Ok j)) a.answer);
           columns = rw e a.columns;
           shown = λ q. a.shown;
           finding_words = rw e a.found.words;

@@ -5,7 +5,7 @@ ghost use Rattle.search.specs.Lent.{held};
 ghost use Rattle.chart.specs.Lent.{lent};
 ghost use Rattle.judge.specs.Lent.{JudgePromise, judge_lent};
 
-use flow::{JudgeAnswer, Verdict};
+use flow::{Judgement, Refusal};
 
 // The graph of a sheet and the findings of its locals, in the columns that are lent. A scope sheet of 0 words is none.
 pub fn judge(
@@ -24,7 +24,7 @@ pub fn judge(
     finding_word: &mut [u64],
     finding_span: &mut [u64],
     mark: &mut [u64],
-) -> JudgeAnswer
+) -> Result<Judgement, Refusal>
     ensures { JudgePromise sheet.now uses.now scopes.now result (judge_lent (lent first second start reachable code_span code_node name_span name_node name_end) finding_word finding_span mark) }
 {
     let chart_short = column_lengths::chart_short(
@@ -44,11 +44,8 @@ pub fn judge(
         mark.len(),
         chart_short,
     );
-    let verdict = scoped_admission::scoped_verdict(short, sheet, uses, scopes);
-    if let Verdict::Refused(refusal) = verdict {
-        return JudgeAnswer::Refused(refusal);
-    }
-    judging::of_sheets(
+    scoped_admission::scoped_verdict(short, sheet, uses, scopes)?;
+    Ok(judging::of_sheets(
         sheet,
         uses,
         scopes,
@@ -64,5 +61,5 @@ pub fn judge(
         finding_word,
         finding_span,
         mark,
-    )
+    ))
 }

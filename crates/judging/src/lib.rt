@@ -2,7 +2,6 @@
 #![tactic(auto)]
 
 ghost use Rattle.std.specs.Prelude.{◌≡◌, false};
-ghost use Rattle.flow.specs.declared.Verdict.TheVariants.{Admitted};
 ghost use Rattle.flow.specs.Refusals.{sheet_verdict};
 ghost use Rattle.flow.specs.Scopes.{bad_scopes, crossed};
 ghost use Rattle.flow.specs.Admitted.{AdmittedSheet, AdmittedUses};
@@ -10,7 +9,7 @@ ghost use Rattle.search.specs.Lent.{held};
 ghost use Rattle.chart.specs.Lent.{columns, lent, Wide};
 ghost use Rattle.findings.specs.Accepted.{findings_lent, Long, Accepted};
 
-use flow::JudgeAnswer;
+use flow::Judgement;
 use scoped_findings::find_scoped;
 
 // The chart and the findings of sheets that are admitted, in the columns that are lent.
@@ -30,8 +29,8 @@ pub fn of_sheets(
     finding_word: &mut [u64],
     finding_span: &mut [u64],
     mark: &mut [u64],
-) -> JudgeAnswer
-    requires admitted_sheet { AdmittedSheet sheet.now × AdmittedUses sheet.now uses.now × (bad_scopes sheet.now uses.now scopes.now ≡ false) × (sheet_verdict false sheet.now ≡ Admitted) }
+) -> Judgement
+    requires admitted_sheet { AdmittedSheet sheet.now × AdmittedUses sheet.now uses.now × (bad_scopes sheet.now uses.now scopes.now ≡ false) × (sheet_verdict false sheet.now ≡ Ok tt) }
     requires wide { Wide (columns first.old second.old start.old reachable.old code_span.old code_node.old name_span.old name_node.old name_end.old) }
     requires long { Long (record { word = finding_word.old; span = finding_span.old; mark = mark.old }) }
     ensures { Accepted sheet.now (crossed sheet.now uses.now scopes.now) result (lent first second start reachable code_span code_node name_span name_node name_end) (findings_lent finding_word finding_span mark) }
@@ -40,7 +39,7 @@ pub fn of_sheets(
         sheet, first, second, start, reachable, code_span, code_node, name_span, name_node,
         name_end,
     );
-    let found = find_scoped(
+    let findings = find_scoped(
         sheet,
         uses,
         scopes,
@@ -57,5 +56,5 @@ pub fn of_sheets(
         mark,
         counts,
     );
-    JudgeAnswer::Judged(counts, found)
+    Judgement { counts, findings }
 }

@@ -10,7 +10,6 @@ ghost use Rattle.kinds.specs.Numbers.{kind_number};
 ghost use Rattle.kinds.specs.Starts.{has_start};
 ghost use Rattle.kinds.specs.Truths.{may_fail, may_hold};
 
-use flow::Truth;
 use words::ARGUMENT;
 use words::kind::{DO, ELSEIF, END, FOR, GOTO, IF, LABEL, LOCAL, PLAIN, UNTIL, WHILE};
 
@@ -157,37 +156,29 @@ pub fn ends_block(kind: u64) -> bool
 }
 
 // What a condition code is known to be.
-pub fn literal_truth(condition: u64) -> Truth
+pub fn literal_truth(condition: u64) -> Option<bool>
     ensures { result ≡ literal_truth condition }
 {
     if condition <= LAST_FALSE {
-        return Truth::False;
+        return Some(false);
     }
     if condition <= LAST_TRUE {
-        return Truth::True;
+        return Some(true);
     }
-    Truth::Unknown
+    None
 }
 
 // Whether a condition may fail, and whether it may hold.
-pub fn may_fail(truth: Truth) -> bool
+pub fn may_fail(truth: Option<bool>) -> bool
     ensures { result ≡ may_fail truth }
 {
-    match truth {
-        Truth::False => true,
-        Truth::True => false,
-        Truth::Unknown => true,
-    }
+    truth != Some(true)
 }
 
-pub fn may_hold(truth: Truth) -> bool
+pub fn may_hold(truth: Option<bool>) -> bool
     ensures { result ≡ may_hold truth }
 {
-    match truth {
-        Truth::False => false,
-        Truth::True => true,
-        Truth::Unknown => true,
-    }
+    truth != Some(false)
 }
 
 // Whether a call with this argument raises.

@@ -5,19 +5,12 @@ ghost use Rattle.std.specs.Prelude.{◌≡◌};
 ghost use Rattle.flow.specs.Answers.{label_told};
 ghost use Rattle.flow.specs.Labels.{label_check};
 
-use flow::{LabelAnswer, Verdict};
+use flow::Refusal;
 
 // Whether no label is repeated in its block and every GOTO finds one.
-pub fn label_check(sheet: &[u64]) -> LabelAnswer
+pub fn label_check(sheet: &[u64]) -> Result<bool, Refusal>
     ensures { label_told result ≡ label_check sheet.now }
 {
-    let verdict = admission::sheet_verdict(false, sheet);
-    if let Verdict::Refused(refusal) = verdict {
-        return LabelAnswer::Refused(refusal);
-    }
-    let kinds = sheet_parts::kinds(sheet);
-    if label_check::labels_fine(kinds) {
-        return LabelAnswer::Yes;
-    }
-    LabelAnswer::No
+    admission::sheet_verdict(false, sheet)?;
+    Ok(label_check::labels_fine(sheet_parts::kinds(sheet)))
 }

@@ -6,7 +6,7 @@ use mathlib.Core.List.{List, [], ◌∷◌}
 use Prim.Native.Nat.{ℕ, ◌-◌}
 use native.Mathlib.Omega.{arith}
 use lib.ListN.{length}
-use Rattle.flow.specs.declared.Verdict.TheVariants.{Admitted}
+use Rattle.std.specs.Prelude.{Ok}
 use Rattle.flow.specs.Sheet.{Item, kind_words, span_words, zip}
 use Rattle.flow.specs.Refusals.{sheet_verdict}
 use Rattle.flow.specs.Tree.{Frame, Open, outer, in_front, opened, parse, tree}
@@ -40,7 +40,7 @@ none_open : (fs : List Frame) → length fs ≡ 0 → fs ≡ []
 none_open [] q = refl
 none_open (f ∷ fs) q = absurd (omega arith)
 
-module _ (S : List ℕ) (e : sheet_verdict false S ≡ Admitted) where
+module _ (S : List ℕ) (e : sheet_verdict false S ≡ Ok tt) where
   sheet : AdmittedSheet S
   sheet = admitted S e
 

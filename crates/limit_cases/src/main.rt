@@ -5,8 +5,8 @@
 ghost use Rattle.std.specs.Prelude.{◌≤◌};
 
 use column_lengths::{CODES, FINDINGS, LOCALS, NODES};
-use flow::LabelAnswer;
-use numbers::{chart_number, judge_number, label_number, run_number};
+use flow::Refusal;
+use numbers::number_of;
 use std::io;
 use words::kind::{END, PLAIN};
 use words::limit::{DEPTH, ITEMS};
@@ -54,10 +54,10 @@ fn nested_do(sheet: &mut [u64; WORDS], depth: usize)
 }
 
 // No label stands in these pieces: a no would be printed as a number that no refusal has.
-fn label_or_no(answer: LabelAnswer) -> u64 {
+fn label_or_no(answer: Result<bool, Refusal>) -> u64 {
     match answer {
-        LabelAnswer::No => NO,
-        _ => label_number(answer),
+        Ok(false) => NO,
+        _ => number_of(answer),
     }
 }
 
@@ -71,7 +71,7 @@ fn chart(sheet: &[u64]) -> u64 {
     let mut name_span = [0u64; LOCALS];
     let mut name_node = [0u64; LOCALS];
     let mut name_end = [0u64; LOCALS];
-    chart_number(chart_call::chart(
+    number_of(chart_call::chart(
         sheet,
         &mut first,
         &mut second,
@@ -101,7 +101,7 @@ fn judge(sheet: &[u64]) -> u64 {
     let mut finding_word = [0u64; FINDINGS];
     let mut finding_span = [0u64; FINDINGS];
     let mut mark = [0u64; LOCALS];
-    judge_number(judge::judge(
+    number_of(judge::judge(
         sheet,
         &uses,
         &scopes,
@@ -123,7 +123,7 @@ fn judge(sheet: &[u64]) -> u64 {
 fn tell(rt: &impl Print, what: &str, sheet: &[u64]) -> io::Result<()> {
     let chart = chart(sheet);
     let judge = judge(sheet);
-    let run = run_number(run::run(sheet, 0));
+    let run = number_of(run::run(sheet, 0));
     let label = label_or_no(label_call::label_check(sheet));
     println!(rt; "{what}: chart {chart}, judge {judge}, run {run}, label check {label}")
 }

@@ -7,9 +7,8 @@ use Prim.Native.Nat.{ℕ, ◌≤◌, zero-le}
 use native.Mathlib.Omega.{arith}
 use lib.ListN.{length, take, length-map}
 use lib.Seq.{take_at, take-append-le}
-use Rattle.flow.specs.declared.Verdict.{Verdict}
-use Rattle.flow.specs.declared.Verdict.TheVariants.{Admitted, Refused}
-use Rattle.flow.specs.Refusals.{pair_verdict}
+use Rattle.std.specs.Prelude.{Ok, Err}
+use Rattle.flow.specs.Refusals.{Verdict, pair_verdict}
 use Rattle.flow.specs.Answers.{Told, tells, count_values, findings_told}
 use Rattle.flow.specs.Graph.{Graph, graph}
 use Rattle.flow.specs.Reachable.{counts_of, reachable}
@@ -43,15 +42,15 @@ shown S fs r₁ r₂ r₃ e p q = record {
 abbrev tells_of : Verdict → Graph → List Finding → Told
 tells_of v g fs = tells v (count_values (counts_of g) ++ (length fs ∷ []))
 
-by_verdict : (v : Verdict) (g : Graph) (fs : List Finding) (flags ws ss : List ℕ) → (v ≡ Admitted → Shown g fs flags ws ss)
+by_verdict : (v : Verdict) (g : Graph) (fs : List Finding) (flags ws ss : List ℕ) → (v ≡ Ok tt → Shown g fs flags ws ss)
     → answer_lines (tells_of v g fs) flags ws ss ≡ printed_for (tells_of v g fs) (reachable g) fs
 unfolding report
-by_verdict (Refused r) g fs flags ws ss h = rw (refuses r)
-by_verdict Admitted g fs flags ws ss h = rw ((h refl).exits, (h refl).words, (h refl).spans, same_findings)
+by_verdict (Err r) g fs flags ws ss h = rw (refuses r)
+by_verdict (Ok tt) g fs flags ws ss h = rw ((h refl).exits, (h refl).words, (h refl).spans, same_findings)
 
-few_by_verdict : (v : Verdict) (g : Graph) (fs : List Finding) {m : ℕ} → (v ≡ Admitted → length fs ≤ m) → findings_told (tells_of v g fs) ≤ m
-few_by_verdict (Refused r) g fs h = zero-le
-few_by_verdict Admitted g fs h = h refl
+few_by_verdict : (v : Verdict) (g : Graph) (fs : List Finding) {m : ℕ} → (v ≡ Ok tt → length fs ≤ m) → findings_told (tells_of v g fs) ≤ m
+few_by_verdict (Err r) g fs h = zero-le
+few_by_verdict (Ok tt) g fs h = h refl
 
 -- the program takes no scope sheet
 unscoped : (short : Bool) (S U : List ℕ) → judge short S U [] ≡ judged (pair_verdict short S U) S U
@@ -59,10 +58,10 @@ unfolding judge crossed
 unscoped short S U = ap (λ (v : Verdict). judged v S U) (no_scopes_verdict short S U)
 
 module _ (short : Bool) (S U : List ℕ) {t : Told} (e : t ≡ judged (pair_verdict short S U) S U) where
-  pub answer_prints : (flags ws ss : List ℕ) → (pair_verdict short S U ≡ Admitted → Shown (graph S) (findings S U) flags ws ss)
+  pub answer_prints : (flags ws ss : List ℕ) → (pair_verdict short S U ≡ Ok tt → Shown (graph S) (findings S U) flags ws ss)
       → answer_lines t flags ws ss ≡ printed_for (judge short S U []) (reachable (graph S)) (findings S U)
   answer_prints flags ws ss h = rw (e, unscoped short S U) (by_verdict (pair_verdict short S U) (graph S) (findings S U) flags ws ss h)
 
   -- no more findings than the columns hold
-  pub few_found : {m : ℕ} → (pair_verdict short S U ≡ Admitted → length (findings S U) ≤ m) → findings_told t ≤ m
+  pub few_found : {m : ℕ} → (pair_verdict short S U ≡ Ok tt → length (findings S U) ≤ m) → findings_told t ≤ m
   few_found h = rw e (few_by_verdict (pair_verdict short S U) (graph S) (findings S U) h)

@@ -10,9 +10,8 @@ ghost use Rattle.finding_lines.specs.Findings.{first_findings};
 ghost use Rattle.lines.specs.Report.{answer_lines, room_for_all};
 
 use finding_lines::finding_lines;
-use flow::{Counts, JudgeAnswer, Refusal};
+use flow::{Counts, Judgement, Refusal};
 use line_writer::line;
-use numbers::number;
 
 // Bytes that hold every output, as the specs' `room_for_all` has it.
 pub const ROOM: usize = 169140;
@@ -22,7 +21,7 @@ pub fn refused(output: &mut [u8], refusal: Refusal) -> usize
     requires { room_for_all ≤ length output.old }
     ensures { Printed (Listing.refused (Refusals.number refusal)) output.old output.new result }
 {
-    let values = [number(refusal)];
+    let values = [refusal.into()];
     line(output, 0, b"refused", &values)
 }
 
@@ -61,7 +60,7 @@ fn report(
 // What judge answered and wrote, printed.
 pub fn answered(
     output: &mut [u8],
-    answer: JudgeAnswer,
+    answer: Result<Judgement, Refusal>,
     reachable: &[u64],
     words: &[u64],
     spans: &[u64],
@@ -71,7 +70,7 @@ pub fn answered(
     ensures { Printed (answer_lines (judge_told answer) reachable.now words.now spans.now) output.old output.new result }
 {
     match answer {
-        JudgeAnswer::Refused(refusal) => refused(output, refusal),
-        JudgeAnswer::Judged(counts, n) => report(output, counts, reachable, words, spans, n),
+        Err(refusal) => refused(output, refusal),
+        Ok(judged) => report(output, judged.counts, reachable, words, spans, judged.findings),
     }
 }

@@ -11,7 +11,7 @@ use borrow.Author.Tests.{lt-ltb, le-ltb, leb-true}
 use lib.Dec.{eqb, leb}
 use lib.ListN.{length, get_or, take}
 use lib.Seq.{length-take-le, get_or-take}
-use Rattle.flow.specs.declared.Found.TheVariants.{At, Nothing}
+use Rattle.std.specs.Prelude.{Some, None}
 use Rattle.flow.specs.Sheet.{end_of}
 use Rattle.flow.specs.Graph.{Graph, node_count}
 use Rattle.flow.specs.Reachable.{reachable, node_among, can_run}
@@ -32,7 +32,7 @@ first_after codes spans o i r l p h e =
 pub first_at_start : (codes : ℕ) (spans : List ℕ) (o i : ℕ) → i < codes → o < end_of (get_or spans i 0) → i ≤ 0 → FirstPast codes spans o i
 first_at_start codes spans o i l p h = record { within = omega arith; before = λ k m. absurd (omega arith); past = λ _. p }
 
-among_at : (spans nodes : List ℕ) (o r : ℕ) → ((i : ℕ) → i < r → end_of (get_or spans i 0) ≤ o) → r < length spans → r < length nodes → o < end_of (get_or spans r 0) → node_among spans nodes o ≡ At (get_or nodes r 0)
+among_at : (spans nodes : List ℕ) (o r : ℕ) → ((i : ℕ) → i < r → end_of (get_or spans i 0) ≤ o) → r < length spans → r < length nodes → o < end_of (get_or spans r 0) → node_among spans nodes o ≡ Some (get_or nodes r 0)
 unfolding node_among
 among_at [] vs o r b l m p = absurd (not-suc-le-zero l)
 among_at (s ∷ ss) [] o r b l m p = absurd (not-suc-le-zero m)
@@ -40,7 +40,7 @@ among_at (s ∷ ss) (v ∷ vs) o zero b l m p = rw (lt-ltb o (end_of s) p)
 among_at (s ∷ ss) (v ∷ vs) o (suc r) b l m p =
     rw (le-ltb o (end_of s) (b 0 (omega arith))) (among_at ss vs o r (λ i h. b (suc i) (omega arith)) (le_of_suc-le-suc l) (le_of_suc-le-suc m) p)
 
-among_none : (spans nodes : List ℕ) (o : ℕ) → ((i : ℕ) → i < length spans → end_of (get_or spans i 0) ≤ o) → node_among spans nodes o ≡ Nothing
+among_none : (spans nodes : List ℕ) (o : ℕ) → ((i : ℕ) → i < length spans → end_of (get_or spans i 0) ≤ o) → node_among spans nodes o ≡ None
 unfolding node_among
 among_none [] vs o b = refl
 among_none (s ∷ ss) [] o b = refl
@@ -50,17 +50,17 @@ module _ (codes : ℕ) (spans nodes : List ℕ) (o r : ℕ) (l : codes ≤ lengt
   all : length (take codes spans) ≡ codes
   all = length-take-le codes spans l
 
-  pub first_at_law : codes ≤ length nodes → r < codes → At (get_or nodes r 0) ≡ node_among (take codes spans) (take codes nodes) o
+  pub first_at_law : codes ≤ length nodes → r < codes → Some (get_or nodes r 0) ≡ node_among (take codes spans) (take codes nodes) o
   first_at_law m h =
-      ap At (sym (get_or-take codes nodes r 0 h))
+      ap Some (sym (get_or-take codes nodes r 0 h))
       ∙ sym (among_at (take codes spans) (take codes nodes) o r (λ i j. rw (get_or-take codes spans i 0 (omega arith)) (f.before i j)) (omega (arith, all)) (omega (arith, length-take-le codes nodes m)) (rw (get_or-take codes spans r 0 h) (f.past h)))
 
-  pub first_none : codes ≤ r → Nothing ≡ node_among (take codes spans) (take codes nodes) o
+  pub first_none : codes ≤ r → None ≡ node_among (take codes spans) (take codes nodes) o
   first_none h =
       sym (among_none (take codes spans) (take codes nodes) o (λ i j. rw (get_or-take codes spans i 0 (omega (arith, all))) (f.before i (omega (arith, all)))))
 
 -- ---- what can run
 
-pub flag_runs : (g : Graph) (m : List ℕ) (v : ℕ) → take (node_count g) m ≡ reachable g → v < node_count g → eqb (get_or m v 0) 1 ≡ can_run g (At v)
+pub flag_runs : (g : Graph) (m : List ℕ) (v : ℕ) → take (node_count g) m ≡ reachable g → v < node_count g → eqb (get_or m v 0) 1 ≡ can_run g (Some v)
 unfolding can_run
 flag_runs g m v e h = ap (λ (x : ℕ). eqb x 1) (sym (get_or-take (node_count g) m v 0 h) ∙ ap (λ (l : List ℕ). get_or l v 0) e)

@@ -1,8 +1,6 @@
 -- Codes whose ends rise, and the code that an offset falls to.
 -- Assumes nothing: these are definitions.
-use Rattle.std.specs.Prelude.{ℕ, ◌<◌, ◌≤◌, ◌≡◌, List, get_or}
-use Rattle.flow.specs.declared.Found.{Found}
-use Rattle.flow.specs.declared.Found.TheVariants.{At}
+use Rattle.std.specs.Prelude.{ℕ, ◌<◌, ◌≤◌, ◌≡◌, List, get_or, Option, Some}
 use Rattle.flow.specs.Sheet.{end_of}
 
 -- the ends of the first `codes` spans rise
@@ -16,5 +14,5 @@ pub record FirstPast (codes : ℕ) (spans : List ℕ) (offset r : ℕ) : Type 0 
   pub past : r < codes → offset < end_of (get_or spans r 0)
 
 -- the node that was found, if one was, is below n
-abbrev pub Within : ℕ → Found → Type 0
-Within n f = (v : ℕ) → f ≡ At v → v < n
+abbrev pub Within : ℕ → Option ℕ → Type 0
+Within n f = (v : ℕ) → f ≡ Some v → v < n

@@ -6,7 +6,6 @@ ghost use Rattle.flow.specs.Graph.{Graph, node_count};
 ghost use Rattle.flow.specs.Reachable.{reachable as reachableFlags, node_among, can_run};
 ghost use Rattle.offsets.specs.Codes.{Rising, FirstPast, Within};
 
-use flow::Found;
 use search::at;
 use words::HALF;
 
@@ -72,19 +71,19 @@ pub fn code_at(code_span: &[u64], codes: usize, offset: u64, hint: usize) -> usi
 }
 
 // The node that a code has, by its index; past all codes there is none.
-pub fn node_of_code(code_node: &[u64], codes: usize, index: usize) -> Found
+pub fn node_of_code(code_node: &[u64], codes: usize, index: usize) -> Option<usize>
     requires { codes ≤ length code_node.now }
     ensures { (spans : List ℕ) (offset : ℕ) → codes ≤ length spans → FirstPast codes spans offset index → result ≡ node_among (take codes spans) (take codes code_node.now) offset }
 {
     if index < codes {
-        Found::At(at(code_node, index))
+        Some(at(code_node, index))
     } else {
-        Found::Nothing
+        None
     }
 }
 
 // The node of the first code that ends past an offset, if there is one.
-pub fn node_at(code_span: &[u64], code_node: &[u64], codes: usize, offset: u64) -> Found
+pub fn node_at(code_span: &[u64], code_node: &[u64], codes: usize, offset: u64) -> Option<usize>
     requires codes_in_bounds { (codes ≤ length code_span.now) × (codes ≤ length code_node.now) }
     requires rising { Rising codes code_span.now }
     ensures { result ≡ node_among (take codes code_span.now) (take codes code_node.now) offset }
@@ -94,12 +93,12 @@ pub fn node_at(code_span: &[u64], code_node: &[u64], codes: usize, offset: u64) 
 }
 
 // Whether the code at the node that was found can run; where none was found the answer is yes.
-pub fn can_run(reachable: &[u64], found: Found) -> bool
+pub fn can_run(reachable: &[u64], found: Option<usize>) -> bool
     requires { Within (length reachable.now) found }
     ensures { (g : Graph) → take (node_count g) reachable.now ≡ reachableFlags g → Within (node_count g) found → result ≡ can_run g found }
 {
     match found {
-        Found::At(v) => reachable[v] == 1,
-        Found::Nothing => true,
+        Some(v) => reachable[v] == 1,
+        None => true,
     }
 }

@@ -6,11 +6,9 @@ use mathlib.Core.List.{List, []}
 use Prim.Native.Nat.{ℕ, ◌≤◌}
 use native.Mathlib.Omega.{arith}
 use lib.ListN.{length, drop, replicate, length-append, length-map}
-use Rattle.flow.specs.declared.JudgeAnswer.{JudgeAnswer}
-use Rattle.flow.specs.declared.Verdict.{Verdict}
-use Rattle.flow.specs.declared.Verdict.TheVariants.{Admitted}
-use Rattle.flow.specs.Refusals.{pair_verdict}
-use Rattle.flow.specs.Answers.{judge_told, findings_told}
+use Rattle.std.specs.Prelude.{Ok}
+use Rattle.flow.specs.Refusals.{Verdict, pair_verdict}
+use Rattle.flow.specs.Answers.{JudgeAnswer, judge_told, findings_told}
 use Rattle.flow.specs.Graph.{graph}
 use Rattle.flow.specs.Reachable.{reachable}
 use Rattle.flow.specs.Findings.{findings}
@@ -42,10 +40,10 @@ own = refl
 
 -- ---- what is written where the sheets are admitted
 
-admits : {v : Verdict} (xs old : List ℕ) {col : List ℕ} → v ≡ Admitted → col ≡ leaves v xs old → col ≡ overlay xs old
+admits : {v : Verdict} (xs old : List ℕ) {col : List ℕ} → v ≡ Ok tt → col ≡ leaves v xs old → col ≡ overlay xs old
 admits xs old e p = rw e at p
 
-chart_admits : {v : Verdict} (S : List ℕ) (x : Columns) {y : Columns} → v ≡ Admitted → y ≡ chart_leaves v S x → y.nodes.reachable ≡ overlay (reachable (graph S)) x.nodes.reachable
+chart_admits : {v : Verdict} (S : List ℕ) (x : Columns) {y : Columns} → v ≡ Ok tt → y ≡ chart_leaves v S x → y.nodes.reachable ≡ overlay (reachable (graph S)) x.nodes.reachable
 unfolding chart_of
 chart_admits S x e p = ap (λ (y : Columns). y.nodes.reachable) (rw e at p)
 
@@ -62,19 +60,19 @@ module _ (S U : List ℕ) {answer : JudgeAnswer} {y : Columns} {g : FindingColum
   tells : judge_told answer ≡ judged (pair_verdict false S U) S U
   tells = rw own at p.told
 
-  words_are : pair_verdict false S U ≡ Admitted → g.word ≡ overlay (words_of (findings S U)) (zeros 3072)
+  words_are : pair_verdict false S U ≡ Ok tt → g.word ≡ overlay (words_of (findings S U)) (zeros 3072)
   words_are a = admits (words_of (findings S U)) (zeros 3072) a (rw own at p.finding_words)
 
-  spans_are : pair_verdict false S U ≡ Admitted → g.span ≡ overlay (spans_of (findings S U)) (zeros 3072)
+  spans_are : pair_verdict false S U ≡ Ok tt → g.span ≡ overlay (spans_of (findings S U)) (zeros 3072)
   spans_are a = admits (spans_of (findings S U)) (zeros 3072) a (rw own at p.finding_spans)
 
-  flags_are : pair_verdict false S U ≡ Admitted → y.nodes.reachable ≡ overlay (reachable (graph S)) (zeros 1600)
+  flags_are : pair_verdict false S U ≡ Ok tt → y.nodes.reachable ≡ overlay (reachable (graph S)) (zeros 1600)
   flags_are a = chart_admits S own_columns a (rw own at p.columns)
 
   pub held : length g.word ≡ 3072 → findings_told (judge_told answer) ≤ 3072
   held l = few_found false S U tells (λ a. omega (arith, fits (words_of (findings S U)) (zeros 3072) (words_are a), length-map (findings S U) (λ f. f.word)))
 
-  shows : pair_verdict false S U ≡ Admitted → Shown (graph S) (findings S U) y.nodes.reachable g.word g.span
+  shows : pair_verdict false S U ≡ Ok tt → Shown (graph S) (findings S U) y.nodes.reachable g.word g.span
   shows a =
       let fs = findings S U in
       shown S fs (drop (length (reachable (graph S))) (zeros 1600)) (drop (length (words_of fs)) (zeros 3072)) (drop (length (spans_of fs)) (zeros 3072)) (flags_are a) (words_are a) (spans_are a)

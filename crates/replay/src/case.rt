@@ -7,8 +7,8 @@ use crate::finding_cells::judge_agrees;
 use crate::runs::runs_agree;
 use crate::stored;
 use column_lengths::{CODES, FINDINGS, LOCALS, NODES};
-use flow::LabelAnswer;
-use numbers::{label_number, verdict_number};
+use flow::Refusal;
+use numbers::number_of;
 
 // Misshapen: a length goes past the case's end. Unread: the file ends in the case, or the case is
 // longer than the reader's buffer. End: no case is left.
@@ -22,14 +22,12 @@ pub enum Outcome {
 }
 
 // The word that a case holds for the label check: the refusal's number, else its value.
-fn label_word(answer: LabelAnswer) -> u64
+fn label_word(answer: Result<bool, Refusal>) -> u64
     ensures { result ≡ (label_told answer).number + get_or (label_told answer).values 0 0 }
 {
-    let number = label_number(answer);
     match answer {
-        LabelAnswer::Refused(_) => number,
-        LabelAnswer::Yes => 1,
-        LabelAnswer::No => 0,
+        Err(refusal) => refusal.into(),
+        Ok(fine) => u64::from(fine),
     }
 }
 
@@ -49,8 +47,8 @@ fn both_agree(cells: Cells, sheet: &[u64], uses: &[u64], chart: u64, judge: u64)
     let l = cells.locals;
     let short = column_lengths::chart_short(n, n, n, n, c, c, l, l, l);
     let any_short = column_lengths::judge_short(cells.findings, cells.findings, l, short);
-    let charted = verdict_number(admission::sheet_verdict(short, sheet)) == chart;
-    let judged = verdict_number(admission::pair_verdict(any_short, sheet, uses)) == judge;
+    let charted = number_of(admission::sheet_verdict(short, sheet)) == chart;
+    let judged = number_of(admission::pair_verdict(any_short, sheet, uses)) == judge;
     charted & judged
 }
 

@@ -5,8 +5,8 @@ ghost use Rattle.replay.specs.Words.{stored_told};
 
 use crate::stored::Stored;
 use column_lengths::{CODES, FINDINGS, LOCALS, NODES};
-use flow::{ChartAnswer, Counts};
-use numbers::chart_number;
+use flow::{Counts, Refusal};
+use numbers::number_of;
 
 // What each lent cell holds before the call.
 pub const OLD: u64 = 7;
@@ -75,15 +75,15 @@ pub fn counts_are(counts: Counts, stored: Stored) -> bool
 }
 
 // Whether an answer tells the stored number, and where that is 0 the stored counts.
-fn answer_is(answer: ChartAnswer, stored: Stored) -> bool
+fn answer_is(answer: Result<Counts, Refusal>, stored: Stored) -> bool
     ensures { result ≡ true → chart_told answer ≡ stored_told stored.number (stored.nodes ∷ stored.codes ∷ stored.names ∷ []) }
 {
-    if chart_number(answer) != stored.number {
+    if number_of(answer) != stored.number {
         return false;
     }
     match answer {
-        ChartAnswer::Refused(_) => true,
-        ChartAnswer::Charted(counts) => counts_are(counts, stored),
+        Err(_) => true,
+        Ok(counts) => counts_are(counts, stored),
     }
 }
 

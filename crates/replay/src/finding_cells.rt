@@ -6,23 +6,20 @@ ghost use Rattle.replay.specs.Words.{stored_told};
 use crate::chart_cells::{OLD, cells_hold, counts_are, finding_end};
 use crate::stored::Stored;
 use column_lengths::{CODES, FINDINGS, LOCALS, NODES};
-use flow::JudgeAnswer;
-use numbers::judge_number;
+use flow::{Judgement, Refusal};
+use numbers::number_of;
 
 // Whether an answer tells the stored number, and where that is 0 the stored counts and the number of findings.
-fn answer_is(answer: JudgeAnswer, stored: Stored) -> bool
+fn answer_is(answer: Result<Judgement, Refusal>, stored: Stored) -> bool
     ensures { result ≡ true → judge_told answer ≡ stored_told stored.number (stored.nodes ∷ stored.codes ∷ stored.names ∷ stored.findings ∷ []) }
 {
-    if judge_number(answer) != stored.number {
+    if number_of(answer) != stored.number {
         return false;
     }
     match answer {
-        JudgeAnswer::Refused(_) => true,
-        JudgeAnswer::Judged(counts, found) => {
-            if !counts_are(counts, stored) {
-                return false;
-            }
-            found == stored.findings as usize
+        Err(_) => true,
+        Ok(judged) => {
+            counts_are(judged.counts, stored) && judged.findings == stored.findings as usize
         }
     }
 }

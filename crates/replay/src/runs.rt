@@ -5,20 +5,15 @@ ghost use Rattle.flow.specs.Answers.{found_values, run_told};
 ghost use Rattle.replay.specs.Words.{stored_told, stored_node};
 
 use crate::stored::{NONE, Stored, cells_end, count, word_at};
-use flow::{Found, RunAnswer};
+use flow::{Ran, Refusal};
 
 // Whether the values that a node or nothing tells are the stored ones: NONE where there is no node.
-fn node_is(found: Found, node: u64) -> bool
+fn node_is(found: Option<usize>, node: u64) -> bool
     ensures { result ≡ true → found_values found ≡ stored_node node }
 {
     match found {
-        Found::At(v) => {
-            if node == NONE as u64 {
-                return false;
-            }
-            v as u64 == node
-        }
-        Found::Nothing => node == NONE as u64,
+        Some(v) => node != NONE as u64 && v as u64 == node,
+        None => node == NONE as u64,
     }
 }
 
@@ -26,27 +21,22 @@ fn node_is(found: Found, node: u64) -> bool
 fn yes_is(yes: bool, can: u64) -> bool
     ensures { result ≡ true → one yes ≡ can }
 {
-    if yes { can == 1 } else { can == 0 }
+    can == u64::from(yes)
 }
 
 // Whether an answer is accepted and tells the stored values.
-fn answer_is(answer: RunAnswer, node: u64, can: u64) -> bool
+fn answer_is(answer: Result<Ran, Refusal>, node: u64, can: u64) -> bool
     ensures { result ≡ true → run_told answer ≡ stored_told 0 (can ∷ stored_node node) }
 {
     match answer {
-        RunAnswer::Refused(_) => false,
-        RunAnswer::Ran(found, yes) => {
-            if !node_is(found, node) {
-                return false;
-            }
-            yes_is(yes, can)
-        }
+        Err(_) => false,
+        Ok(ran) => node_is(ran.node, node) && yes_is(ran.can_run, can),
     }
 }
 
 // Whether run answers a stored refusal, whose number is not 0.
 fn refusal_agrees(sheet: &[u64], number: u64) -> bool {
-    numbers::run_number(run::run(sheet, 0)) == number
+    numbers::number_of(run::run(sheet, 0)) == number
 }
 
 fn run_agrees(sheet: &[u64], offset: u64, node: u64, can: u64) -> bool {

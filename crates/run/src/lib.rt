@@ -5,16 +5,13 @@ ghost use Rattle.run.specs.Promises.{RunPromise};
 
 use chart_run::run_in;
 use column_lengths::{CODES, LOCALS, NODES};
-use flow::{RunAnswer, Verdict};
+use flow::{Ran, Refusal};
 
 // The node of an offset, if there is one, and whether its code can run.
-pub fn run(sheet: &[u64], offset: u32) -> RunAnswer
+pub fn run(sheet: &[u64], offset: u32) -> Result<Ran, Refusal>
     ensures { RunPromise sheet.now offset result }
 {
-    let verdict = admission::sheet_verdict(false, sheet);
-    if let Verdict::Refused(refusal) = verdict {
-        return RunAnswer::Refused(refusal);
-    }
+    admission::sheet_verdict(false, sheet)?;
     let mut first = [0; NODES];
     let mut second = [0; NODES];
     let mut start = [0; NODES];
@@ -24,7 +21,7 @@ pub fn run(sheet: &[u64], offset: u32) -> RunAnswer
     let mut name_span = [0; LOCALS];
     let mut name_node = [0; LOCALS];
     let mut name_end = [0; LOCALS];
-    run_in(
+    Ok(run_in(
         sheet,
         offset,
         &mut first,
@@ -36,5 +33,5 @@ pub fn run(sheet: &[u64], offset: u32) -> RunAnswer
         &mut name_span,
         &mut name_node,
         &mut name_end,
-    )
+    ))
 }

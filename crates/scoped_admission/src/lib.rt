@@ -6,7 +6,7 @@ ghost use Rattle.flow.specs.Scopes.{bad_scopes, scoped_verdict};
 ghost use Rattle.flow.specs.Admitted.{AdmittedSheet, AdmittedUses};
 
 use admission::pair_verdict;
-use flow::{Refusal, Verdict};
+use flow::Refusal;
 use scope_tests::bad_scopes;
 use sheet_parts::Items;
 use use_tests::name_count;
@@ -24,15 +24,12 @@ fn scope_is_bad(sheet: &[u64], uses: &[u64], scopes: &[u64]) -> bool
 }
 
 // Of every call that takes a scope sheet. 9 comes behind 8, which looks at the uses as they are supplied.
-pub fn scoped_verdict(short: bool, sheet: &[u64], uses: &[u64], scopes: &[u64]) -> Verdict
+pub fn scoped_verdict(short: bool, sheet: &[u64], uses: &[u64], scopes: &[u64]) -> Result<(), Refusal>
     ensures { result ≡ scoped_verdict short sheet.now uses.now scopes.now }
 {
-    let pair = pair_verdict(short, sheet, uses);
-    if let Verdict::Refused(refusal) = pair {
-        return Verdict::Refused(refusal);
-    }
+    pair_verdict(short, sheet, uses)?;
     if scope_is_bad(sheet, uses, scopes) {
-        return Verdict::Refused(Refusal::BadScope);
+        return Err(Refusal::BadScope);
     }
-    Verdict::Admitted
+    Ok(())
 }

@@ -11,7 +11,7 @@ use lib.ListN.{length, get_or, drop, length-drop}
 use lib.Dec.{eqb}
 use borrow.Author.Tests.{eq-eqb, ne_eqb}
 use lib.Seq.{drop-cons, get_or-drop}
-use Rattle.flow.specs.declared.Found.TheVariants.{At}
+use Rattle.std.specs.Prelude.{Some}
 use Rattle.flow.specs.Findings.{node}
 use Rattle.flow.specs.Sheet.{local_of, use_kind_of, crossing_of}
 use Rattle.flow.proofs.OwnUses.{Renumbers}
@@ -49,26 +49,26 @@ module _ (number place local kind : ℕ) (closure : Bool) (h : number < 65536) (
   pub local_told : local_in w ≡ local
   local_told = ap (λ (x : ℕ). x % 65536) above_node ∙ low_field local 65536 (kind + 4 * cond closure 1 0) l
 
-  pub use_told : use_of w ≡ record { number = number; span = 0; kind = kind; in_closure = closure; found = At place }
+  pub use_told : use_of w ≡ record { number = number; span = 0; kind = kind; in_closure = closure; found = Some place }
   unfolding use_of
   use_told =
       let n : number_in w ≡ number = omega arith in
       let p : node_in w ≡ place = ap (λ (x : ℕ). x % 65536) above_number ∙ low_field place 65536 (local + 65536 * (kind + 4 * cond closure 1 0)) j in
       let t : kind_in w ≡ kind = ap (λ (x : ℕ). x % 4) above_local ∙ low_field kind 4 (cond closure 1 0) k in
-      λ i. record { number = n i; span = 0; kind = t i; in_closure = closure_told i; found = At (p i) }
+      λ i. record { number = n i; span = 0; kind = t i; in_closure = closure_told i; found = Some (p i) }
 
 -- the word that `pack` makes of a use sheet's word
 module _ (number place word : ℕ) (captured : Bool) (h : number < 65536) (j : place < 65536) (m : word < 18446744073709551616) where
-  use_packed : {w : ℕ} → w ≡ packed number place (local_of word) (use_kind_of word) (captured && eqb (crossing_of word) 1) → use_of w ≡ record { number = number; span = 0; kind = use_kind_of word; in_closure = captured && eqb (crossing_of word) 1; found = At place }
+  use_packed : {w : ℕ} → w ≡ packed number place (local_of word) (use_kind_of word) (captured && eqb (crossing_of word) 1) → use_of w ≡ record { number = number; span = 0; kind = use_kind_of word; in_closure = captured && eqb (crossing_of word) 1; found = Some place }
   use_packed e = use_told number place (local_of word) (use_kind_of word) (captured && eqb (crossing_of word) 1) h j (omega arith) (omega arith) e
 
-  pub use_inside : captured ≡ true → crossing_of word ≡ 1 → use_of (number + 65536 * place + 4294967296 * (word % 65536) + 281474976710656 * (word / 65536 % 4) + 1125899906842624) ≡ record { number = number; span = 0; kind = use_kind_of word; in_closure = captured && eqb (crossing_of word) 1; found = At place }
+  pub use_inside : captured ≡ true → crossing_of word ≡ 1 → use_of (number + 65536 * place + 4294967296 * (word % 65536) + 281474976710656 * (word / 65536 % 4) + 1125899906842624) ≡ record { number = number; span = 0; kind = use_kind_of word; in_closure = captured && eqb (crossing_of word) 1; found = Some place }
   use_inside t q = use_packed (rw (t, eq-eqb (crossing_of word) 1 q))
 
-  pub use_uncrossed : captured ≡ true → (crossing_of word ≡ 1 → ⊥) → use_of (number + 65536 * place + 4294967296 * (word % 65536) + 281474976710656 * (word / 65536 % 4)) ≡ record { number = number; span = 0; kind = use_kind_of word; in_closure = captured && eqb (crossing_of word) 1; found = At place }
+  pub use_uncrossed : captured ≡ true → (crossing_of word ≡ 1 → ⊥) → use_of (number + 65536 * place + 4294967296 * (word % 65536) + 281474976710656 * (word / 65536 % 4)) ≡ record { number = number; span = 0; kind = use_kind_of word; in_closure = captured && eqb (crossing_of word) 1; found = Some place }
   use_uncrossed t q = use_packed (rw (t, ne_eqb (crossing_of word) 1 q) (omega arith))
 
-  pub use_uncaptured : captured ≡ false → use_of (number + 65536 * place + 4294967296 * (word % 65536) + 281474976710656 * (word / 65536 % 4)) ≡ record { number = number; span = 0; kind = use_kind_of word; in_closure = captured && eqb (crossing_of word) 1; found = At place }
+  pub use_uncaptured : captured ≡ false → use_of (number + 65536 * place + 4294967296 * (word % 65536) + 281474976710656 * (word / 65536 % 4)) ≡ record { number = number; span = 0; kind = use_kind_of word; in_closure = captured && eqb (crossing_of word) 1; found = Some place }
   use_uncaptured t = use_packed (rw t (omega arith))
 
 -- ---- what a use tells of its word

@@ -2,7 +2,6 @@
 #![tactic(auto)]
 
 ghost use Rattle.std.specs.Prelude.{◌≡◌, ◌&&◌, ◌<◌, eqb};
-ghost use Rattle.flow.specs.declared.Found.TheVariants.{At};
 ghost use Rattle.flow.specs.Sheet.{local_of, use_kind_of, crossing_of};
 ghost use Rattle.flow.specs.Findings.{is_read, is_write};
 ghost use Rattle.use_words.specs.Words.{number_in, node_in, local_in, closure_in, use_of};
@@ -26,7 +25,7 @@ const CLOSURE: u64 = KIND * CROSSING;
 #[tactic(auto, using(crate::proofs::Words::use_inside, crate::proofs::Words::use_uncrossed, crate::proofs::Words::use_uncaptured))]
 pub fn pack(number: usize, node: usize, word: u64, captured: bool) -> u64
     requires { (number < 65536) × (node < 65536) }
-    ensures result_value { use_of result ≡ record { number = number; span = 0; kind = use_kind_of word; in_closure = captured && eqb (crossing_of word) 1; found = At node } }
+    ensures result_value { use_of result ≡ record { number = number; span = 0; kind = use_kind_of word; in_closure = captured && eqb (crossing_of word) 1; found = Some node } }
     ensures result_value_2 { local_in result ≡ local_of word }
 {
     let local = word % USE_KIND;

@@ -6,12 +6,9 @@ use mathlib.Core.List.{List, [], ◌∷◌, ◌++◌}
 use Prim.Native.Nat.{ℕ, ◌≤◌, ◌^◌, ◌<◌}
 use native.Mathlib.Omega.{arith}
 use lib.ListN.{get_or}
-use Rattle.flow.specs.declared.Found.{Found}
-use Rattle.flow.specs.declared.Found.TheVariants.{At, Nothing}
-use Rattle.flow.specs.declared.Verdict.{Verdict}
-use Rattle.flow.specs.declared.Verdict.TheVariants.{Admitted, Refused}
+use Rattle.std.specs.Prelude.{Option, Some, None, Ok, Err}
 use Rattle.flow.specs.Sheet.{span_words}
-use Rattle.flow.specs.Refusals.{one, number, sheet_verdict}
+use Rattle.flow.specs.Refusals.{Verdict, one, number, sheet_verdict}
 use Rattle.flow.specs.Scopes.{crossed, scoped_verdict}
 use Rattle.flow.specs.Answers.{told, tells, found_values, count_values}
 use Rattle.flow.specs.Graph.{node_count, graph}
@@ -29,7 +26,7 @@ use Rattle.answer_words.specs.Words.{or_none, run_node, CountsFit}
 refused_fits : (k : ℕ) → CountsFit (told k [])
 refused_fits k = record { nodes = omega arith; codes = omega arith; names = omega arith; findings = omega arith }
 
-module _ (S : List ℕ) (e : sheet_verdict false S ≡ Admitted) where
+module _ (S : List ℕ) (e : sheet_verdict false S ≡ Ok tt) where
   few_nodes : node_count (graph S) ≤ 1542
   few_nodes =
       let a = admitted S e in
@@ -44,25 +41,25 @@ module _ (S : List ℕ) (e : sheet_verdict false S ≡ Admitted) where
   node_fits : (o : ℕ) → or_none (found_values (node_at (graph S) o)) < 2 ^ 32
   node_fits o = go (node_at (graph S) o) refl
     where
-      go : (f : Found) → node_at (graph S) o ≡ f → or_none (found_values f) < 2 ^ 32
-      go (At v) q = omega (arith, few_nodes, code_node_law S o v q)
-      go Nothing q = omega arith
+      go : (f : Option ℕ) → node_at (graph S) o ≡ f → or_none (found_values f) < 2 ^ 32
+      go (Some v) q = omega (arith, few_nodes, code_node_law S o v q)
+      go None q = omega arith
 
 pub chart_fits : (short : Bool) (S : List ℕ) → CountsFit (chart short S)
 unfolding chart
 chart_fits short S = go (sheet_verdict short S) refl
   where
     go : (v : Verdict) → sheet_verdict short S ≡ v → CountsFit (tells v (count_values (counts_of (graph S))))
-    go (Refused r) e = refused_fits (number r)
-    go Admitted e = counts_fit S (of_sheet short S e).1 [] (omega arith)
+    go (Err r) e = refused_fits (number r)
+    go (Ok tt) e = counts_fit S (of_sheet short S e).1 [] (omega arith)
 
 pub judge_fits : (short : Bool) (S U C : List ℕ) → CountsFit (judge short S U C)
 unfolding judge
 judge_fits short S U C = go (scoped_verdict short S U C) refl
   where
     go : (v : Verdict) → scoped_verdict short S U C ≡ v → CountsFit (judged v S (crossed S U C))
-    go (Refused r) e = refused_fits (number r)
-    go Admitted e =
+    go (Err r) e = refused_fits (number r)
+    go (Ok tt) e =
         let j = of_pair short S U (scoped_pair short S U C e) in
         let a = admitted S j.sheet in
         let u = crossed_admitted S U C j.uses in
@@ -73,5 +70,5 @@ unfolding run
 run_fits S o = go (sheet_verdict false S) refl
   where
     go : (v : Verdict) → sheet_verdict false S ≡ v → run_node (tells v (one (can_run (graph S) (node_at (graph S) o)) ∷ found_values (node_at (graph S) o))) < 2 ^ 32
-    go (Refused r) e = omega arith
-    go Admitted e = node_fits S e o
+    go (Err r) e = omega arith
+    go (Ok tt) e = node_fits S e o

@@ -1,9 +1,6 @@
 -- What the calls for C promise: the word of what a call tells, what C code cuts out of that word, and what the call promises beside it.
 -- Assumes nothing: these are definitions.
 use Rattle.std.specs.Prelude.{ℕ, ◌≡◌, List}
-use Rattle.flow.specs.declared.ChartAnswer.{ChartAnswer}
-use Rattle.flow.specs.declared.RunAnswer.{RunAnswer}
-use Rattle.flow.specs.declared.JudgeAnswer.{JudgeAnswer}
 use Rattle.flow.specs.Reachable.{run, chart}
 use Rattle.flow.specs.Judge.{judge}
 use Rattle.flow.specs.Labels.{label_check}
@@ -12,6 +9,7 @@ use Rattle.chart_call.specs.Promises.{ChartPromise}
 use Rattle.run.specs.Promises.{RunPromise}
 use Rattle.judge.specs.Lent.{JudgePromise, JudgeLent, short}
 use Rattle.answer_words.specs.Words.{counts_word, run_word, label_word, CountFields, RunFields, LabelFields}
+use Rattle.flow.specs.Answers.{ChartAnswer, JudgeAnswer, RunAnswer}
 
 pub record ChartForC (S : List ℕ) (r : ℕ) (l : Lent) : Type 0 where
   pub word : r ≡ counts_word (chart (chart_short l.before) S)

@@ -4,11 +4,11 @@ use Rattle.answer_words.proofs.chart_word.Goals as goal
 
 pub counts_word-requires : goal.counts_word-requires
 counts_word-requires c =
-    let f = rw c.in-Charted.is at c.requires in
+    let f = rw c.in-Ok.is at c.requires in
     record { nodes = f.nodes; codes = f.codes; names = f.names; findings = f.findings }
 
-pub returns-in-Refused : goal.returns-in-Refused
-returns-in-Refused c = rw c.in-Refused.is (refused_counts _ _ c.number.ensures.0 c.number.ensures.2)
+pub returns-in-Err : goal.returns-in-Err
+returns-in-Err c = rw c.in-Err.is (refused_counts _ _ c.into.ensures.0 c.into.ensures.2)
 
-pub returns-in-Charted : goal.returns-in-Charted
-returns-in-Charted c = rw c.in-Charted.is (c.counts_word.ensures.0, record { number = c.counts_word.ensures.1.number; nodes = c.counts_word.ensures.1.nodes; codes = c.counts_word.ensures.1.codes; names = c.counts_word.ensures.1.names; findings = c.counts_word.ensures.1.findings })
+pub returns-in-Ok : goal.returns-in-Ok
+returns-in-Ok c = rw c.in-Ok.is (c.counts_word.ensures.0, record { number = c.counts_word.ensures.1.number; nodes = c.counts_word.ensures.1.nodes; codes = c.counts_word.ensures.1.codes; names = c.counts_word.ensures.1.names; findings = c.counts_word.ensures.1.findings })

@@ -7,14 +7,14 @@ use Rattle.offsets.proofs.Offsets.{flag_runs}
 use Rattle.offsets.proofs.can_run.Goals as goal
 
 pub offset_bounds-reachable-v : goal.offset_bounds-reachable-v
-offset_bounds-reachable-v c = omega (arith, c.requires c.in-At.v c.in-At.is)
+offset_bounds-reachable-v c = omega (arith, c.requires c.in-Some.v c.in-Some.is)
 
 pub bounds-reachable-v : goal.bounds-reachable-v
-bounds-reachable-v c = c.requires c.in-At.v c.in-At.is
+bounds-reachable-v c = c.requires c.in-Some.v c.in-Some.is
 
-pub returns-in-At : goal.returns-in-At
-returns-in-At c = λ g e w. flag_runs g c.args.reachable.now c.in-At.v e (w c.in-At.v c.in-At.is) ∙ ap (can_run g) (sym c.in-At.is)
+pub returns-in-Some : goal.returns-in-Some
+returns-in-Some c = λ g e w. flag_runs g c.args.reachable.now c.in-Some.v e (w c.in-Some.v c.in-Some.is) ∙ ap (can_run g) (sym c.in-Some.is)
 
-pub returns-in-Nothing : goal.returns-in-Nothing
+pub returns-in-None : goal.returns-in-None
 unfolding can_run
-returns-in-Nothing c = λ g e w. ap (can_run g) (sym c.in-Nothing.is)
+returns-in-None c = λ g e w. ap (can_run g) (sym c.in-None.is)

@@ -11,7 +11,7 @@ returns-in_default-clause-built c = λ ks ok q. did_as refl (λ ss g. ap (λ f. 
 
 pub jump-requires-2 : goal.jump-requires-2
 jump-requires-2 c =
-    let r = may_jump _ _ c.requires.good c.requires.nodes_bound.0 c.requires.nodes_bound.1 c.requires.nodes_bound.2 (label_below c.args.name c.requires.good (sym c.label_node.ensures ∙ c.in-At.is)) in record { standing = r.0; nodes_in_bounds = r.1.0; codes_in_bounds = r.1.1 }
+    let r = may_jump _ _ c.requires.good c.requires.nodes_bound.0 c.requires.nodes_bound.1 c.requires.nodes_bound.2 (label_below c.args.name c.requires.good (sym c.label_node.ensures ∙ c.in-Some.is)) in record { standing = r.0; nodes_in_bounds = r.1.0; codes_in_bounds = r.1.1 }
 
 pub returns-clause-built : goal.returns-clause-built
-returns-clause-built c = λ ks ok q. did_as refl (λ ss g. ap (λ f. jump (get_or ss c.args.i 0) (or_break f) g) (sym (sym c.label_node.ensures ∙ c.in-At.is))) (c.jump-2.ensures.built ks ok q)
+returns-clause-built c = λ ks ok q. did_as refl (λ ss g. ap (λ f. jump (get_or ss c.args.i 0) (or_break f) g) (sym (sym c.label_node.ensures ∙ c.in-Some.is))) (c.jump-2.ensures.built ks ok q)

@@ -13,13 +13,13 @@ pub returns-in_default-clause-built : goal.returns-in_default-clause-built
 returns-in_default-clause-built c = λ ks ok q. did_as refl (λ ss g. labelled_lost _ _ _ g (sym c.label_node.ensures ∙ c.in_default.is)) (did_none ks _ _ ok)
 
 pub record_code-requires : goal.record_code-requires
-record_code-requires c = record { codes_in_bounds = (omega (arith, c.requires.good.wide_codes, c.requires.good.items), c.requires.codes_lt_item.0); i_lt_item = (c.requires.codes_lt_item.1, label_below c.args.name c.requires.good (sym c.label_node.ensures ∙ c.in-At.is), c.requires.good.nodes, c.requires.good.items) }
+record_code-requires c = record { codes_in_bounds = (omega (arith, c.requires.good.wide_codes, c.requires.good.items), c.requires.codes_lt_item.0); i_lt_item = (c.requires.codes_lt_item.1, label_below c.args.name c.requires.good (sym c.label_node.ensures ∙ c.in-Some.is), c.requires.good.nodes, c.requires.good.items) }
 
 pub advance_to-requires : goal.advance_to-requires
-advance_to-requires c = record { standing = rw c.record_code.ensures.kept.1 (stands_as c.record_code.ensures.nodes_value.0 c.record_code.ensures.nodes_value.1 (stands c.requires.good)); node_lt_nodes = rw c.record_code.ensures.nodes_value.0 (label_below c.args.name c.requires.good (sym c.label_node.ensures ∙ c.in-At.is)) }
+advance_to-requires c = record { standing = rw c.record_code.ensures.kept.1 (stands_as c.record_code.ensures.nodes_value.0 c.record_code.ensures.nodes_value.1 (stands c.requires.good)); node_lt_nodes = rw c.record_code.ensures.nodes_value.0 (label_below c.args.name c.requires.good (sym c.label_node.ensures ∙ c.in-Some.is)) }
 
 pub returns-clause-built : goal.returns-clause-built
 returns-clause-built c =
     λ ks ok q.
     let d = c.record_code.ensures.does_code ks ok q in
-    did_as refl (λ ss g. labelled_at _ _ _ g _ c.if-name-eq0.false (sym c.label_node.ensures ∙ c.in-At.is)) (did_trans d (c.advance_to.ensures.built ks d.good))
+    did_as refl (λ ss g. labelled_at _ _ _ g _ c.if-name-eq0.false (sym c.label_node.ensures ∙ c.in-Some.is)) (did_trans d (c.advance_to.ensures.built ks d.good))
