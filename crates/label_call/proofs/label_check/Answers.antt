@@ -1,12 +1,12 @@
 -- `label_call::label_check` meets its contract. Assumes nothing.
-use mathlib.Core.Path.{◌≡◌, sym, ◌∙◌}
-use mathlib.Core.Bool.{Bool, false}
+use mathlib.Core.Path.{◌≡◌, refl, sym, ◌∙◌}
+use mathlib.Core.Bool.{Bool, true, false}
 use mathlib.Core.List.{List, [], ◌∷◌}
 use Prim.Native.Nat.{ℕ}
 use Rattle.std.proofs.lemmas.Result.{err_from_is_err_and}
 use Rattle.std.specs.Prelude.{Ok}
 use Rattle.flow.specs.Refusals.{one, sheet_verdict}
-use Rattle.flow.specs.Answers.{told}
+use Rattle.flow.specs.Answers.{told, label_told}
 use Rattle.flow.specs.Labels.{labels_fine, label_check}
 use Rattle.flow.specs.Admitted.{AdmittedSheet}
 use Rattle.flow.proofs.Admission.{admitted}
@@ -28,6 +28,10 @@ answers : (c : In_ok-sheet_verdict) → (b : Bool) → labels_fine (words c) ≡
 unfolding label_check
 answers c b e = rw ((is_admitted c), e)
 
+tells : (b : Bool) → label_told (Ok b) ≡ told 0 (one b ∷ [])
+tells true = refl
+tells false = refl
+
 fine_is : (c : After-labels_fine) → labels_fine (words (goal.at.After-labels_fine c).In_ok-sheet_verdict) ≡ c.labels_fine.result
 fine_is c =
     let d = (goal.at.After-labels_fine c).In_ok-sheet_verdict in
@@ -46,8 +50,5 @@ labels_fine-requires c =
     let d = (goal.at.labels_fine-requires c).In_ok-sheet_verdict in
     checkable (words d) (is_admitted d) _ c.kinds.ensures
 
-pub returns-then-labels_fine : goal.returns-then-labels_fine
-returns-then-labels_fine c = sym (answers (goal.at.returns-then-labels_fine c).In_ok-sheet_verdict _ (fine_is (goal.at.returns-then-labels_fine c).After-labels_fine ∙ c.if-labels_fine.true))
-
 pub returns : goal.returns
-returns c = sym (answers (goal.at.returns c).In_ok-sheet_verdict _ (fine_is (goal.at.returns c).After-labels_fine ∙ c.if-labels_fine.false))
+returns c = tells c.labels_fine.result ∙ sym (answers (goal.at.returns c).In_ok-sheet_verdict _ (fine_is (goal.at.returns c).After-labels_fine))
