@@ -7,7 +7,7 @@ ghost use Rattle.search.specs.Worklist.{st};
 ghost use Rattle.search.specs.Stamps.{Ready, Unmarked, stamp_all};
 ghost use Rattle.flow.specs.Findings.{after_writes};
 ghost use Rattle.use_words.specs.Words.{node_in, use_of, uses_in, AllPlaced};
-ghost use Rattle.live_steps.specs.Walk.{Long, charted, declared};
+ghost use Rattle.live_steps.specs.Walk.{Long, chart, declared};
 ghost use Rattle.live_walk.specs.Walk.{after_write, Walks};
 
 use live_steps::{LocalDeclaration, expand};
@@ -29,7 +29,7 @@ fn expand_write(
 ) -> usize
     requires ready { Ready stamp n (st visited.old stack.old top) × (n ≤ 1600) }
     requires long { Long n first.now second.now start.now × (node_in word < n) }
-    ensures { st_at left visited stack result ≡ stamp_all stamp (after_write (charted n first.now second.now start.now) (declared declaration) (use_of word)) (st_at held visited stack top) }
+    ensures { st_at left visited stack result ≡ stamp_all stamp (after_write (chart n first.now second.now start.now) (declared declaration) (use_of word)) (st_at held visited stack top) }
 {
     if is_write(word) {
         let u = node_of(word);
@@ -64,7 +64,7 @@ fn seed(
 ) -> usize
     requires ready { Ready stamp n (st visited.old stack.old 0) × (n ≤ 1600) }
     requires long { Long n first.now second.now start.now × AllPlaced n mine.now }
-    ensures { st_at left visited stack result ≡ stamp_all stamp (after_writes (charted n first.now second.now start.now) (declared declaration) (uses_in mine.now)) (st_at held visited stack 0) }
+    ensures { st_at left visited stack result ≡ stamp_all stamp (after_writes (chart n first.now second.now start.now) (declared declaration) (uses_in mine.now)) (st_at held visited stack 0) }
 {
     let mut top = 0;
     let mut i = 0;
@@ -100,7 +100,7 @@ pub fn live_walk(
 ) -> usize
     requires unmarked { Unmarked stamp n visited.old stack.old × (n ≤ 1600) }
     requires long { Long n first.now second.now start.now × AllPlaced n mine.now }
-    ensures { Walks stamp n (charted n first.now second.now start.now) (declared declaration) (uses_in mine.now) result visited }
+    ensures { Walks stamp n (chart n first.now second.now start.now) (declared declaration) (uses_in mine.now) result visited }
 {
     let mut top = seed(
         first,

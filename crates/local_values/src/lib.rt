@@ -4,7 +4,7 @@
 ghost use Rattle.std.specs.Prelude.{[], ◌∷◌, ◌+◌, ◌<◌, ◌≤◌, length, take};
 ghost use Rattle.search.specs.Lent.{held, left};
 ghost use Rattle.use_words.specs.Words.{use_of, uses_in, AllPlaced};
-ghost use Rattle.live_steps.specs.Walk.{charted, declared};
+ghost use Rattle.live_steps.specs.Walk.{chart, declared};
 ghost use Rattle.predecessors.specs.Predecessors.{Linked};
 ghost use Rattle.uses_by_node.specs.Uses.{Rising, edges, marked};
 ghost use Rattle.next_uses.specs.Backwards.{AllUnmarked};
@@ -190,7 +190,7 @@ pub fn judge_local(
     requires linked { Linked (take n first.now) (take n second.now) n n chain.now × AllPlaced n sorted.now × Rising sorted.now }
     requires node_lt_n { (declaration.node < n) × (local < 1024) × AllUnmarked (local + 1) n used.old reads.old writes.old stack.old }
     requires room { Room (1 + length sorted.now) count finding_word.old }
-    ensures adds { Adds (judged_words local has_value (charted n first.now second.now start.now) (declared declaration) (uses_in sorted.now)) count finding_word result }
+    ensures adds { Adds (judged_words local has_value (chart n first.now second.now start.now) (declared declaration) (uses_in sorted.now)) count finding_word result }
     ensures upper_bound { result ≤ count + 1 + length sorted.now }
     ensures all_unmarked { AllUnmarked (local + 2) n (left used) (left reads) (left writes) (left stack) }
 {

@@ -5,7 +5,7 @@ ghost use Rattle.std.specs.Prelude.{◌≤◌};
 ghost use Rattle.search.specs.Lent.{held, left};
 ghost use Rattle.search.specs.Stamps.{Stamped, Unmarked};
 ghost use Rattle.use_words.specs.Words.{uses_in, AllPlaced};
-ghost use Rattle.live_steps.specs.Walk.{Long, charted, declared};
+ghost use Rattle.live_steps.specs.Walk.{Long, chart, declared};
 ghost use Rattle.local_walk.specs.Walks.{Tells};
 
 use empty_read::first_unassigned_use;
@@ -33,7 +33,7 @@ pub fn walk_local(
 ) -> Walked
     requires unmarked { Unmarked stamp n visited.old stack.old × (n ≤ 1600) }
     requires long { Long n first.now second.now start.now × AllPlaced n mine.now }
-    ensures tells { Tells n (charted n first.now second.now start.now) (declared declaration) (uses_in mine.now) result }
+    ensures tells { Tells n (chart n first.now second.now start.now) (declared declaration) (uses_in mine.now) result }
     ensures stamped { Stamped stamp (left visited) }
 {
     let nodes = live_walk(

@@ -5,7 +5,7 @@ ghost use Rattle.std.specs.Prelude.{◌≡◌, ◌+◌, ◌<◌, ◌≤◌, leng
 ghost use Rattle.search.specs.Lent.{held, left};
 ghost use Rattle.search.specs.Stamps.{Unmarked};
 ghost use Rattle.use_words.specs.Words.{uses_in, AllPlaced};
-ghost use Rattle.live_steps.specs.Walk.{Long, charted, declared};
+ghost use Rattle.live_steps.specs.Walk.{Long, chart, declared};
 ghost use Rattle.locals.specs.Entries.{Room, Adds};
 ghost use Rattle.unassigned.specs.Words.{words_at, unassigned_words, visits};
 ghost use Rattle.unassigned.specs.Pass.{AnyPass, ListsUnassigned};
@@ -62,8 +62,8 @@ fn list_local(
     requires unmarked { Unmarked (local + 1) n visited.old stack.old × (n ≤ 1600) × (local < 1024) × (local < length mark.old) }
     requires long { Long n first.now second.now start.now × AllPlaced n mine.now }
     requires room { Room 1 count finding_word.old }
-    ensures adds { Adds (unassigned_words due local (charted n first.now second.now start.now) (declared declaration) (uses_in mine.now)) count finding_word result }
-    ensures mark_value { left mark ≡ set (held mark) local (visits due n (charted n first.now second.now start.now) (declared declaration) (uses_in mine.now)) }
+    ensures adds { Adds (unassigned_words due local (chart n first.now second.now start.now) (declared declaration) (uses_in mine.now)) count finding_word result }
+    ensures mark_value { left mark ≡ set (held mark) local (visits due n (chart n first.now second.now start.now) (declared declaration) (uses_in mine.now)) }
     ensures unmarked_2 { Unmarked (local + 2) n (left visited) (left stack) }
 {
     if due {

@@ -2,7 +2,7 @@
 -- Assumes nothing.
 use borrow.Author.Tests.{eq-eqb, ne_eqb}
 use Rattle.live_steps.specs.Walk.{alive_in}
-use Rattle.live_steps.proofs.is_alive_at.Goals as goal
+use Rattle.live_steps.proofs.columns.is_alive_at.Goals as goal
 
 pub returns-then-v-declaration : goal.returns-then-v-declaration
 unfolding alive_in

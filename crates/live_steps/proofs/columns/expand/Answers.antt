@@ -4,8 +4,8 @@ use Rattle.search.specs.Worklist.{State, st}
 use Rattle.search.specs.Stamps.{Ready}
 use Rattle.live_steps.specs.Walk.{declared}
 use Rattle.live_steps.proofs.Steps.{still_ready, expanded}
-use Rattle.live_steps.proofs.expand.Goals as goal
-use Rattle.live_steps.proofs.expand.Goals.{After-push_alive, After-push_alive-t, Start}
+use Rattle.live_steps.proofs.columns.expand.Goals as goal
+use Rattle.live_steps.proofs.columns.expand.Goals.{After-push_alive, After-push_alive-t, Start}
 
 -- ---- what the search has come to at each
 abbrev held : Start → State

@@ -4,7 +4,7 @@ use mathlib.Core.Path.{refl, sym, ◌∙◌}
 use native.Mathlib.Omega.{arith}
 use borrow.Author.Tests.{lt-ltb, le-ltb}
 use Rattle.search.proofs.Stamps.{push_room}
-use Rattle.live_steps.proofs.push_alive.Goals as goal
+use Rattle.live_steps.proofs.columns.push_alive.Goals as goal
 
 pub insert-requires : goal.insert-requires
 insert-requires c =
