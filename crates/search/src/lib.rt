@@ -1,7 +1,7 @@
 // Searches in a graph: definitions and laws that every search of the repository cites, and the worklist that each search drives.
 #![tactic(auto)]
 
-ghost use Rattle.std.specs.Prelude.{◌≡◌, ◌++◌, ◌<◌, ◌≤◌, length, get_or, drop, replicate, MatchOption};
+ghost use Rattle.std.specs.Prelude.{◌≡◌, ◌++◌, ◌<◌, ◌≤◌, length, get_or, set, drop, replicate, eqb, MatchOption};
 ghost use Rattle.search.specs.Worklist.{st, push, pop as taken_off, topmost, Room};
 ghost use Rattle.search.specs.Stamps.{stamp_push};
 ghost use Rattle.search.specs.Running.{state_of, SameColumns};
@@ -81,6 +81,22 @@ impl Search<'_> {
     {
         self.top = 0;
         self.stamp = stamp;
+    }
+
+    pub fn is_marked(&self, v: usize) -> bool
+        requires { v < length self.now.marks.now }
+        ensures { result ≡ eqb (get_or self.now.marks.now v 0) self.now.stamp }
+    {
+        self.marks[v] == self.stamp
+    }
+
+    // v marked, and not pushed.
+    pub fn mark(&mut self, v: usize)
+        requires { v < length self.old.marks.now }
+        ensures same { SameColumns self.old self.new × (self.new.stamp ≡ self.old.stamp) }
+        ensures marked { state_of self.new ≡ st (set self.old.marks.now v self.old.stamp) self.old.stack.now self.old.top }
+    {
+        self.marks[v] = self.stamp;
     }
 
     // v marked and pushed, unless it is marked.
