@@ -9,7 +9,8 @@ use Rattle.use_words.specs.declared.PlacedUse.{PlacedUse}
 use Rattle.use_words.specs.Words.{uses_in, spanless, AllPlaced}
 use Rattle.bucket_sort.specs.Grouped.{part, grouped}
 use Rattle.live_steps.specs.Walk.{Charts, Long}
-use Rattle.facts.specs.Facts.{facts_with}
+use Rattle.facts.specs.declared.NameFacts.{NameFacts}
+use Rattle.facts.specs.Facts.{facts_with, no_facts}
 
 -- the first n cells are the nodes of the graph
 pub record Charted (S : List ℕ) (n : ℕ) (first second start : List ℕ) : Type 0 where
@@ -30,9 +31,9 @@ pub record Named (S : List ℕ) (n names : ℕ) (node_of_name name_end : List �
   pub within : (ℓ : ℕ) → ℓ < names → get_or node_of_name ℓ 0 < n
 
 -- the facts of each name, with whether all its uses find a node
-pub record Known (S U : List ℕ) (names : ℕ) (facts : List ℕ) : Type 0 where
+pub record Known (S U : List ℕ) (names : ℕ) (facts : List NameFacts) : Type 0 where
   pub long : names ≤ length facts
-  pub facts_are : (ℓ : ℕ) → ℓ < names → get_or facts ℓ 0 ≡ facts_with (local_at S ℓ) (all_found (uses_of S U ℓ))
+  pub facts_are : (ℓ : ℕ) → ℓ < names → get_or facts ℓ no_facts ≡ facts_with (local_at S ℓ) (all_found (uses_of S U ℓ))
 
 -- the local ℓ has a part of a column, by its start and the next one's
 pub record Cut {A : Type 0} (ℓ : ℕ) (starts : List ℕ) (column : List A) : Type 0 where
@@ -58,17 +59,17 @@ abbrev pub uses_by_node : List ℕ → List ℕ → ℕ → ℕ → List Use
 uses_by_node S U n ℓ = grouped node n (uses_of S U ℓ)
 
 -- a table of a pair: facts of names, and the uses by local, as `list` orders them
-pub record Table (list : ℕ → List Use) (S U : List ℕ) (n names : ℕ) (facts starts : List ℕ) (column : List PlacedUse) : Type 0 where
+pub record Table (list : ℕ → List Use) (S U : List ℕ) (n names : ℕ) (facts : List NameFacts) (starts : List ℕ) (column : List PlacedUse) : Type 0 where
   pub known : Known S U names facts
   pub parts : Parts list (length (use_words U)) n names starts column
 
 -- the tables of a pair: in use order and by node
-pub record Tables (S U : List ℕ) (n names : ℕ) (facts starts : List ℕ) (byLocal by_node : List PlacedUse) : Type 0 where
+pub record Tables (S U : List ℕ) (n names : ℕ) (facts : List NameFacts) (starts : List ℕ) (byLocal by_node : List PlacedUse) : Type 0 where
   pub in_use_order : Table (uses_of S U) S U n names facts starts byLocal
   pub in_node_order : Table (uses_by_node S U n) S U n names facts starts by_node
 
 -- what a pass over all locals reads: the graph, the names, and one of the tables
-pub record Pass (list : ℕ → List Use) (S U : List ℕ) (n names : ℕ) (first second start node_of_name name_end facts starts : List ℕ) (column : List PlacedUse) : Type 0 where
+pub record Pass (list : ℕ → List Use) (S U : List ℕ) (n names : ℕ) (first second start node_of_name name_end : List ℕ) (facts : List NameFacts) (starts : List ℕ) (column : List PlacedUse) : Type 0 where
   pub charted : Charted S n first second start
   pub named : Named S n names node_of_name name_end
   pub table : Table list S U n names facts starts column
