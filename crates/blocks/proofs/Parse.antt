@@ -24,6 +24,12 @@ drop_zip (k ∷ ks) [] j e h = absurd (omega arith)
 drop_zip (k ∷ ks) (s ∷ ss) zero e h = refl
 drop_zip (k ∷ ks) (s ∷ ss) (suc j) e h = drop_zip ks ss j (omega arith) (omega arith)
 
+pub drop_both : (ks ss : List ℕ) (j : ℕ) → length ss ≡ length ks → drop j (zip ks ss) ≡ zip (drop j ks) (drop j ss)
+drop_both ks ss zero e = refl
+drop_both [] ss (suc j) e = refl
+drop_both (k ∷ ks) [] (suc j) e = absurd (omega arith)
+drop_both (k ∷ ks) (s ∷ ss) (suc j) e = drop_both ks ss j (omega arith)
+
 module _ (ks ss : List ℕ) (e : length ss ≡ length ks) (j : ℕ) where
   pub read_at : j < length ks → open_at ks ss j ≡ read (item_at ks ss j) (open_at ks ss (j + 1))
   unfolding open_at parse

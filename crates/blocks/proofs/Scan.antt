@@ -7,18 +7,22 @@ use Prim.Native.Nat.{ℕ, zero, suc, ◌+◌, ◌-◌, ◌≤◌, ◌<◌}
 use native.Mathlib.Numerals.{add-one, sub-one}
 use native.Mathlib.Omega.{arith}
 use native.Mathlib.Decide.{ℕ_discrete}
-use lib.ListN.{length, get_or, length-append}
+use lib.ListN.{length, drop, get_or, length-append, length-drop}
 use lib.Dec.{eqb, leb, eqb-suc-zero}
 use borrow.Author.Tests.{ne_eqb, eq-eqb, le-leb, lt-leb, eqb-true, leb-true}
+use Rattle.std.specs.List.{cons_option}
+use Rattle.std.specs.Option.{is_some}
+use Rattle.std.specs.Iterator.{YieldsFirst, MakesProgress, item_count}
+use Rattle.std.proofs.Common.{Option, Some, None}
 use Rattle.search.proofs.Bools.{and_both}
-use Rattle.flow.specs.Sheet.{Item, kind, kind_of, argument_of}
+use Rattle.flow.specs.Sheet.{Item, kind, kind_of, argument_of, zip}
 use Rattle.flow.specs.Kinds.{kinds, closes, opens}
-use Rattle.flow.specs.Tree.{Stmt, Arms, Frame, Open, simple, do_block, while_loop, repeat_loop, for_loop, if_stmt, no_more, elseif, otherwise, nothing_read, outer, in_front, opened, read, label_name, labels_of}
+use Rattle.flow.specs.Tree.{Stmt, Arms, Frame, Open, simple, do_block, while_loop, repeat_loop, for_loop, if_stmt, no_more, elseif, otherwise, nothing_read, outer, in_front, opened, read, parse, label_name, labels_of}
 use Rattle.flow.specs.Locals.{only_if}
 use Rattle.kinds.specs.Ends.{ends_block}
 use Rattle.kinds.specs.Label.{is_label}
-use Rattle.blocks.specs.Open.{item_at, open_at, labels_at, frame_at, to_come, labels_here, Ender, ends_at, depth_after}
-use Rattle.blocks.proofs.Parse.{read_at, read_end, read_close, read_do, read_while, read_repeat, read_for, read_if, read_elseif, read_else, read_simple}
+use Rattle.blocks.specs.Open.{item_at, open_at, labels_at, frame_at, to_come, labels_here, Ender, ends_at, depth_after, labels_in}
+use Rattle.blocks.proofs.Parse.{drop_both, read_at, read_end, read_close, read_do, read_while, read_repeat, read_for, read_if, read_elseif, read_else, read_simple}
 open kinds use {LABEL}
 
 -- ---- frames
@@ -251,3 +255,67 @@ module _ {ks ss : List ℕ} (e : length ss ≡ length ks) {P : List ℕ → Type
   scan_room h q m c room =
       let all = ap length (rest_more h q) in
       omega (arith, c, room, all, length-append (s.found ++ labels_here (get_or ks j 0) d) (to_come (depth_after (kind_of (get_or ks j 0)) d) (open_at ks ss (j + 1))), length-append s.found (labels_here (get_or ks j 0) d))
+
+-- ---- the labels that a scan has left
+
+in_parse : (ks ss : List ℕ) → length ss ≡ length ks → (d : ℕ) → labels_in ks d ≡ to_come d (parse (zip ks ss))
+unfolding labels_in parse labels_of
+in_parse [] ss e zero = refl
+in_parse [] ss e (suc d) = refl
+in_parse (k ∷ ks) [] e d = absurd (omega arith)
+in_parse (k ∷ ks) (s ∷ ss) e d = go (ends_at (kind_of k) d) refl (in_parse ks ss (omega arith) (depth_after (kind_of k) d))
+  where
+    i : Item
+    i = record { word = k; span = s }
+
+    o : Open
+    o = parse (zip ks ss)
+
+    go : (b : Bool) → ends_at (kind_of k) d ≡ b → labels_in ks (depth_after (kind_of k) d) ≡ to_come (depth_after (kind_of k) d) o → cond b [] (labels_here k d ++ labels_in ks (depth_after (kind_of k) d)) ≡ to_come d (read i o)
+    go true q more = sym (scan_end i o d q)
+    go false q more = ap (λ (z : List ℕ). labels_here k d ++ z) more ∙ sym (scan_on i o d q)
+
+-- they are those that stand directly in the block, whatever the spans
+pub labels_law : (ks ss : List ℕ) → length ss ≡ length ks → (j : ℕ) → labels_in (drop j ks) 0 ≡ labels_at ks ss j
+unfolding open_at
+labels_law ks ss e j = rw (drop_both ks ss j e) (in_parse (drop j ks) (drop j ss) (omega (arith, length-drop j ks, length-drop j ss)) 0)
+
+-- ---- an item scanned
+
+pub in_none : {ws : List ℕ} (d : ℕ) → ws ≡ [] → labels_in ws d ≡ []
+unfolding labels_in
+in_none d e = rw e
+
+pub in_end : {ws ks : List ℕ} {k : ℕ} (d : ℕ) → ws ≡ k ∷ ks → ends_at (kind_of k) d ≡ true → labels_in ws d ≡ []
+unfolding labels_in
+in_end d h e = rw (h, e)
+
+-- the label that the item is comes first, if it is one
+pub in_more : {ws ks : List ℕ} {k n : ℕ} (d : ℕ) (o : Option ℕ) → ws ≡ k ∷ ks → ends_at (kind_of k) d ≡ false → n ≡ depth_after (kind_of k) d → cons_option o [] ≡ labels_here k d → labels_in ws d ≡ cons_option o (labels_in ks n)
+unfolding labels_in
+in_more {ks = ks} {n = n} d o h e m q = rw (h, e, ← m, ← q) (go o)
+  where
+    go : (o : Option ℕ) → cons_option o [] ++ labels_in ks n ≡ cons_option o (labels_in ks n)
+    go None = refl
+    go (Some x) = refl
+
+pub first_found : (o : Option ℕ) {b : Bool} {xs : List ℕ} (ys : List ℕ) → b ≡ is_some o → b ≡ true → xs ≡ cons_option o ys → YieldsFirst (λ (l : List ℕ). l) xs o ys
+first_found None ys e t q = absurd (false≢true (sym e ∙ t))
+first_found (Some x) ys e t q = q
+
+pub first_goes : (o : Option ℕ) {b : Bool} {xs : List ℕ} (ys : List ℕ) {can : List ℕ → Type 0} → ((l : List ℕ) → can l) → b ≡ is_some o → b ≡ true → xs ≡ cons_option o ys → MakesProgress can (item_count (λ (l : List ℕ). l)) xs o ys
+first_goes None ys a e t q = absurd (false≢true (sym e ∙ t))
+first_goes (Some x) ys a e t q = record { on = λ f. (a ys, tt, omega (arith, ap length q)); keeps = a ys; rests = λ f. tt }
+
+pub none_found : (o : Option ℕ) {b : Bool} {xs ys : List ℕ} → b ≡ is_some o → b ≡ false → xs ≡ cons_option o ys → ys ≡ xs
+none_found None e t q = sym q
+none_found (Some x) e t q = absurd (true≢false (sym e ∙ t))
+
+pub depth_most : {n : ℕ} (k d : ℕ) → n ≡ depth_after k d → n ≤ d + 1
+unfolding depth_after
+depth_most k d e = rw e (go (opens k) (closes k))
+  where
+    go : (t u : Bool) → cond t (d + 1) (cond u (d - 1) d) ≤ d + 1
+    go true u = omega arith
+    go false true = omega arith
+    go false false = omega arith

@@ -1,7 +1,7 @@
 -- The blocks that are open at an item of a sheet, and the labels that stand directly in one of them, found by a scan that counts how deep it is.
 -- Assumes nothing: these are definitions.
-use Rattle.std.specs.Prelude.{Bool, cond, ◌&&◌, List, [], ◌∷◌, ℕ, zero, suc, ◌+◌, ◌-◌, ◌≤◌, drop, get_or, eqb}
-use Rattle.flow.specs.Sheet.{Item, zip, argument_of}
+use Rattle.std.specs.Prelude.{Bool, cond, ◌&&◌, List, [], ◌∷◌, ◌++◌, ℕ, zero, suc, ◌+◌, ◌-◌, ◌≤◌, drop, get_or, eqb}
+use Rattle.flow.specs.Sheet.{Item, zip, kind_of, argument_of}
 use Rattle.flow.specs.Kinds.{opens, closes}
 use Rattle.flow.specs.Tree.{Frame, Open, nothing_read, parse, labels_of}
 use Rattle.flow.specs.Locals.{only_if}
@@ -46,3 +46,8 @@ ends_at k d = eqb d 0 && ends_block k
 
 unfoldable pub depth_after : ℕ → ℕ → ℕ
 depth_after k d = cond (opens k) (d + 1) (cond (closes k) (d - 1) d)
+
+-- the labels standing directly in the block d blocks out, of a scan that has the words ws left
+unfoldable pub labels_in : List ℕ → ℕ → List ℕ
+labels_in [] d = []
+labels_in (w ∷ ws) d = cond (ends_at (kind_of w) d) [] (labels_here w d ++ labels_in ws (depth_after (kind_of w) d))

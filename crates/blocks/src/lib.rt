@@ -1,10 +1,14 @@
-// The scan for the labels that stand directly in a block, one item at a time: what the graph's builders and the label check share.
+// The labels that stand directly in a block, as an iterator: what the graph's builders and the label check share.
 #![tactic(auto)]
 
-ghost use Rattle.std.specs.Prelude.{◌≡◌, ◌-◌, ◌<◌};
-ghost use Rattle.blocks.specs.Open.{ends_at, depth_after};
+ghost use Rattle.std.specs.Prelude.{◌≡◌, List, [], ℕ, ◌+◌, ◌-◌, ◌<◌, ◌^◌, length, drop};
+ghost use Rattle.std.specs.List.{cons_option};
+ghost use Rattle.std.specs.Iterator.{YieldsFirst, item_count};
+ghost use Rattle.blocks.specs.Open.{ends_at, depth_after, labels_here, labels_in, labels_at};
 
-use kinds::{ends_block, is_closer, is_opener};
+use kinds::{ends_block, is_closer, is_label, is_opener};
+use std::marker::Model;
+use words::ARGUMENT;
 
 // Whether an item of a kind ends the block that a scan started in.
 #[tactic(auto, using(crate::proofs::Scan::ends_deep, crate::proofs::Scan::ends_here))]
@@ -19,24 +23,75 @@ pub fn ends_at(kind: u64, depth: usize) -> bool
 
 // How deep a scan is past an item of a kind.
 pub fn depth_after(kind: u64, depth: usize) -> usize
-    requires { depth < 1024 }
+    requires { depth + 1 < 2 ^ 64 }
     ensures { result ≡ depth_after kind depth }
 {
     if is_opener(kind) {
         return depth + 1;
     }
     if is_closer(kind) {
-        return less(depth);
+        return depth.saturating_sub(1);
     }
     depth
 }
 
-// One less, and 0 for 0.
-fn less(depth: usize) -> usize
-    ensures { result ≡ depth - 1 }
+// The name of the label that an item is, where it stands directly in the block.
+fn label_here(word: u64, depth: usize) -> Option<u64>
+    ensures { cons_option result [] ≡ labels_here word depth }
 {
-    if depth == 0 {
-        return 0;
+    if depth == 0 && is_label(word) {
+        return Some(word / ARGUMENT);
     }
-    depth - 1
+    None
+}
+
+// The names of the labels that stand directly in a block, in order: what a scan has still to find there.
+#[derive(Drop)]
+pub struct BlockLabels<'a> {
+    // The kinds that are not scanned yet, and how many blocks are open there inside the one that the scan started in.
+    kinds: &'a [u64],
+    depth: usize,
+}
+
+impl<'a> Model for BlockLabels<'a> {
+    ghost Value = { List ℕ };
+
+    ghost view = { λ b. labels_in b.kinds.now b.depth };
+
+    ghost invariant = { λ b. b.depth + length b.kinds.now < 2 ^ 64 };
+}
+
+// The labels that stand directly in the block that starts at an item of a sheet.
+pub fn block_labels<'a>(kinds: &'a [u64], from: usize) -> BlockLabels<'a>
+    ensures scan { result ≡ labels_in (drop from kinds.now) 0 }
+    ensures by_index { (ss : List ℕ) → length ss ≡ length kinds.now → result ≡ labels_at kinds.now ss from }
+{
+    BlockLabels {
+        kinds: kinds.get(from..).unwrap_or(&[]),
+        depth: 0,
+    }
+}
+
+impl<'a> Iterator for BlockLabels<'a> {
+    type Item = u64;
+
+    ghost next_gives = { YieldsFirst (λ labels. labels) };
+
+    ghost remaining = { item_count (λ labels. labels) };
+
+    fn next(&mut self) -> Option<u64> {
+        while let Some((&word, rest)) = self.kinds.split_first() {
+            let kind = word % ARGUMENT;
+            if ends_at(kind, self.depth) {
+                return None;
+            }
+            let here = label_here(word, self.depth);
+            self.depth = depth_after(kind, self.depth);
+            self.kinds = rest;
+            if here.is_some() {
+                return here;
+            }
+        }
+        None
+    }
 }

@@ -1,10 +1,12 @@
 // What a kind word says, asked here and nowhere else: whether an item is code, gives its node a start or is a label that has a name, whether its kind opens, closes or ends a block, what a condition is known to be and may turn out to be, and whether a call raises.
 #![tactic(auto)]
 
-ghost use Rattle.std.specs.Prelude.{◌≡◌, ℕ};
+ghost use Rattle.std.specs.Prelude.{◌≡◌, ◌<◌, ◌⊎◌, ℕ, MatchOption};
+ghost use Rattle.flow.specs.Sheet.{kind_of};
 ghost use Rattle.flow.specs.Kinds.{is_code, opens, closes, literal_truth, raises};
 ghost use Rattle.kinds.specs.Ends.{ends_block};
 ghost use Rattle.kinds.specs.Label.{is_label};
+ghost use Rattle.kinds.specs.Numbers.{kind_number};
 ghost use Rattle.kinds.specs.Starts.{has_start};
 ghost use Rattle.kinds.specs.Truths.{may_fail, may_hold};
 
@@ -20,25 +22,94 @@ const LAST_TRUE: u64 = 8;
 // The argument of a CALL that raises: of bare `error`, whose span holds a reference of that name.
 const RAISES: u64 = 6;
 
+// The kinds of the sheet's table, in the order of its numbers.
+#[derive(Clone, Copy, PartialEq, Eq)]
+pub enum Kind {
+    Do,
+    While,
+    Repeat,
+    For,
+    If,
+    ElseIf,
+    Else,
+    End,
+    Until,
+    Local,
+    Name,
+    Label,
+    Goto,
+    Break,
+    Continue,
+    Return,
+    Call,
+    Plain,
+    Empty,
+}
+
+impl Kind {
+    // The kind of an item by its word, or none where its number is not one of the table.
+    #[inline]
+    pub fn of(word: u64) -> Option<Self>
+        ensures { MatchOption result ((kind_of word ≡ 0) ⊎ (19 < kind_of word)) (λ k. kind_number k ≡ kind_of word) }
+    {
+        match word % ARGUMENT {
+            1 => Some(Kind::Do),
+            2 => Some(Kind::While),
+            3 => Some(Kind::Repeat),
+            4 => Some(Kind::For),
+            5 => Some(Kind::If),
+            6 => Some(Kind::ElseIf),
+            7 => Some(Kind::Else),
+            8 => Some(Kind::End),
+            9 => Some(Kind::Until),
+            10 => Some(Kind::Local),
+            11 => Some(Kind::Name),
+            12 => Some(Kind::Label),
+            13 => Some(Kind::Goto),
+            14 => Some(Kind::Break),
+            15 => Some(Kind::Continue),
+            16 => Some(Kind::Return),
+            17 => Some(Kind::Call),
+            18 => Some(Kind::Plain),
+            19 => Some(Kind::Empty),
+            _ => None,
+        }
+    }
+
+    pub fn is_opener(self) -> bool
+        ensures { result ≡ opens (kind_number self) }
+    {
+        matches!(
+            self,
+            Kind::Do | Kind::While | Kind::Repeat | Kind::For | Kind::If
+        )
+    }
+
+    pub fn is_closer(self) -> bool
+        ensures { result ≡ closes (kind_number self) }
+    {
+        matches!(self, Kind::End | Kind::Until)
+    }
+
+    // Whether the block that an item of this kind stands behind ends there.
+    pub fn ends_block(self) -> bool
+        ensures { result ≡ ends_block (kind_number self) }
+    {
+        matches!(self, Kind::ElseIf | Kind::Else | Kind::End | Kind::Until)
+    }
+}
+
 // Whether an item is code, whatever its span: of the labels those that have a name.
+#[tactic(auto, unfolding(flow::specs::Kinds::is_code))]
 pub fn is_code(word: u64) -> bool
     ensures { (s : ℕ) → result ≡ is_code (record { word = word; span = s }) }
 {
-    let kind = word % ARGUMENT;
-    match kind {
-        WHILE => true,
-        FOR => true,
-        IF => true,
-        ELSEIF => true,
-        UNTIL => true,
-        LOCAL => true,
-        LABEL => word / ARGUMENT != 0,
-        _ => {
-            if kind < GOTO {
-                return false;
-            }
-            kind <= PLAIN
-        }
+    match Kind::of(word) {
+        Some(Kind::While | Kind::For | Kind::If | Kind::ElseIf | Kind::Until | Kind::Local) => true,
+        Some(Kind::Goto | Kind::Break | Kind::Continue | Kind::Return | Kind::Call | Kind::Plain) =>
+            true,
+        Some(Kind::Label) => word / ARGUMENT != 0,
+        _ => false,
     }
 }
 
@@ -46,21 +117,14 @@ pub fn is_code(word: u64) -> bool
 pub fn is_label(w: u64) -> bool
     ensures { result ≡ is_label w }
 {
-    if w % ARGUMENT != LABEL {
-        return false;
-    }
-    w / ARGUMENT != 0
+    Kind::of(w) == Some(Kind::Label) && w / ARGUMENT != 0
 }
 
 // Whether a code gives its node a start, by its item's word: not where the item closes a block or is a label.
 pub fn has_start(word: u64) -> bool
     ensures { result ≡ has_start word }
 {
-    let kind = word % ARGUMENT;
-    if is_closer(kind) {
-        return false;
-    }
-    kind != LABEL
+    !matches!(Kind::of(word), Some(Kind::End | Kind::Until | Kind::Label))
 }
 
 pub fn is_opener(kind: u64) -> bool

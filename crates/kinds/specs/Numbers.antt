@@ -1,0 +1,27 @@
+-- The numbers of the kinds, as a word has them.
+-- Assumes nothing: these are definitions.
+use Rattle.std.specs.Prelude.{ℕ}
+use Rattle.kinds.specs.declared.Kind.{Kind}
+use Rattle.kinds.specs.declared.Kind.TheVariants.{Do, While, Repeat, For, If, ElseIf, Else, End, Until, Local, Name, Label, Goto, Break, Continue, Return, Call, Plain, Empty}
+
+-- "A first-array word is kind + 256 × argument": 01's table, its column of kinds
+abbrev pub kind_number : Kind → ℕ
+kind_number Do = 1
+kind_number While = 2
+kind_number Repeat = 3
+kind_number For = 4
+kind_number If = 5
+kind_number ElseIf = 6
+kind_number Else = 7
+kind_number End = 8
+kind_number Until = 9
+kind_number Local = 10
+kind_number Name = 11
+kind_number Label = 12
+kind_number Goto = 13
+kind_number Break = 14
+kind_number Continue = 15
+kind_number Return = 16
+kind_number Call = 17
+kind_number Plain = 18
+kind_number Empty = 19
