@@ -6,17 +6,18 @@ ghost use Rattle.search.specs.Stamps.{Fresh, Stamped, Unmarked, stamp_all};
 ghost use Rattle.search.specs.Running.{state_of, SameColumns};
 ghost use Rattle.flow.specs.Findings.{meeting};
 ghost use Rattle.use_words.specs.Words.{use_of, AllPlaced};
-ghost use Rattle.live_steps.specs.Walk.{declared};
+ghost use Rattle.live_steps.specs.Walk.{nodes_of, declared};
 ghost use Rattle.predecessors.specs.Predecessors.{Chained};
 ghost use Rattle.predecessors.specs.Ways.{nodes_back};
 ghost use Rattle.uses_by_node.specs.Uses.{Rising};
 ghost use Rattle.next_uses.specs.Backwards.{sort_of, Used, BothUnmarked, MarksAhead};
 ghost use Rattle.next_uses.specs.Searches.{begins_here, all_begins, Finds, SameMarks};
 
+use live_steps::FlowGraph;
 use predecessors::WayBack;
 use search::Search;
 use use_words::PlacedUse;
-use uses_by_node::opens_node;
+use uses_by_node::{AheadMarks, opens_node};
 
 // What a search back seeks: the nodes that a path to a read begins at, or to a pure write.
 #[derive(Clone, Copy)]
@@ -120,5 +121,18 @@ impl NextUses<'_> {
             stamp: way.stamp,
         };
         search_back(way, uses, Sought::PureWrite, &mut search);
+    }
+    // What is ahead, by the marks that the stamp made.
+    pub fn ahead<'m>(&'m self, graph: FlowGraph<'m>, stamp: u16) -> AheadMarks<'m>
+        requires { (nodes_of graph ≤ length self.now.reads.now) × (nodes_of graph ≤ length self.now.writes.now) }
+        ensures graph { result.graph ≡ graph.entry }
+        ensures marks { (result.reads.now ≡ self.now.reads.now) × (result.writes.now ≡ self.now.writes.now) × (result.stamp ≡ stamp) }
+    {
+        AheadMarks {
+            graph,
+            reads: self.reads,
+            writes: self.writes,
+            stamp,
+        }
     }
 }
