@@ -5,7 +5,8 @@ ghost use Rattle.std.specs.Prelude.{◌≡◌, [], ◌∷◌, ◌<◌, length, g
 ghost use Rattle.locals.specs.Columns.{Cut, part_at};
 ghost use Rattle.locals.specs.Entries.{AddsTo};
 
-use live_steps::LocalDeclaration;
+use facts::NameFacts;
+use live_steps::{FlowGraph, LocalDeclaration};
 use use_words::PlacedUse;
 
 // The locals as the columns of names have them: the node of each one's LOCAL, and where its scope ends.
@@ -43,6 +44,15 @@ impl<'a> UseTable<'a> {
     {
         &self.uses[self.starts[local] as usize..self.starts[local + 1] as usize]
     }
+}
+
+// What a pass over all locals reads: the graph, and of each local its declaration, its facts and its uses.
+#[derive(Clone, Copy)]
+pub struct PassTables<'a> {
+    pub graph: FlowGraph<'a>,
+    pub names: DeclarationTable<'a>,
+    pub facts: &'a [NameFacts],
+    pub uses: UseTable<'a>,
 }
 
 // The words of findings, one after the other.

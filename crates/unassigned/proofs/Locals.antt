@@ -18,6 +18,7 @@ use Rattle.use_words.proofs.Words.{spanless_renumbers}
 use Rattle.live_steps.specs.Walk.{chart}
 use Rattle.empty_read.specs.FirstRead.{first_number}
 use Rattle.local_walk.specs.Walks.{first_empty}
+use Rattle.facts.specs.declared.NameFacts.{NameFacts}
 use Rattle.facts.specs.Facts.{is_due}
 use Rattle.locals.specs.Columns.{part_at, Pass}
 use Rattle.locals.proofs.Columns.{charted_nodes}
@@ -40,7 +41,7 @@ figure_few S U ℓ = go (is_due (local_at S ℓ) (all_found (uses_of S U ℓ))) 
 
 -- ---- the columns of a pass
 
-module _ {S U : List ℕ} {n names : ℕ} {first second start node_of_name name_end facts starts : List ℕ} {byLocal : List PlacedUse} (p : Pass (uses_of S U) S U n names first second start node_of_name name_end facts starts byLocal) (ℓ : ℕ) (h : ℓ < names) where
+module _ {S U : List ℕ} {n names : ℕ} {first second start node_of_name name_end : List ℕ} {facts : List NameFacts} {starts : List ℕ} {byLocal : List PlacedUse} (p : Pass (uses_of S U) S U n names first second start node_of_name name_end facts starts byLocal) (ℓ : ℕ) (h : ℓ < names) where
   module _ (d : Declaration) where
     abbrev columns : Graph
     columns = chart n first second start

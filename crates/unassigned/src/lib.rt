@@ -10,10 +10,9 @@ ghost use Rattle.locals.specs.Entries.{Room, AddsTo};
 ghost use Rattle.unassigned.specs.Words.{words_at, unassigned_words, visits};
 ghost use Rattle.unassigned.specs.Pass.{AnyPass, ListsUnassigned};
 
-use facts::is_due;
 use live_steps::{FlowGraph, LocalDeclaration};
 use local_walk::walk_local;
-use locals::{DeclarationTable, FindingList, UseTable};
+use locals::{FindingList, PassTables};
 use search::Search;
 use use_words::PlacedUse;
 use words::finding::{LOCAL, USE};
@@ -53,30 +52,27 @@ fn list_local(
 
 // The unassigned findings of all locals, in local order, and the mark figure of each. The marks are below stamp 1 before.
 pub fn list_unassigned(
-    graph: &FlowGraph<'_>,
-    names: DeclarationTable<'_>,
-    facts: &[u16],
-    uses: UseTable<'_>,
+    pass: &PassTables<'_>,
     search: &mut Search<'_>,
     findings: &mut FindingList<'_>,
     mark: &mut [u64],
 )
-    requires any_pass { AnyPass graph.now names facts.now uses }
-    requires unmarked { Unmarked 1 (nodes_of graph.now) search.old.marks.now search.old.stack.now }
-    requires room { (length facts.now ≤ length mark.old) × Room (length facts.now) findings.old.count findings.old.words.now }
+    requires any_pass { AnyPass pass.now }
+    requires unmarked { Unmarked 1 (nodes_of pass.now.graph) search.old.marks.now search.old.stack.now }
+    requires room { (length pass.now.facts.now ≤ length mark.old) × Room (length pass.now.facts.now) findings.old.count findings.old.words.now }
     ensures same { SameColumns search.old search.new }
-    ensures lists { ListsUnassigned graph.now names.entry facts.now uses.entry findings.old findings.new mark.old mark.new }
-    ensures few { findings.new.count ≤ findings.old.count + length facts.now }
+    ensures lists { ListsUnassigned pass.now findings.old findings.new mark.old mark.new }
+    ensures few { findings.new.count ≤ findings.old.count + length pass.now.facts.now }
 {
-    for (local, name) in facts.iter().enumerate() {
+    for (local, name) in pass.facts.iter().enumerate() {
         search.begin(local as u16 + 1);
-        let visited = if is_due(*name) {
+        let visited = if name.is_due() {
             list_local(
-                graph,
-                uses.of(local),
+                &pass.graph,
+                pass.uses.of(local),
                 search,
                 findings,
-                names.of(local),
+                pass.names.of(local),
                 local,
             )
         } else {

@@ -9,6 +9,7 @@ use Rattle.locals.proofs.Columns.{declared_at}
 use Rattle.locals.proofs.Entries.{added_none}
 use Rattle.flow.specs.Locals.{local_at}
 use Rattle.flow.specs.Findings.{uses_of, all_found}
+use Rattle.facts.proofs.Facts.{due_told}
 use Rattle.unassigned.proofs.Locals.{local_words, local_figure}
 use Rattle.unassigned.proofs.Passes.{Listing, going_on, going_still, listing_none, listing_few, listing_long, listing_more}
 use Rattle.unassigned.proofs.list_unassigned.Goals as goal
@@ -36,20 +37,20 @@ loop-local-preserved c =
       | then-is_due w ↦ (
         rw w.search-is (going_on g b.same b.begun w.list_local-visited.ensures.same.0 w.list_local-visited.ensures.stamped),
         λ S U p.
-            let due = sym w.if-is_due.true ∙ c.is_due.ensures (local_at S c.loop-local.local) (all_found (uses_of S U c.loop-local.local)) (p.table.known.facts_are c.loop-local.local h) in
+            let due = sym w.if-is_due.true ∙ c.is_due.ensures ∙ due_told _ (local_at S c.loop-local.local) (all_found (uses_of S U c.loop-local.local)) (p.table.known.facts_are c.loop-local.local h) in
             let there = declared_at p.named c.loop-local.local h w.of-then-is_due.result w.of-then-is_due.ensures.0 w.of-then-is_due.ensures.1 in
             listing_more S U (c.loop-local.invariant.1 S U p) (omega arith) (omega arith) (rw (← w.findings-is, local_words p c.loop-local.local h true due _ there _ w.of.ensures) at w.list_local-visited.ensures.adds) (ap (set c.loop-local.mark c.loop-local.local) (w.visited-is ∙ w.list_local-visited.ensures.figure ∙ local_figure p c.loop-local.local h true due _ there _ w.of.ensures)),
       )
       | else-is_due w ↦ (
         rw w.search-is (going_still g b.same b.begun),
         λ S U p.
-            let due = sym w.if-is_due.false ∙ c.is_due.ensures (local_at S c.loop-local.local) (all_found (uses_of S U c.loop-local.local)) (p.table.known.facts_are c.loop-local.local h) in
+            let due = sym w.if-is_due.false ∙ c.is_due.ensures ∙ due_told _ (local_at S c.loop-local.local) (all_found (uses_of S U c.loop-local.local)) (p.table.known.facts_are c.loop-local.local h) in
             listing_more S U (c.loop-local.invariant.1 S U p) (omega arith) (omega arith) (rw (w.findings-is, ← local_words p c.loop-local.local h false due _ refl _ refl) (added_none _ _, refl)) (ap (set c.loop-local.mark c.loop-local.local) (w.visited-is ∙ local_figure p c.loop-local.local h false due _ refl _ refl)),
       )
     ]
 
 -- the pass is over when `local` is past the last
-all_listed : (c : After-loop-local) → c.loop-local.local ≡ length c.args.facts.now
+all_listed : (c : After-loop-local) → c.loop-local.local ≡ length c.args.pass.now.facts.now
 all_listed c = omega arith
 
 pub returns-clause-lists : goal.returns-clause-lists
