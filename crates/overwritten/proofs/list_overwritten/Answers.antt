@@ -8,11 +8,11 @@ use Rattle.facts.specs.declared.NameFacts.{NameFacts}
 use Rattle.facts.specs.Facts.{is_judged, judges, no_facts}
 use Rattle.facts.proofs.Facts.{judged_told, none_asked}
 use Rattle.live_steps.specs.Walk.{nodes_of, declared}
+use Rattle.locals.specs.Columns.{PassOf, uses_by_node}
 use Rattle.locals.specs.Entries.{Added}
 use Rattle.locals.proofs.Entries.{added_none, added_long}
 use Rattle.locals.proofs.Columns.{declared_at}
 use Rattle.next_uses.specs.Backwards.{AllUnmarked}
-use Rattle.overwritten.specs.Pass.{PassOf}
 use Rattle.overwritten.proofs.Judged.{none_listed, judged_as, part_rises, part_few, nothing_listed}
 use Rattle.overwritten.proofs.Locals.{done_none, room_here, done_turn, done_still}
 use Rattle.overwritten.proofs.list_overwritten.Goals as goal
@@ -20,14 +20,14 @@ use Rattle.overwritten.proofs.list_overwritten.Goals.{Start, In-loop-number, the
 
 -- what the tables stand for
 abbrev stood : Start → List ℕ → List ℕ → Type 0
-stood c = PassOf c.args.graph c.args.names c.args.facts.now c.args.uses
+stood c S U = PassOf (uses_by_node S U (nodes_of c.args.pass.now.graph)) c.args.pass.now S U
 
-within : (c : Start) (ℓ : ℕ) → ℓ ≤ length c.args.facts.now → get_or c.args.uses.starts.now ℓ 0 ≤ 1024
+within : (c : Start) (ℓ : ℕ) → ℓ ≤ length c.args.pass.now.facts.now → get_or c.args.pass.now.uses.starts.now ℓ 0 ≤ 1024
 within c ℓ h = omega (arith, c.requires.any_pass.2.table.parts.within ℓ h)
 
 pub loop-number-init : goal.loop-number-init
 loop-number-init c =
-    done_none (stood (goal.at.loop-number-init c).Start) c.args.uses.starts.now (nodes_of c.args.graph) (length c.args.facts.now) c.args.marks.now c.args.findings.now c.requires.lent.unmarked
+    done_none (stood (goal.at.loop-number-init c).Start) c.args.pass.now.uses.starts.now (nodes_of c.args.pass.now.graph) (length c.args.pass.now.facts.now) c.args.marks.now c.args.findings.now c.requires.lent.unmarked
 
 pub invariant_of-local : goal.invariant_of-local
 invariant_of-local c =
@@ -39,7 +39,7 @@ loop-number-preserved c =
     let d = (goal.at.loop-number-preserved c).Start in
     let h = c.loop-number-test.true in
     let ℓ = c.loop-number.number in
-    let fact = get_or c.args.facts.now ℓ no_facts in
+    let fact = get_or c.args.pass.now.facts.now ℓ no_facts in
     elim c.if-is_judged.branch [
       | then-is_judged w ↦
           let p = c.requires.any_pass.2 in
@@ -47,11 +47,11 @@ loop-number-preserved c =
           let few = part_few p h in
           let mine = ap length w.of-then-is_judged.ensures in
           let d₀ = c.loop-number.invariant in
-          let room = room_here (stood d) c.args.uses.starts.now (nodes_of c.args.graph) (length c.args.facts.now) c.args.marks.now c.args.findings.now 1024 c.requires.room p.table.parts.rising (within d) d₀ h in
-          let more : w.list_values.new.findings.count ≤ c.loop-number.findings.count + (1 + (get_or c.args.uses.starts.now (ℓ + 1) 0 - get_or c.args.uses.starts.now ℓ 0)) = omega (arith, v.upper_bound, mine, few) in
+          let room = room_here (stood d) c.args.pass.now.uses.starts.now (nodes_of c.args.pass.now.graph) (length c.args.pass.now.facts.now) c.args.marks.now c.args.findings.now 1024 c.requires.room p.table.parts.rising (within d) d₀ h in
+          let more : w.list_values.new.findings.count ≤ c.loop-number.findings.count + (1 + (get_or c.args.pass.now.uses.starts.now (ℓ + 1) 0 - get_or c.args.pass.now.uses.starts.now ℓ 0)) = omega (arith, v.upper_bound, mine, few) in
           rw (w.used-is, w.marks-is, w.findings-is)
-          (done_turn (stood d) c.args.uses.starts.now (nodes_of c.args.graph) (length c.args.facts.now) c.args.marks.now c.args.findings.now 1024 c.requires.room p.table.parts.rising (within d) d₀ h more
-          (subst (λ (k : ℕ). AllUnmarked k (nodes_of c.args.graph) w.list_values.new.used w.list_values.new.marks.reads.now w.list_values.new.marks.writes.now w.list_values.new.marks.stack.now) (omega arith) v.unmarked_after)
+          (done_turn (stood d) c.args.pass.now.uses.starts.now (nodes_of c.args.pass.now.graph) (length c.args.pass.now.facts.now) c.args.marks.now c.args.findings.now 1024 c.requires.room p.table.parts.rising (within d) d₀ h more
+          (subst (λ (k : ℕ). AllUnmarked k (nodes_of c.args.pass.now.graph) w.list_values.new.used w.list_values.new.marks.reads.now w.list_values.new.marks.writes.now w.list_values.new.marks.stack.now) (omega arith) v.unmarked_after)
           v.same (added_long v.adds.0 (omega (arith, v.adds.0.counted, more, room))) v.adds.1
           (λ S U p.
           let found = all_found (uses_of S U ℓ) in
@@ -60,7 +60,7 @@ loop-number-preserved c =
           let words = judged_as p h yes fact.has_value (ap (λ (f : NameFacts). f.has_value) known) (declared w.of.result) (declared_at p.named ℓ h w.of.result w.of.ensures.0 w.of.ensures.1) w.of-then-is_judged.result.now w.of-then-is_judged.ensures in
           subst (λ (ws : List ℕ). Added ws c.loop-number.findings.count c.loop-number.findings.words.now w.list_values.new.findings.count w.list_values.new.findings.words.now) (sym words) v.adds.0))
       | else-is_judged w ↦ rw (w.used-is, w.marks-is, w.findings-is)
-          (done_still (stood d) c.args.uses.starts.now (nodes_of c.args.graph) (length c.args.facts.now) c.args.marks.now c.args.findings.now 1024 c.requires.room c.requires.any_pass.2.table.parts.rising (within d) c.loop-number.invariant h
+          (done_still (stood d) c.args.pass.now.uses.starts.now (nodes_of c.args.pass.now.graph) (length c.args.pass.now.facts.now) c.args.marks.now c.args.findings.now 1024 c.requires.room c.requires.any_pass.2.table.parts.rising (within d) c.loop-number.invariant h
           (λ S U p.
           let found = all_found (uses_of S U ℓ) in
           let no : is_judged (local_at S ℓ) found ≡ false = sym (judged_told fact (local_at S ℓ) found (p.table.known.facts_are ℓ h)) ∙ sym c.is_judged.ensures ∙ w.if-is_judged.false in
@@ -69,5 +69,5 @@ loop-number-preserved c =
 
 pub returns-else-any_judged-clause-adds : goal.returns-else-any_judged-clause-adds
 returns-else-any_judged-clause-adds c = λ S U p.
-    let none = none_asked judges is_judged judged_told (length c.args.facts.now) c.args.facts.now (omega arith) (rw (take-length c.args.facts.now) (sym c.any_judged.ensures ∙ c.if-any_judged.false)) in
+    let none = none_asked judges is_judged judged_told (length c.args.pass.now.facts.now) c.args.pass.now.facts.now (omega arith) (rw (take-length c.args.pass.now.facts.now) (sym c.any_judged.ensures ∙ c.if-any_judged.false)) in
     (rw (nothing_listed p none) (added_none _ _), refl)
