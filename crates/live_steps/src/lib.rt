@@ -6,10 +6,6 @@ ghost use Rattle.std.specs.Prelude.{◌≡◌, ◌<◌, ◌≤◌, length};
 
 use search::Search;
 
-mod columns;
-
-pub use columns::{expand, is_alive_at};
-
 // Where a local is declared: its LOCAL's node, and where its scope ends.
 #[derive(Clone, Copy)]
 pub struct LocalDeclaration {

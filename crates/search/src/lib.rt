@@ -41,29 +41,6 @@ pub fn push_if_new(marks: &mut [u64], stack: &mut [u64], n: usize, top: usize, v
     }
 }
 
-// The number in a cell of 16 bits, as an index.
-pub fn cell(s: &[u16], i: usize) -> usize
-    requires { i < length s.now }
-    ensures { result ≡ get_or s.now i 0 }
-{
-    s[i] as usize
-}
-
-// v marked by a stamp and pushed, unless it is marked. The result is the stack's height.
-pub fn insert(marks: &mut [u16], stack: &mut [u16], top: usize, v: usize, stamp: u16) -> usize
-    requires v_in_bounds { (v < length marks.old) × (v < 65536) }
-    requires top_in_bounds { (get_or marks.old v 0 ≡ stamp → ⊥) → top < length stack.old }
-    ensures { st marks.new stack.new result ≡ stamp_push stamp v (st marks.old stack.old top) }
-{
-    if marks[v] == stamp {
-        top
-    } else {
-        marks[v] = stamp;
-        stack[top] = v as u16;
-        top + 1
-    }
-}
-
 // A search by a stamp: a node is marked where its cell holds the stamp, and the stack's first cells hold those that are still to be expanded.
 #[derive(Drop)]
 pub struct Search<'a> {
