@@ -1,6 +1,6 @@
--- The search for a local's first unassigned use: the mark of a write, and the use that is found, as a number.
+-- The search for a local's first unassigned use: the mark of a write, and the number of the use that is found.
 -- Assumes nothing: these are definitions.
-use Rattle.std.specs.Prelude.{ℕ, ◌+◌, Bool, true, false, List, [], ◌∷◌, set}
+use Rattle.std.specs.Prelude.{ℕ, Bool, true, false, List, [], ◌∷◌, set, Option, Some, None}
 use Rattle.flow.specs.Findings.{Use}
 
 -- v marked with the stamp, if a test says so
@@ -8,7 +8,7 @@ abbrev pub mark_if : Bool → ℕ → ℕ → List ℕ → List ℕ
 mark_if true v stamp marks = set marks v stamp
 mark_if false v stamp marks = marks
 
--- the first use of a list, as its number + 1; 0 for none
-abbrev pub code_of : List Use → ℕ
-code_of [] = 0
-code_of (u ∷ us) = u.number + 1
+-- the number of the first use of a list
+abbrev pub first_number : List Use → Option ℕ
+first_number [] = None
+first_number (u ∷ us) = Some u.number

@@ -2,64 +2,58 @@
 #![tactic(auto)]
 
 ghost use Rattle.std.specs.Prelude.{◌≡◌, [], ℕ, ◌<◌, length};
-ghost use Rattle.search.specs.Lent.{held, left};
+ghost use Rattle.search.specs.Running.{SameColumns};
 ghost use Rattle.search.specs.Stamps.{flags_of, Stamped};
 ghost use Rattle.flow.specs.Findings.{is_write, is_empty_read, first_empty_read};
 ghost use Rattle.use_words.specs.Words.{node_in, use_of, uses_in, AllPlaced};
-ghost use Rattle.empty_read.specs.FirstRead.{mark_if, code_of};
+ghost use Rattle.empty_read.specs.FirstRead.{mark_if, first_number};
 
-use use_words::{is_in_closure, is_read, is_write, node_of, number_of};
+use search::Search;
+use use_words::PlacedUse;
 
 // Whether a use is an empty read: a read outside closures, which run who knows when, at a node that is not marked.
-fn is_empty_read(visited: &[u16], stamp: u16, word: u64) -> bool
-    requires { node_in word < length visited.now }
-    ensures { (n : ℕ) → node_in word < n → result ≡ is_empty_read (flags_of stamp n visited.now) [] (use_of word) }
+#[tactic(auto, using(crate::proofs::EmptyReads::asked))]
+fn is_empty_read(search: &Search<'_>, used: PlacedUse) -> bool
+    requires { node_in used < length search.now.marks.now }
+    ensures { (n : ℕ) → node_in used < n → result ≡ is_empty_read (flags_of search.now.stamp n search.now.marks.now) [] (use_of used) }
 {
-    if is_read(word) {
-        if is_in_closure(word) {
-            false
-        } else {
-            visited[node_of(word)] != stamp
-        }
-    } else {
-        false
-    }
+    used.is_read() && !used.in_closure && !search.is_marked(used.node as usize)
 }
 
 // The node of a use marked, if it is a write, for the reads that follow in its statement.
-fn mark_write(visited: &mut [u16], stamp: u16, word: u64)
-    requires { node_in word < length visited.old }
-    ensures { left visited ≡ mark_if (is_write (use_of word)) (node_in word) stamp (held visited) }
+fn mark_write(search: &mut Search<'_>, used: PlacedUse)
+    requires { node_in used < length search.old.marks.now }
+    ensures same { SameColumns search.old search.new × (search.new.stamp ≡ search.old.stamp) }
+    ensures marked { search.new.marks.now ≡ mark_if (is_write (use_of used)) (node_in used) search.old.stamp search.old.marks.now }
 {
-    if is_write(word) {
-        visited[node_of(word)] = stamp;
+    if used.is_write() {
+        search.mark(used.node as usize);
     }
 }
 
 // Both of one use, the test first: a ReadWrite reads before it writes, so its own mark must not hide its read.
-fn test_and_mark(visited: &mut [u16], stamp: u16, word: u64) -> bool
-    requires { node_in word < length visited.old }
-    ensures by_index { (n : ℕ) → node_in word < n → result ≡ is_empty_read (flags_of stamp n (held visited)) [] (use_of word) }
-    ensures visited_value { left visited ≡ mark_if (is_write (use_of word)) (node_in word) stamp (held visited) }
+fn test_and_mark(search: &mut Search<'_>, used: PlacedUse) -> bool
+    requires { node_in used < length search.old.marks.now }
+    ensures same { SameColumns search.old search.new × (search.new.stamp ≡ search.old.stamp) }
+    ensures tested { (n : ℕ) → node_in used < n → result ≡ is_empty_read (flags_of search.old.stamp n search.old.marks.now) [] (use_of used) }
+    ensures marked { search.new.marks.now ≡ mark_if (is_write (use_of used)) (node_in used) search.old.stamp search.old.marks.now }
 {
-    let empty = is_empty_read(visited, stamp, word);
-    mark_write(visited, stamp, word);
+    let empty = is_empty_read(search, used);
+    mark_write(search, used);
     empty
 }
 
-// The first empty read in use order, as its number + 1; 0 where there is none. The marks are those of the local's live walk.
-pub fn first_unassigned_use(mine: &[u64], visited: &mut [u16], stamp: u16) -> usize
-    requires { AllPlaced (length visited.old) mine.now }
-    ensures by_index { (n : ℕ) → AllPlaced n mine.now → result ≡ code_of (first_empty_read (flags_of stamp n (held visited)) [] (uses_in mine.now)) }
-    ensures stamped { Stamped stamp (held visited) → Stamped stamp (left visited) }
+// The number of the first empty read in use order. The marks are those of the local's live walk.
+pub fn first_unassigned_use(mine: &[PlacedUse], search: &mut Search<'_>) -> Option<u16>
+    requires { AllPlaced (length search.old.marks.now) mine.now }
+    ensures same { SameColumns search.old search.new × (search.new.stamp ≡ search.old.stamp) }
+    ensures first { (n : ℕ) → AllPlaced n mine.now → result ≡ first_number (first_empty_read (flags_of search.old.stamp n search.old.marks.now) [] (uses_in mine.now)) }
+    ensures stamped { Stamped search.old.stamp search.old.marks.now → Stamped search.old.stamp search.new.marks.now }
 {
-    let mut i = 0;
-    while i < mine.len() {
-        let word = mine[i];
-        if test_and_mark(visited, stamp, word) {
-            return number_of(word) + 1;
+    for used in mine {
+        if test_and_mark(search, *used) {
+            return Some(used.number);
         }
-        i += 1;
     }
-    0
+    None
 }

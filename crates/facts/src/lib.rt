@@ -1,129 +1,59 @@
-// What the passes over locals ask of each name, in one word a name (local_flow.rs).
+// What the passes over locals ask of each name (local_flow.rs).
 #![tactic(auto)]
 
-ghost use Rattle.std.specs.Prelude.{◌≡◌, Bool, false, not, ◌≤◌, length};
-ghost use Rattle.search.specs.Lent.{held};
-ghost use Rattle.flow.specs.Locals.{Local, no_value, tracked, writes_judged, captured};
-ghost use Rattle.facts.specs.Facts.{facts_with, is_due, is_judged, None};
+ghost use Rattle.std.specs.Prelude.{◌≡◌, ◌&&◌, not};
+ghost use Rattle.std.specs.List.{list_any};
+ghost use Rattle.facts.specs.Facts.{judges_writes, tracks, dues, judges};
 
-// A name's facts are its flags, + NO_VALUE, + LOST. The flags are below FLAGS: 1 begins with underscore, MODIFIED, CAPTURED.
-pub const FLAGS: u64 = 8;
-
-const MODIFIED: u16 = 2;
-
-const CAPTURED: u16 = 4;
-
-pub const NO_VALUE: u16 = 8;
-
-const LOST: u16 = 16;
-
-pub fn has_value(facts: u16) -> bool
-    ensures { (l : Local) (found : Bool) → facts ≡ facts_with l found → result ≡ not (no_value l) }
-{
-    facts / NO_VALUE % 2 == 0
+// Whether a name begins with underscore, is modified, is captured and has an initial value, and whether every use of it finds a node.
+#[derive(Clone, Copy, Default)]
+pub struct NameFacts {
+    pub underscore: bool,
+    pub modified: bool,
+    pub captured: bool,
+    pub has_value: bool,
+    pub all_found: bool,
 }
 
-pub fn is_captured(facts: u16) -> bool
-    ensures { (l : Local) (found : Bool) → facts ≡ facts_with l found → result ≡ captured l }
-{
-    facts / CAPTURED % 2 == 1
-}
-
-// Whether every use of the local finds a node.
-fn all_found(facts: u16) -> bool
-    ensures { (l : Local) (found : Bool) → facts ≡ facts_with l found → result ≡ found }
-{
-    facts < LOST
-}
-
-// The facts of a local with a use that finds no node.
-pub fn lose(facts: u16) -> u16
-    ensures { (l : Local) (found : Bool) → facts ≡ facts_with l found → result ≡ facts_with l false }
-{
-    if facts < LOST { facts + LOST } else { facts }
-}
-
-// Whether the local's writes are judged: it is modified and not captured.
-fn writes_judged(facts: u16) -> bool
-    ensures { (l : Local) (found : Bool) → facts ≡ facts_with l found → result ≡ writes_judged l }
-{
-    if facts / MODIFIED % 2 == 1 {
-        facts / CAPTURED % 2 == 0
-    } else {
-        false
+impl NameFacts {
+    // Whether the local's writes are judged: it is modified and not captured.
+    fn writes_judged(self) -> bool
+        ensures { result ≡ judges_writes self }
+    {
+        self.modified && !self.captured
     }
-}
 
-fn is_tracked(facts: u16) -> bool
-    ensures { (l : Local) (found : Bool) → facts ≡ facts_with l found → result ≡ tracked l }
-{
-    if facts % 2 == 1 {
-        false
-    } else {
-        if has_value(facts) {
-            writes_judged(facts)
-        } else {
-            true
-        }
+    pub fn is_tracked(self) -> bool
+        ensures { result ≡ tracks self }
+    {
+        !self.underscore && (!self.has_value || self.writes_judged())
     }
-}
 
-// The walk of a local is due if it is tracked, no use of it is lost, and it has no value.
-pub fn is_due(facts: u16) -> bool
-    ensures { (l : Local) (found : Bool) → facts ≡ facts_with l found → result ≡ is_due l found }
-{
-    if is_tracked(facts) {
-        if all_found(facts) {
-            !has_value(facts)
-        } else {
-            false
-        }
-    } else {
-        false
+    // The walk of a local is due if it is tracked, no use of it is lost, and it has no value.
+    pub fn is_due(self) -> bool
+        ensures { result ≡ dues self }
+    {
+        self.is_tracked() && self.all_found && !self.has_value
     }
-}
 
-// A local's values are judged if it is tracked, no use of it is lost, and it is modified and not captured.
-pub fn is_judged(facts: u16) -> bool
-    ensures { (l : Local) (found : Bool) → facts ≡ facts_with l found → result ≡ is_judged l found }
-{
-    if is_tracked(facts) {
-        if writes_judged(facts) {
-            all_found(facts)
-        } else {
-            false
-        }
-    } else {
-        false
+    // A local's values are judged if it is tracked, no use of it is lost, and it is modified and not captured.
+    pub fn is_judged(self) -> bool
+        ensures { result ≡ judges self }
+    {
+        self.is_tracked() && self.all_found && self.writes_judged()
     }
 }
 
 // Whether some local is tracked. Where none is, nothing is searched and no memory is needed for it.
-pub fn any_tracked(facts: &[u16], names: usize) -> bool
-    requires { names ≤ length facts.now }
-    ensures { result ≡ false → None (λ l found. tracked l) names facts.now }
+pub fn any_tracked(names: &[NameFacts]) -> bool
+    ensures { result ≡ list_any tracks names.now }
 {
-    let mut i = 0;
-    while i < names {
-        if is_tracked(facts[i]) {
-            return true;
-        }
-        i += 1;
-    }
-    false
+    names.iter().any(|name| name.is_tracked())
 }
 
 // Whether the values of some local are judged. Where none are, nothing is searched back.
-pub fn any_judged(facts: &[u16], names: usize) -> bool
-    requires { names ≤ length facts.now }
-    ensures { result ≡ false → None is_judged names facts.now }
+pub fn any_judged(names: &[NameFacts]) -> bool
+    ensures { result ≡ list_any judges names.now }
 {
-    let mut i = 0;
-    while i < names {
-        if is_judged(facts[i]) {
-            return true;
-        }
-        i += 1;
-    }
-    false
+    names.iter().any(|name| name.is_judged())
 }

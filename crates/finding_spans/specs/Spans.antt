@@ -12,7 +12,6 @@ pub record Names (uses names w : ℕ) : Type 0 where
   pub use_known : w / 4294967296 ≤ uses
   pub local_known : w % 4294967296 / 2 < names
 
--- the first `count` words are
-pub record Known (count uses names : ℕ) (words : List ℕ) : Type 0 where
-  pub long : count ≤ length words
-  pub each : (i : ℕ) → i < count → Names uses names (get_or words i 0)
+-- each of the words is
+abbrev pub Known : ℕ → ℕ → List ℕ → Type 0
+Known uses names words = (i : ℕ) → i < length words → Names uses names (get_or words i 0)

@@ -1,13 +1,13 @@
 // The spans of findings, from their words.
 #![tactic(auto)]
 
-ghost use Rattle.std.specs.Prelude.{◌≡◌, ◌++◌, map, ◌≤◌, length, take, drop};
-ghost use Rattle.search.specs.Lent.{held, left};
+ghost use Rattle.std.specs.Prelude.{◌≡◌, ◌++◌, map, ◌≤◌, length, drop};
 ghost use Rattle.finding_spans.specs.Spans.{span_of, Names, Known};
 
 use words::finding::{LOCAL, USE};
 
 // The span of the finding with this word.
+#[tactic(auto, using(std::proofs::lemmas::Bool::Decides::nat_tests))]
 fn span_of(use_span: &[u64], name_span: &[u64], word: u64) -> u64
     requires { Names (length use_span.now) (length name_span.now) word }
     ensures { result ≡ span_of use_span.now name_span.now word }
@@ -20,20 +20,17 @@ fn span_of(use_span: &[u64], name_span: &[u64], word: u64) -> u64
     }
 }
 
-// The span of each of the first findings.
+// The span of each finding.
 pub fn write_spans(
     use_span: &[u64],
     name_span: &[u64],
     finding_word: &[u64],
     finding_span: &mut [u64],
-    count: usize,
 )
-    requires { Known count (length use_span.now) (length name_span.now) finding_word.now × (count ≤ length finding_span.old) }
-    ensures { left finding_span ≡ map (span_of use_span.now name_span.now) (take count finding_word.now) ++ drop count (held finding_span) }
+    requires { Known (length use_span.now) (length name_span.now) finding_word.now × (length finding_word.now ≤ length finding_span.old) }
+    ensures { finding_span.new ≡ map (span_of use_span.now name_span.now) finding_word.now ++ drop (length finding_word.now) finding_span.old }
 {
-    let mut i = 0;
-    while i < count {
-        finding_span[i] = span_of(use_span, name_span, finding_word[i]);
-        i += 1;
+    for (i, word) in finding_word.iter().enumerate() {
+        finding_span[i] = span_of(use_span, name_span, *word);
     }
 }

@@ -1,8 +1,8 @@
 -- The graph that three columns hold, and where a local is alive in it.
 -- Assumes nothing: these are definitions.
 use Rattle.std.specs.Prelude.{ℕ, ◌≤◌, ◌≡◌, Bool, ◌&&◌, not, List, [], length, get_or, take, eqb, ltb}
-use Rattle.search.specs.Lent.{Column, held}
 use Rattle.live_steps.specs.declared.LocalDeclaration.{LocalDeclaration}
+use Rattle.live_steps.specs.declared.FlowGraph.{FlowGraph}
 use Rattle.flow.specs.Graph.{Graph, Nodes}
 use Rattle.flow.specs.Locals.{Declaration}
 
@@ -26,9 +26,12 @@ bare ns = record { nodes = ns; codes = record { span = []; node = [] }; names = 
 abbrev pub chart : ℕ → List ℕ → List ℕ → List ℕ → Graph
 chart n first second start = bare (record { first = take n first; second = take n second; start = take n start })
 
--- that of lent columns
-abbrev pub charted : ℕ → List ℕ → List ℕ → List ℕ → Graph
-charted n first second start = chart n first second start
+-- how many nodes code's columns hold, and their graph
+abbrev pub nodes_of : FlowGraph → ℕ
+nodes_of g = length g.first.now
+
+abbrev pub charted : FlowGraph → Graph
+charted g = chart (nodes_of g) g.first.now g.second.now g.start.now
 
 -- a declaration as 01's definitions have it
 abbrev pub declared : LocalDeclaration → Declaration

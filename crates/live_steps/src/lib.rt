@@ -2,14 +2,9 @@
 // Nodes are marked by a stamp that is new for each local, so that a walk costs what it visits.
 #![tactic(auto)]
 
-ghost use Rattle.std.specs.Prelude.{◌≡◌, ◌&&◌, ◌<◌, ◌≤◌, length, ltb};
-ghost use Rattle.search.specs.Lent.{held, left, st_at};
-ghost use Rattle.search.specs.Worklist.{st};
-ghost use Rattle.search.specs.Stamps.{Ready, stamp_when, stamp_all};
-ghost use Rattle.flow.specs.Findings.{live_successors};
-ghost use Rattle.live_steps.specs.Walk.{Long, charted, declared, alive_in};
+ghost use Rattle.std.specs.Prelude.{◌≡◌, ◌<◌, ◌≤◌, length};
 
-use search::{at, insert};
+use search::Search;
 
 // Where a local is declared: its LOCAL's node, and where its scope ends.
 #[derive(Clone, Copy)]
@@ -18,58 +13,49 @@ pub struct LocalDeclaration {
     pub scope_end: u64,
 }
 
-// Whether a live path may go through v: not through the LOCAL, where the variable begins anew, nor to code at or past the scope end.
-pub fn is_alive_at(start: &[u64], declaration: LocalDeclaration, v: usize) -> bool
-    requires { v < length start.now }
-    ensures { result ≡ alive_in start.now (declared declaration) v }
-{
-    v != declaration.node && start[v] < declaration.scope_end
+// The nodes of a flow graph: the two successors of each, and where its code starts.
+#[derive(Clone, Copy)]
+pub struct FlowGraph<'a> {
+    pub first: &'a [u64],
+    pub second: &'a [u64],
+    pub start: &'a [u64],
+    ghost as_long: { (length second.now ≡ length first.now) × (length start.now ≡ length first.now) × (length first.now ≤ 1600) },
 }
 
-// v pushed where a live path can enter it; what is no node is passed over. The result is the stack's height.
-fn push_alive(
-    start: &[u64],
-    visited: &mut [u16],
-    stack: &mut [u16],
-    n: usize,
-    top: usize,
-    declaration: LocalDeclaration,
-    stamp: u16,
-    v: usize,
-) -> usize
-    requires { Ready stamp n (st visited.old stack.old top) × (n ≤ 1600) × (n ≤ length start.now) }
-    ensures { st_at left visited stack result ≡ stamp_when stamp (ltb v n && alive_in start.now (declared declaration) v) v (st_at held visited stack top) }
-{
-    if v < n {
-        if is_alive_at(start, declaration, v) {
-            insert(visited, stack, top, v, stamp)
-        } else {
-            top
-        }
-    } else {
-        top
+impl FlowGraph<'_> {
+    ghost use Rattle.std.specs.Prelude.{◌&&◌, ltb};
+    ghost use Rattle.search.specs.Running.{state_of, SameColumns};
+    ghost use Rattle.search.specs.Stamps.{Ready, stamp_when, stamp_all};
+    ghost use Rattle.flow.specs.Findings.{live_successors};
+    ghost use Rattle.live_steps.specs.Walk.{nodes_of, charted, declared, alive_in};
+
+    // Whether a live path may go through v: not through the LOCAL, where the variable begins anew, nor to code at or past the scope end.
+    #[tactic(auto, using(std::proofs::lemmas::Bool::Decides::nat_tests), unfolding(crate::specs::Walk::alive_in))]
+    pub fn is_alive_at(&self, declaration: LocalDeclaration, v: usize) -> bool
+        requires { v < nodes_of self.now }
+        ensures { result ≡ alive_in self.now.start.now (declared declaration) v }
+    {
+        v != declaration.node && self.start[v] < declaration.scope_end
     }
-}
 
-// The live successors of u pushed.
-pub fn expand(
-    first: &[u64],
-    second: &[u64],
-    start: &[u64],
-    visited: &mut [u16],
-    stack: &mut [u16],
-    n: usize,
-    top: usize,
-    declaration: LocalDeclaration,
-    stamp: u16,
-    u: usize,
-) -> usize
-    requires ready { Ready stamp n (st visited.old stack.old top) × (n ≤ 1600) }
-    requires long { Long n first.now second.now start.now × (u < n) }
-    ensures { st_at left visited stack result ≡ stamp_all stamp (live_successors (charted n first.now second.now start.now) (declared declaration) u) (st_at held visited stack top) }
-{
-    let a = at(first, u);
-    let t = push_alive(start, visited, stack, n, top, declaration, stamp, a);
-    let b = at(second, u);
-    push_alive(start, visited, stack, n, t, declaration, stamp, b)
+    // v pushed where a live path can enter it; what is no node is passed over.
+    fn push_alive(&self, search: &mut Search<'_>, declaration: LocalDeclaration, v: usize)
+        requires { Ready search.old.stamp (nodes_of self.now) (state_of search.old) }
+        ensures same { SameColumns search.old search.new × (search.new.stamp ≡ search.old.stamp) }
+        ensures pushed { state_of search.new ≡ stamp_when search.old.stamp (ltb v (nodes_of self.now) && alive_in self.now.start.now (declared declaration) v) v (state_of search.old) }
+    {
+        if v < self.first.len() && self.is_alive_at(declaration, v) {
+            search.insert(v);
+        }
+    }
+
+    // The live successors of u pushed.
+    pub fn expand(&self, search: &mut Search<'_>, declaration: LocalDeclaration, u: usize)
+        requires { Ready search.old.stamp (nodes_of self.now) (state_of search.old) × (u < nodes_of self.now) }
+        ensures same { SameColumns search.old search.new × (search.new.stamp ≡ search.old.stamp) }
+        ensures pushed { state_of search.new ≡ stamp_all search.old.stamp (live_successors (charted self.now) (declared declaration) u) (state_of search.old) }
+    {
+        self.push_alive(search, declaration, self.first[u] as usize);
+        self.push_alive(search, declaration, self.second[u] as usize);
+    }
 }

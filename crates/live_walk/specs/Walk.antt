@@ -1,7 +1,6 @@
 -- The walk of a local from after its writes: where it begins, and what it leaves.
 -- Assumes nothing: these are definitions.
 use Rattle.std.specs.Prelude.{ℕ, ◌+◌, ◌≡◌, List}
-use Rattle.search.specs.Lent.{Column, left}
 use Rattle.search.specs.Search.{zeros}
 use Rattle.search.specs.Stamps.{flags_of, Stamped}
 use Rattle.flow.specs.Graph.{Graph}
@@ -12,8 +11,8 @@ use Rattle.flow.specs.Findings.{Use, node, is_write, live_successors, live_after
 abbrev pub after_write : Graph → Declaration → Use → List ℕ
 after_write g d u = only_if (is_write u) (live_successors g d (node u))
 
--- a call marks the nodes that live paths from after the writes among us end at, and says how many they are
-pub record Walks (stamp n : ℕ) (g : Graph) (d : Declaration) (us : List Use) (r : ℕ) (visited : Column) : Type 0 where
-  pub marks : flags_of stamp n (left visited) ≡ live_after_writes g d us
+-- the nodes are marked that live paths from after the writes among us end at, and r says how many they are
+pub record Walks (stamp n : ℕ) (g : Graph) (d : Declaration) (us : List Use) (r : ℕ) (visited : List ℕ) : Type 0 where
+  pub marks : flags_of stamp n visited ≡ live_after_writes g d us
   pub count : r + zeros n (live_after_writes g d us) ≡ n
-  pub stamped : Stamped stamp (left visited)
+  pub stamped : Stamped stamp visited

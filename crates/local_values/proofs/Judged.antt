@@ -4,14 +4,13 @@ use Prim.Native.Nat.{ℕ}
 use mathlib.Core.Path.{◌≡◌, refl, ap, ap₂, ◌∙◌}
 use mathlib.Core.Bool.{Bool}
 use mathlib.Core.List.{List, [], ◌∷◌, ◌++◌}
-use native.Mathlib.Omega.{arith}
-use lib.ListN.{take}
-use lib.Seq.{take-take}
-use Rattle.search.specs.Stamps.{flags_of}
 use Rattle.flow.specs.Locals.{only_if, Declaration}
 use Rattle.flow.specs.Findings.{Use, Ahead, ahead, is_overwritten_unread, is_overwritten}
-use Rattle.live_steps.specs.Walk.{chart}
-use Rattle.uses_by_node.specs.Uses.{overwritten_in}
+use Rattle.live_steps.specs.declared.FlowGraph.{FlowGraph}
+use Rattle.live_steps.specs.Walk.{nodes_of, chart, charted}
+use Rattle.uses_by_node.specs.declared.AheadMarks.{AheadMarks}
+use Rattle.uses_by_node.specs.Uses.{marked, edges_of, overwritten_in}
+use Rattle.uses_by_node.specs.Marks.{ahead_of}
 use Rattle.next_uses.specs.Backwards.{AheadMarked}
 use Rattle.local_values.specs.Words.{value_words, judged_words}
 
@@ -25,10 +24,10 @@ module _ (n : ℕ) (first second start : List ℕ) where
   unfolding is_overwritten_unread
   values_alike ℓ has a v us = rw (writes_alike a us)
 
-  -- the marks were made over columns that end with the nodes
-  pub judged_by_marks : (ℓ : ℕ) (has : Bool) (d : Declaration) (us : List Use) {stamp : ℕ} {reads writes : List ℕ} → AheadMarked stamp n reads writes (ahead (chart n (take n first) (take n second) start) d us) → value_words ℓ has (chart n first second []) (record { reads = flags_of stamp n reads; writes = flags_of stamp n writes }) d.node us ≡ judged_words ℓ has (chart n first second start) d us
-  judged_by_marks ℓ has d us {stamp} {reads} {writes} m =
-      let ends : (l : List ℕ) → take n (take n l) ≡ take n l = λ l. take-take n n l (omega arith) in
-      let same : ahead (chart n (take n first) (take n second) start) d us ≡ ahead (chart n first second start) d us = rw (ends first, ends second) in
-      let marks : ◌≡◌ {A = Ahead} (record { reads = flags_of stamp n reads; writes = flags_of stamp n writes }) (ahead (chart n first second start) d us) = ap₂ (λ (r w : List ℕ). record { reads = r; writes = w }) m.reads_are m.writes_are ∙ same in
-      ap (λ (a : Ahead). value_words ℓ has (chart n first second []) a d.node us) marks ∙ values_alike ℓ has (ahead (chart n first second start) d us) d.node us
+-- in the graph of code's columns, by marks of what is ahead there
+pub judged_by_marks : (g : FlowGraph) (r : AheadMarks) (ℓ : ℕ) (has : Bool) (d : Declaration) (us : List Use) → r.graph ≡ g → AheadMarked r.stamp (nodes_of g) r.reads.now r.writes.now (ahead (charted g) d us) → value_words ℓ has (edges_of r.graph) (ahead_of r) d.node us ≡ judged_words ℓ has (charted g) d us
+judged_by_marks g r ℓ has d us e m =
+    let marks : marked r.stamp (nodes_of g) r.reads.now r.writes.now ≡ ahead (charted g) d us = ap₂ (λ (x y : List ℕ). record { reads = x; writes = y }) m.reads_are m.writes_are in
+    ap (λ (x : FlowGraph). value_words ℓ has (edges_of x) (marked r.stamp (nodes_of x) r.reads.now r.writes.now) d.node us) e
+    ∙ ap (λ (a : Ahead). value_words ℓ has (edges_of g) a d.node us) marks
+    ∙ values_alike (nodes_of g) g.first.now g.second.now g.start.now ℓ has (ahead (charted g) d us) d.node us

@@ -9,7 +9,8 @@ use lib.ListN.{length, get_or, drop, length-append, length-map, drop_of_length-l
 use Rattle.flow.specs.Graph.{Graph}
 use Rattle.flow.specs.Locals.{only_if}
 use Rattle.flow.specs.Findings.{Use, Ahead, is_overwritten}
-use Rattle.use_words.specs.Words.{use_of, uses_in}
+use Rattle.use_words.specs.declared.PlacedUse.{PlacedUse}
+use Rattle.use_words.specs.Words.{use_of, uses_in, no_use}
 use Rattle.use_words.proofs.Words.{uses_next}
 use Rattle.uses_by_node.specs.Uses.{overwritten_in}
 use Rattle.locals.specs.Entries.{Room, Added}
@@ -20,7 +21,7 @@ one_at_most : (b : Bool) (u : Use) → length (only_if b (u ∷ [])) ≤ 1
 one_at_most true u = omega arith
 one_at_most false u = omega arith
 
-module _ (g : Graph) (a : Ahead) (local : ℕ) (ws : List ℕ) (before : ℕ) (w₀ : List ℕ) where
+module _ (g : Graph) (a : Ahead) (local : ℕ) (ws : List PlacedUse) (before : ℕ) (w₀ : List ℕ) where
   -- the places below i are passed: what was found there was added
   pub record Passed (count i : ℕ) (w : List ℕ) : Type 0 where
     pub few : i ≤ length ws
@@ -47,7 +48,7 @@ module _ (g : Graph) (a : Ahead) (local : ℕ) (ws : List ℕ) (before : ℕ) (w
 
     pub passed_turn : i < length ws → {r : ℕ} {w₁ : List ℕ} → Added (write_words_at local g a ws i) count w r w₁ → Passed r (i + 1) w₁
     passed_turn h {r} {w₁} t =
-        let u : Use = use_of (get_or ws i 0) in
+        let u : Use = use_of (get_or ws i no_use) in
         let after : List Use = uses_in (drop (i + 1) ws) in
         let here : List Use = only_if (is_overwritten g a u after) (u ∷ []) in
         let split : uses_in (drop i ws) ≡ u ∷ after = uses_next ws i h in
@@ -61,6 +62,6 @@ module _ (g : Graph) (a : Ahead) (local : ℕ) (ws : List ℕ) (before : ℕ) (w
 
     pub passed_end : length ws ≤ i → Added (map (write_word local) (overwritten_in g a (uses_in ws))) before w₀ count w
     passed_end h =
-        let rest : overwritten_in g a (uses_in (drop i ws)) ≡ [] = ap (λ (l : List ℕ). overwritten_in g a (uses_in l)) (drop_of_length-le ws h) in
+        let rest : overwritten_in g a (uses_in (drop i ws)) ≡ [] = ap (λ (l : List PlacedUse). overwritten_in g a (uses_in l)) (drop_of_length-le ws h) in
         let all : overwritten_in g a (uses_in ws) ≡ p.found = p.so_far ∙ ap (λ (l : List Use). p.found ++ l) rest ∙ append-nil p.found in
         rw all p.added

@@ -1,10 +1,11 @@
 -- What is listed of one local's values: the words of its overwritten initial value and writes.
 -- Assumes nothing: these are definitions.
-use Rattle.std.specs.Prelude.{ℕ, ◌+◌, ◌≤◌, Bool, ◌&&◌, List, [], ◌∷◌, ◌++◌, map, length, get_or, drop}
+use Rattle.std.specs.Prelude.{ℕ, ◌+◌, Bool, ◌&&◌, List, [], ◌∷◌, ◌++◌, map, get_or, drop}
 use Rattle.flow.specs.Graph.{Graph}
 use Rattle.flow.specs.Locals.{Declaration, only_if, finding_word}
 use Rattle.flow.specs.Findings.{Use, Ahead, ahead, is_overwritten, is_overwritten_unread}
-use Rattle.use_words.specs.Words.{use_of, uses_in}
+use Rattle.use_words.specs.declared.PlacedUse.{PlacedUse}
+use Rattle.use_words.specs.Words.{use_of, uses_in, no_use}
 use Rattle.uses_by_node.specs.Uses.{overwritten_in}
 
 -- the word of an overwritten write
@@ -27,14 +28,7 @@ abbrev pub judged_words : ℕ → Bool → Graph → Declaration → List Use �
 judged_words ℓ has g d us = value_words ℓ has g (ahead g d us) d.node us
 
 -- of the use at place i of a column of uses by node, if it is a write that is overwritten
-abbrev pub write_words_at : ℕ → Graph → Ahead → List ℕ → ℕ → List ℕ
+abbrev pub write_words_at : ℕ → Graph → Ahead → List PlacedUse → ℕ → List ℕ
 write_words_at ℓ g a ws i =
-    let u = use_of (get_or ws i 0) in
+    let u = use_of (get_or ws i no_use) in
     map (write_word ℓ) (only_if (is_overwritten g a u (uses_in (drop (i + 1) ws))) (u ∷ []))
-
--- columns of edges and of marks hold n nodes
-pub record Hold (n : ℕ) (first second reads writes : List ℕ) : Type 0 where
-  pub firsts : n ≤ length first
-  pub seconds : n ≤ length second
-  pub reads_hold : n ≤ length reads
-  pub writes_hold : n ≤ length writes

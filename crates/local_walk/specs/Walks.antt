@@ -1,11 +1,11 @@
--- What the walk of one local tells: how many nodes it visits, and its first unassigned use as a number.
+-- What the walk of one local tells: how many nodes it visits, and the number of its first unassigned use.
 -- Assumes nothing: these are definitions.
 use Rattle.std.specs.Prelude.{ℕ, ◌+◌, ◌≡◌, List, []}
 use Rattle.search.specs.Search.{zeros}
 use Rattle.flow.specs.Graph.{Graph}
 use Rattle.flow.specs.Locals.{Declaration}
 use Rattle.flow.specs.Findings.{Use, live_after_writes, first_empty_read}
-use Rattle.empty_read.specs.FirstRead.{code_of}
+use Rattle.empty_read.specs.FirstRead.{first_number}
 use Rattle.local_walk.specs.declared.Walked.{Walked}
 
 -- the first of us that is an empty read, as a list
@@ -15,4 +15,4 @@ first_empty g d us = first_empty_read (live_after_writes g d us) [] us
 -- r tells of the walk of a local with the declaration d and the uses us, in a graph of n nodes
 pub record Tells (n : ℕ) (g : Graph) (d : Declaration) (us : List Use) (r : Walked) : Type 0 where
   pub nodes : r.nodes + zeros n (live_after_writes g d us) ≡ n
-  pub first : r.first ≡ code_of (first_empty g d us)
+  pub first : r.first ≡ first_number (first_empty g d us)

@@ -9,12 +9,13 @@ use lib.Seq.{get_or-take}
 use Rattle.flow.specs.Graph.{Graph, graph}
 use Rattle.flow.specs.Locals.{declaration}
 use Rattle.flow.specs.Findings.{Use}
+use Rattle.use_words.specs.declared.PlacedUse.{PlacedUse}
 use Rattle.live_steps.specs.declared.LocalDeclaration.{LocalDeclaration}
 use Rattle.live_steps.specs.Walk.{Charts, chart, declared}
 use Rattle.locals.specs.Columns.{Named, Cut, Parts}
 
 -- each local has a part
-pub part_cut : {list : ℕ → List Use} {m n names : ℕ} {starts column : List ℕ} → Parts list m n names starts column → (ℓ : ℕ) → ℓ < names → Cut ℓ starts column
+pub part_cut : {list : ℕ → List Use} {m n names : ℕ} {starts : List ℕ} {column : List PlacedUse} → Parts list m n names starts column → (ℓ : ℕ) → ℓ < names → Cut ℓ starts column
 part_cut p ℓ h = record { inside = omega (arith, p.starts_long); rising = p.rising ℓ h; within = omega (arith, p.within (ℓ + 1) (omega arith), p.column_long) }
 
 -- a declaration that was read from the columns of names is 01's

@@ -2,6 +2,7 @@
 -- Assumes nothing: these are definitions.
 use Rattle.std.specs.Prelude.{ℕ, ◌+◌, ◌≤◌, ◌≡◌, List, ◌++◌, length, take, drop}
 use Rattle.search.specs.Lent.{Column, held, left}
+use Rattle.locals.specs.declared.FindingList.{FindingList}
 
 -- the column has room for k words after the first `count`
 abbrev pub Room : ℕ → ℕ → List ℕ → Type 0
@@ -19,3 +20,7 @@ pub record Added (ws : List ℕ) (count : ℕ) (old : List ℕ) (r : ℕ) (new :
 -- a call that is lent the column adds them
 abbrev pub Adds : List ℕ → ℕ → Column → ℕ → Type 0
 Adds ws count column r = Added ws count (held column) r (left column)
+
+-- a call adds them to a list, which keeps its column
+abbrev pub AddsTo : List ℕ → FindingList → FindingList → Type 0
+AddsTo ws old new = Added ws old.count old.words.now new.count new.words.now × (new.words.ghost_name ≡ old.words.ghost_name)

@@ -1,45 +1,44 @@
 -- A name's facts by its values, and the names of a sheet are those of its kind words.
 -- Assumes nothing.
-use Prim.Native.Nat.{ℕ, zero, suc, ◌+◌, ◌*◌, ◌%◌, ◌<◌, ◌≤◌}
-use mathlib.Core.Path.{◌≡◌, refl, sym, ap, ◌∙◌}
-use mathlib.Core.Bool.{Bool, true, false, cond, and-false}
+use Prim.Native.Nat.{ℕ, zero, suc, ◌+◌, ◌<◌, ◌≤◌}
+use mathlib.Core.Path.{subst, ◌≡◌, refl, sym, ap, ◌∙◌}
+use mathlib.Core.Bool.{Bool, true, false, cond}
 use mathlib.Core.List.{List, [], ◌∷◌, ◌++◌, append_assoc, append-nil, map, map-append}
 use native.Mathlib.Omega.{arith}
 use native.Mathlib.Numerals.{add-one}
-use borrow.Author.Tests.{eq-eqb, ne_eqb, le-leb, lt-leb}
-use lib.Dec.{eqb, leb}
-use lib.ListN.{length, get_or, set, take, drop, length-map, drop_of_length-le}
+use borrow.Author.Tests.{eq-eqb, ne_eqb}
+use lib.Dec.{eqb}
+use lib.ListN.{length-set, length, get_or, set, take, drop, length-map, drop_of_length-le}
 use lib.Seq.{get_or-take, drop-cons, drop-drop, take-suc-set, drop-set-lt, length-take-le}
 use Rattle.flow.specs.Sheet.{kind_of, argument_of, kind_words, span_words, zip}
 use Rattle.flow.specs.Kinds.{kinds}
-use Rattle.flow.specs.Locals.{Local, no_local, only_if, no_value, locals_from, locals, local_at}
-use Rattle.facts.specs.Facts.{facts_of, FactsOf}
+use Rattle.flow.specs.Locals.{Local, no_local, only_if, locals_from, locals, local_at}
+use Rattle.facts.specs.declared.NameFacts.{NameFacts}
+use Rattle.facts.specs.Facts.{facts_of, no_facts, FactsOf}
 use Rattle.name_facts.specs.Names.{values_after, before_after, name_here, locals_in, Stored}
-open kinds use {NAME}
+open kinds use {LOCAL, NAME}
 
--- ---- a name's facts, by its values
+-- ---- a name stored, or none
 
-module _ (l : Local) where
-  facts_when : (b : Bool) → no_value l ≡ b → facts_of l ≡ l.flags % 8 + 8 * cond b 1 0
-  unfolding facts_of
-  facts_when b q = ap (λ (x : Bool). l.flags % 8 + 8 * cond x 1 0) q
+module _ (w values before k : ℕ) (facts : List NameFacts) where
+  pub stored_one : kind_of w ≡ NAME → k < length facts → {x : NameFacts} → x ≡ facts_of (record { flags = argument_of w; values = values; before = before }) → Stored (name_here w values before) k facts (set facts k x) (k + 1)
+  stored_one e h {x} q =
+      rw (eq-eqb (kind_of w) NAME e)
+      (record {
+        count = refl;
+        cells = rw (add-one k) (take-suc-set facts k x h) ∙ ap (λ (y : NameFacts). take k facts ++ (y ∷ [])) q;
+        rest = drop-set-lt (k + 1) facts k x (omega arith);
+      })
 
-  pub facts_open : l.values ≡ 65535 → l.flags % 8 ≡ facts_of l
-  unfolding no_value
-  facts_open e = let f = facts_when false (rw (eq-eqb l.values 65535 e) (and-false (leb l.values l.before))) in omega (arith, f)
-
-  pub facts_valued : l.before < l.values → l.flags % 8 ≡ facts_of l
-  unfolding no_value
-  facts_valued h = let f = facts_when false (rw (lt-leb l.values l.before h)) in omega (arith, f)
-
-  pub facts_lacking : l.values ≤ l.before → (l.values ≡ 65535 → ⊥) → l.flags % 8 + 8 ≡ facts_of l
-  unfolding no_value
-  facts_lacking h q = let f = facts_when true (rw (le-leb l.values l.before h, ne_eqb l.values 65535 q)) in omega (arith, f)
+  pub stored_none : (kind_of w ≡ NAME → ⊥) → Stored (name_here w values before) k facts facts k
+  stored_none q =
+      rw (ne_eqb (kind_of w) NAME q)
+      (record { count = omega arith; cells = sym (append-nil (take k facts)); rest = refl })
 
 -- ---- the names of kind words, one word after the other
 
 -- when i of the words are passed
-pub record Reading (kinds facts₀ facts : List ℕ) (names values before i : ℕ) : Type 0 where
+pub record Reading (kinds : List ℕ) (facts₀ facts : List NameFacts) (names values before i : ℕ) : Type 0 where
   pub within : i ≤ length kinds
   pub few : names ≤ i
   pub short : before ≤ i
@@ -61,12 +60,12 @@ one_more w b = go (eqb (kind_of w) NAME)
     go true = omega arith
     go false = omega arith
 
-module _ (kinds facts₀ : List ℕ) (room : length kinds ≤ length facts₀) where
+module _ (kinds : List ℕ) (facts₀ : List NameFacts) (room : length kinds ≤ length facts₀) where
   pub reading_begins : Reading kinds facts₀ facts₀ 0 0 0 0
   reading_begins = record { within = omega arith; few = omega arith; short = omega arith; long = refl; cells = refl; rest = refl }
 
-  module _ {facts : List ℕ} {names values before i : ℕ} (r : Reading kinds facts₀ facts names values before i) where
-    pub reading_turn : i < length kinds → {w k : ℕ} {facts' : List ℕ} → w ≡ get_or kinds i 0 → length facts' ≡ length facts → Stored (name_here w values before) names facts facts' k → Reading kinds facts₀ facts' k (values_after w values) (before_after w before) (i + 1)
+  module _ {facts : List NameFacts} {names values before i : ℕ} (r : Reading kinds facts₀ facts names values before i) where
+    pub reading_turn : i < length kinds → {w k : ℕ} {facts' : List NameFacts} → w ≡ get_or kinds i 0 → length facts' ≡ length facts → Stored (name_here w values before) names facts facts' k → Reading kinds facts₀ facts' k (values_after w values) (before_after w before) (i + 1)
     unfolding locals_in
     reading_turn h {w} {k} {facts'} e q s =
         let here : List Local = name_here w values before in
@@ -79,11 +78,38 @@ module _ (kinds facts₀ : List ℕ) (room : length kinds ≤ length facts₀) w
           long = q ∙ r.long;
           cells = rw (add-one i, s.cells)
               (append_assoc (take names facts) (map facts_of here) (map facts_of ahead)
-              ∙ ap (λ (x : List ℕ). take names facts ++ x) (sym (map-append facts_of here ahead))
+              ∙ ap (λ (x : List NameFacts). take names facts ++ x) (sym (map-append facts_of here ahead))
               ∙ ap (λ (x : List ℕ). take names facts ++ map facts_of (locals_in values before x)) (sym split)
               ∙ r.cells);
           rest = s.rest ∙ rw s.count (sym (drop-drop (length here) names facts) ∙ ap (drop (length here)) r.rest ∙ drop-drop (length here) names facts₀);
         }
+
+    -- by what the word is
+    after : {facts' : List NameFacts} {k v b v' b' : ℕ} → v ≡ v' → b ≡ b' → Reading kinds facts₀ facts' k v b (i + 1) → Reading kinds facts₀ facts' k v' b' (i + 1)
+    after {facts'} {k} {b = b} {v' = v'} e d h = subst (λ (y : ℕ). Reading kinds facts₀ facts' k v' y (i + 1)) d (subst (λ (x : ℕ). Reading kinds facts₀ facts' k x b (i + 1)) e h)
+
+    module _ (h : i < length kinds) where
+      pub turn_name : kind_of (get_or kinds i 0) ≡ NAME → names < length facts → {x : NameFacts} → x ≡ facts_of (record { flags = argument_of (get_or kinds i 0); values = values; before = before }) → Reading kinds facts₀ (set facts names x) (names + 1) values (before + 1) (i + 1)
+      turn_name e room {x} q =
+          let w : ℕ = get_or kinds i 0 in
+          let v : values_after w values ≡ values = ap (λ (b : Bool). cond b (argument_of w) values) (ne_eqb (kind_of w) LOCAL (λ l. omega arith)) in
+          let b : before_after w before ≡ before + 1 = ap (λ (b : Bool). cond b (before + 1) 0) (eq-eqb (kind_of w) NAME e) in
+          after v b (reading_turn h refl (length-set facts names x) (stored_one w values before names facts e room q))
+
+      pub turn_local : kind_of (get_or kinds i 0) ≡ LOCAL → Reading kinds facts₀ facts names (argument_of (get_or kinds i 0)) 0 (i + 1)
+      turn_local e =
+          let w : ℕ = get_or kinds i 0 in
+          let v : values_after w values ≡ argument_of w = ap (λ (b : Bool). cond b (argument_of w) values) (eq-eqb (kind_of w) LOCAL e) in
+          let q : kind_of w ≡ NAME → ⊥ = λ l. omega arith in
+          let b : before_after w before ≡ 0 = ap (λ (b : Bool). cond b (before + 1) 0) (ne_eqb (kind_of w) NAME q) in
+          after v b (reading_turn h refl refl (stored_none w values before names facts q))
+
+      pub turn_other : (kind_of (get_or kinds i 0) ≡ NAME → ⊥) → (kind_of (get_or kinds i 0) ≡ LOCAL → ⊥) → Reading kinds facts₀ facts names values 0 (i + 1)
+      turn_other q l =
+          let w : ℕ = get_or kinds i 0 in
+          let v : values_after w values ≡ values = ap (λ (b : Bool). cond b (argument_of w) values) (ne_eqb (kind_of w) LOCAL l) in
+          let b : before_after w before ≡ 0 = ap (λ (b : Bool). cond b (before + 1) 0) (ne_eqb (kind_of w) NAME q) in
+          after v b (reading_turn h refl refl (stored_none w values before names facts q))
 
     pub reading_ends : length kinds ≤ i → Stored (locals_in 0 0 kinds) 0 facts₀ facts names
     unfolding locals_in
@@ -97,23 +123,6 @@ module _ (kinds facts₀ : List ℕ) (room : length kinds ≤ length facts₀) w
           rest = r.rest;
         }
 
--- ---- a name stored, or none
-
-module _ (w values before k : ℕ) (facts : List ℕ) where
-  pub stored_one : kind_of w ≡ NAME → k < length facts → {x : ℕ} → x ≡ facts_of (record { flags = argument_of w; values = values; before = before }) → Stored (name_here w values before) k facts (set facts k x) (k + 1)
-  stored_one e h {x} q =
-      rw (eq-eqb (kind_of w) NAME e)
-      (record {
-        count = refl;
-        cells = rw (add-one k) (take-suc-set facts k x h) ∙ ap (λ (y : ℕ). take k facts ++ (y ∷ [])) q;
-        rest = drop-set-lt (k + 1) facts k x (omega arith);
-      })
-
-  pub stored_none : (kind_of w ≡ NAME → ⊥) → Stored (name_here w values before) k facts facts k
-  stored_none q =
-      rw (ne_eqb (kind_of w) NAME q)
-      (record { count = omega arith; cells = sym (append-nil (take k facts)); rest = refl })
-
 -- ---- the names of a sheet
 
 locals_in_law : (ws ss : List ℕ) (v b : ℕ) → length ss ≡ length ws → locals_from v b (zip ws ss) ≡ locals_in v b ws
@@ -122,12 +131,12 @@ locals_in_law [] ss v b e = refl
 locals_in_law (w ∷ ws) [] v b e = absurd (omega arith)
 locals_in_law (w ∷ ws) (s ∷ ss) v b e = ap (λ (x : List Local). name_here w v b ++ x) (locals_in_law ws ss (values_after w v) (before_after w b) (omega arith))
 
-facts_at : (ls : List Local) (i : ℕ) → i < length ls → get_or (map facts_of ls) i 0 ≡ facts_of (get_or ls i no_local)
+facts_at : (ls : List Local) (i : ℕ) → i < length ls → get_or (map facts_of ls) i no_facts ≡ facts_of (get_or ls i no_local)
 facts_at [] i h = absurd (omega arith)
 facts_at (l ∷ ls) zero h = refl
 facts_at (l ∷ ls) (suc i) h = facts_at ls i (omega arith)
 
-module _ (S : List ℕ) (same : length (span_words S) ≡ length (kind_words S)) {facts₀ facts : List ℕ} {names : ℕ} (s : Stored (locals_in 0 0 (kind_words S)) 0 facts₀ facts names) where
+module _ (S : List ℕ) (same : length (span_words S) ≡ length (kind_words S)) {facts₀ facts : List NameFacts} {names : ℕ} (s : Stored (locals_in 0 0 (kind_words S)) 0 facts₀ facts names) where
   all_names_law : locals S ≡ locals_in 0 0 (kind_words S)
   unfolding locals
   all_names_law = locals_in_law (kind_words S) (span_words S) 0 0 same
@@ -137,6 +146,6 @@ module _ (S : List ℕ) (same : length (span_words S) ≡ length (kind_words S))
 
   pub names_known : FactsOf (local_at S) names facts
   names_known ℓ h =
-      sym (get_or-take names facts ℓ 0 h)
-      ∙ ap (λ (l : List ℕ). get_or l ℓ 0) (s.cells ∙ ap (map facts_of) (sym all_names_law))
+      sym (get_or-take names facts ℓ no_facts h)
+      ∙ ap (λ (l : List NameFacts). get_or l ℓ no_facts) (s.cells ∙ ap (map facts_of) (sym all_names_law))
       ∙ facts_at (locals S) ℓ (omega (arith, names_counted))

@@ -4,6 +4,7 @@ use Rattle.std.specs.Prelude.{ℕ, ◌+◌, ◌≡◌, cond, List, [], ◌∷◌
 use Rattle.flow.specs.Sheet.{kind_of, argument_of}
 use Rattle.flow.specs.Kinds.{kinds}
 use Rattle.flow.specs.Locals.{Local, only_if}
+use Rattle.facts.specs.declared.NameFacts.{NameFacts}
 use Rattle.facts.specs.Facts.{facts_of}
 open kinds use {LOCAL, NAME}
 
@@ -24,7 +25,7 @@ locals_in v b [] = []
 locals_in v b (w ∷ ws) = name_here w v b ++ locals_in (values_after w v) (before_after w b) ws
 
 -- the facts of ls in the cells from place k up to, not including, r, and the cells from r on as they were
-pub record Stored (ls : List Local) (k : ℕ) (old new : List ℕ) (r : ℕ) : Type 0 where
+pub record Stored (ls : List Local) (k : ℕ) (old new : List NameFacts) (r : ℕ) : Type 0 where
   pub count : r ≡ k + length ls
   pub cells : take r new ≡ take k old ++ map facts_of ls
   pub rest : drop r new ≡ drop r old

@@ -1,3 +1,4 @@
 pub mod Turns
 pub mod Walks
+pub mod Backing
 pub mod Meets

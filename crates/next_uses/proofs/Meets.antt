@@ -22,7 +22,10 @@ use Rattle.flow.specs.Reachable.{successors}
 use Rattle.flow.specs.Locals.{Declaration}
 use Rattle.flow.specs.Findings.{Use, is_read, is_alive_at, no_use, a_read, a_pure_write, meeting, first_at, is_no_use, range, meets_here, predecessors, meets}
 use Rattle.flow.proofs.Members.{both_and, append_in, in_append, in_filter, range_in, in_range, member_in, in_member}
-use Rattle.use_words.specs.Words.{use_of, uses_in, AllPlaced}
+use Rattle.use_words.specs.declared.PlacedUse.{PlacedUse}
+use Rattle.use_words.specs.Words.{use_of, uses_in, no_use as blank, AllPlaced}
+use Rattle.next_uses.specs.declared.Sought.{Sought}
+use Rattle.next_uses.specs.declared.Sought.TheVariants.{Read, PureWrite}
 use Rattle.live_steps.specs.Walk.{chart, alive_in}
 use Rattle.live_steps.proofs.Steps.{alive_in_law, count_is}
 use Rattle.predecessors.specs.Predecessors.{preds_of, passes}
@@ -44,20 +47,20 @@ front_in true x vs v (inr i) = inr i
 front_in false x vs v (inl p) = absurd (false≢true p.0)
 front_in false x vs v (inr i) = i
 
-module _ (start : List ℕ) (d : Declaration) (ws : List ℕ) (pure : Bool) where
+module _ (start : List ℕ) (d : Declaration) (ws : List PlacedUse) (sought : Sought) where
   abbrev starts : ℕ → Bool
-  starts = starts_here start d ws pure
+  starts = starts_here start d ws sought
 
-  in_starts : (k v : ℕ) → In v (starts_to start d ws pure k) → (i : ℕ) × (i < k) × (starts i ≡ true) × (v ≡ node_at ws i)
+  in_starts : (k v : ℕ) → In v (starts_to start d ws sought k) → (i : ℕ) × (i < k) × (starts i ≡ true) × (v ≡ node_at ws i)
   in_starts zero v j = absurd j
   in_starts (suc k) v j =
       ⊎_elim (λ p. let r = in_starts k v p in (r.0, omega (arith, r.1), r.2, r.3)) (λ p. ⊎_elim (λ r. (k, omega arith, r.0, r.1)) (λ z. absurd z) (in_front_law (starts k) (node_at ws k) [] v p))
-      (append_in (starts_to start d ws pure k) (cons_if (starts k) (node_at ws k) []) v j)
+      (append_in (starts_to start d ws sought k) (cons_if (starts k) (node_at ws k) []) v j)
 
-  starts_in : (k i : ℕ) → i < k → starts i ≡ true → In (node_at ws i) (starts_to start d ws pure k)
+  starts_in : (k i : ℕ) → i < k → starts i ≡ true → In (node_at ws i) (starts_to start d ws sought k)
   starts_in zero i h e = absurd (omega arith)
   starts_in (suc k) i h e =
-      in_append (starts_to start d ws pure k) (cons_if (starts k) (node_at ws k) []) (node_at ws i)
+      in_append (starts_to start d ws sought k) (cons_if (starts k) (node_at ws k) []) (node_at ws i)
       (elim (ℕ_discrete i k) [
         | yes p ↦ inr (rw p (front_in (starts k) (node_at ws k) [] (node_at ws k) (inl (subst (λ (x : ℕ). starts x ≡ true) p e, refl))))
         | no q ↦ inl (starts_in k i (omega arith) e)
@@ -86,9 +89,9 @@ module _ (f s : List ℕ) (v : ℕ) where
 
 -- ---- tests
 
-no_use_law : (pure : Bool) → sort_of pure no_use ≡ false
-no_use_law true = refl
-no_use_law false = refl
+no_use_law : (sought : Sought) → sort_of sought no_use ≡ false
+no_use_law PureWrite = refl
+no_use_law Read = refl
 
 and_swap : (a b : Bool) → (a && b) ≡ (b && a)
 and_swap true true = refl
@@ -105,9 +108,9 @@ meeting_use u = by (is_read u)
 
 -- ---- a node's first place
 
-module _ (ws : List ℕ) where
+module _ (ws : List PlacedUse) where
   -- the place that opens a node holds the node's first use
-  opens_first : Rising ws → (i : ℕ) → i < length ws → opens_node ws i ≡ true → first_at (node_at ws i) (uses_in ws) ≡ meeting (use_of (get_or ws i 0))
+  opens_first : Rising ws → (i : ℕ) → i < length ws → opens_node ws i ≡ true → first_at (node_at ws i) (uses_in ws) ≡ meeting (use_of (get_or ws i blank))
   opens_first r i l o = first_is ws i l (earlier i l o)
     where
       earlier : (i : ℕ) → i < length ws → opens_node ws i ≡ true → (j : ℕ) → j < i → node_at ws j ≡ node_at ws i → ⊥
@@ -155,37 +158,37 @@ module _ (n : ℕ) (first second start : List ℕ) (h : n ≤ length first) (j :
         ⊎_elim (λ q. inl (sym (q ∙ edge_cell n first u k h))) (⊎_elim (λ q. inr (sym (q ∙ edge_cell n second u k j))) (λ z. absurd z))
         (filter_in (λ x. ltb x (node_count g)) cells v (member_in v (successors g u) e)).0
 
-  module _ (ws : List ℕ) (placed : AllPlaced n ws) where
+  module _ (ws : List PlacedUse) (placed : AllPlaced n ws) where
     abbrev us : List Use
     us = uses_in ws
 
     -- ---- where the search starts
 
-    module _ (pure : Bool) where
-      starts_meet : Rising ws → (i : ℕ) → i < length ws → starts_here start d ws pure i ≡ true → meets_here g d us (sort_of pure) (node_at ws i) ≡ true
+    module _ (sought : Sought) where
+      starts_meet : Rising ws → (i : ℕ) → i < length ws → starts_here start d ws sought i ≡ true → meets_here g d us (sort_of sought) (node_at ws i) ≡ true
       unfolding starts_here meets_here
       starts_meet r i l e =
-          let sort : Bool = sort_of pure (meeting (use_of (get_or ws i 0))) in
+          let sort : Bool = sort_of sought (meeting (use_of (get_or ws i blank))) in
           let q = and_both (opens_node ws i && sort) (alive_in start d (node_at ws i)) e in
           let o = and_both (opens_node ws i) sort q.0 in
-          both_and (sym (alive_is (node_at ws i) (placed i l)) ∙ q.1) (ap (sort_of pure) (opens_first ws r i l o.0) ∙ o.1)
+          both_and (sym (alive_is (node_at ws i) (placed i blank l)) ∙ q.1) (ap (sort_of sought) (opens_first ws r i l o.0) ∙ o.1)
 
-      meet_starts : (v : ℕ) → v < n → meets_here g d us (sort_of pure) v ≡ true → In v (all_starts start d ws pure)
+      meet_starts : (v : ℕ) → v < n → meets_here g d us (sort_of sought) v ≡ true → In v (all_starts start d ws sought)
       unfolding starts_here meets_here
       meet_starts v k e = ⊎_elim none some (find v ws)
         where
-          q : (is_alive_at g d v ≡ true) × (sort_of pure (first_at v us) ≡ true)
-          q = and_both (is_alive_at g d v) (sort_of pure (first_at v us)) e
+          q : (is_alive_at g d v ≡ true) × (sort_of sought (first_at v us) ≡ true)
+          q = and_both (is_alive_at g d v) (sort_of sought (first_at v us)) e
 
-          none : NoPlace v ws → In v (all_starts start d ws pure)
-          none p = absurd (false≢true (sym (no_use_law pure) ∙ ap (sort_of pure) (sym p.is) ∙ q.1))
+          none : NoPlace v ws → In v (all_starts start d ws sought)
+          none p = absurd (false≢true (sym (no_use_law sought) ∙ ap (sort_of sought) (sym p.is) ∙ q.1))
 
-          some : FirstPlace v ws → In v (all_starts start d ws pure)
+          some : FirstPlace v ws → In v (all_starts start d ws sought)
           some p =
-              let sort : sort_of pure (meeting (use_of (get_or ws p.at 0))) ≡ true = ap (sort_of pure) (sym p.is) ∙ q.1 in
+              let sort : sort_of sought (meeting (use_of (get_or ws p.at blank))) ≡ true = ap (sort_of sought) (sym p.is) ∙ q.1 in
               let alive : alive_in start d (node_at ws p.at) ≡ true = rw p.here (alive_is v k ∙ q.0) in
-              subst (λ (x : ℕ). In x (all_starts start d ws pure)) p.here
-              (starts_in start d ws pure (length ws) p.at p.below (both_and (both_and (first_opens ws v p) sort) alive))
+              subst (λ (x : ℕ). In x (all_starts start d ws sought)) p.here
+              (starts_in start d ws sought (length ws) p.at p.below (both_and (both_and (first_opens ws v p) sort) alive))
 
     -- ---- where it goes on
 
@@ -200,7 +203,7 @@ module _ (n : ℕ) (first second start : List ℕ) (h : n ≤ length first) (j :
           some : FirstPlace v ws → not (eqb (get_or used v 0) stamp) ≡ is_no_use (first_at v us)
           some p =
               let marked : get_or used v 0 ≡ stamp = subst (λ (x : ℕ). get_or used x 0 ≡ stamp) p.here (m.complete p.at p.below) in
-              ap not (eq-eqb (get_or used v 0) stamp marked) ∙ sym (ap is_no_use p.is ∙ meeting_use (use_of (get_or ws p.at 0)))
+              ap not (eq-eqb (get_or used v 0) stamp marked) ∙ sym (ap is_no_use p.is ∙ meeting_use (use_of (get_or ws p.at blank)))
 
       passes_is : (v : ℕ) → v < n → passes start d stamp used v ≡ meets_here g d us is_no_use v
       unfolding passes meets_here
@@ -227,23 +230,23 @@ module _ (n : ℕ) (first second start : List ℕ) (h : n ≤ length first) (j :
           let l : u < n = in_range n u q.0 in
           in_filter (passes start d stamp used) (preds_of first second v n) u (preds_in first second v n u l (edge_leads u v l r.0)) (passes_is u l ∙ r.1)
 
-      module _ (pure : Bool) (rising : Rising ws) where
+      module _ (sought : Sought) (rising : Rising ws) where
         abbrev meeting_here : ℕ → Bool
-        meeting_here = meets_here g d us (sort_of pure)
+        meeting_here = meets_here g d us (sort_of sought)
 
-        at_count : back_flags start d ws pure stamp used first second n ≡ closure (filter meeting_here (range n)) (from n) n
+        at_count : back_flags start d ws sought stamp used first second n ≡ closure (filter meeting_here (range n)) (from n) n
         at_count =
-            let s = back_search start d ws pure n placed stamp used first second in
-            closure_alike n (all_starts start d ws pure) (filter meeting_here (range n)) next (from n)
+            let s = back_search start d ws sought n placed stamp used first second in
+            closure_alike n (all_starts start d ws sought) (filter meeting_here (range n)) next (from n)
             s.starts_in s.next_in
             (λ v i. in_range n v (filter_in meeting_here (range n) v i).0)
             (λ v u i. in_range n u (filter_in (λ x. member v (successors g x) && meets_here g d us is_no_use x) (range n) u i).0)
-            (λ v i. let r = in_starts start d ws pure (length ws) v i in
-            rw r.3 (in_filter meeting_here (range n) (node_at ws r.0) (range_in n (node_at ws r.0) (placed r.0 r.1)) (starts_meet pure rising r.0 r.1 r.2)))
-            (λ v i. let r = filter_in meeting_here (range n) v i in meet_starts pure v (in_range n v r.0) r.1)
+            (λ v i. let r = in_starts start d ws sought (length ws) v i in
+            rw r.3 (in_filter meeting_here (range n) (node_at ws r.0) (range_in n (node_at ws r.0) (placed r.0 blank r.1)) (starts_meet sought rising r.0 r.1 r.2)))
+            (λ v i. let r = filter_in meeting_here (range n) v i in meet_starts sought v (in_range n v r.0) r.1)
             goes comes
 
-        pub meets_are : back_flags start d ws pure stamp used first second n ≡ meets g d us (sort_of pure)
+        pub meets_are : back_flags start d ws sought stamp used first second n ≡ meets g d us (sort_of sought)
         unfolding meets predecessors
         meets_are =
-            subst (λ (k : ℕ). back_flags start d ws pure stamp used first second n ≡ closure (filter meeting_here (range k)) (from k) k) (sym count) at_count
+            subst (λ (k : ℕ). back_flags start d ws sought stamp used first second n ≡ closure (filter meeting_here (range k)) (from k) k) (sym count) at_count

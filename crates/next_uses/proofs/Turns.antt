@@ -11,22 +11,28 @@ use lib.ListN.{length, set}
 use lib.Seq.{get_or-set_same, get_or-set_other}
 use Rattle.search.specs.Search.{cons_if}
 use Rattle.search.specs.Worklist.{State}
-use Rattle.search.specs.Stamps.{Fresh, stamp_all}
-use Rattle.search.proofs.Stamps.{all_append, when_one}
+use Rattle.search.specs.Stamps.{Fresh, Ready, stamp_all, stamp_when}
+use Rattle.search.proofs.Stamps.{all_append, all_ready, when_one, when_nodes}
 use Rattle.flow.specs.Locals.{Declaration}
+use Rattle.use_words.specs.declared.PlacedUse.{PlacedUse}
 use Rattle.uses_by_node.proofs.Places.{node_at}
-use Rattle.next_uses.specs.Backwards.{starts_here, starts_to, start_pushed, Used}
+use Rattle.next_uses.specs.declared.Sought.{Sought}
+use Rattle.next_uses.specs.Backwards.{starts_here, starts_to, Used}
 
 -- ---- the search's starts
 
-pub starts_turn : (start : List ℕ) (d : Declaration) (ws : List ℕ) (pure : Bool) (stamp i : ℕ) (a x y : State) → x ≡ stamp_all stamp (starts_to start d ws pure i) a → y ≡ start_pushed stamp start d ws pure i x → y ≡ stamp_all stamp (starts_to start d ws pure (i + 1)) a
-starts_turn start d ws pure stamp i a x y p q =
-    let here : List ℕ = cons_if (starts_here start d ws pure i) (node_at ws i) [] in
-    rw (add-one i) (q ∙ when_one stamp (starts_here start d ws pure i) (node_at ws i) x ∙ ap (stamp_all stamp here) p ∙ sym (all_append stamp (starts_to start d ws pure i) here a))
+module _ (start : List ℕ) (d : Declaration) (ws : List PlacedUse) (sought : Sought) (stamp i : ℕ) (b : Bool) (r : b ≡ starts_here start d ws sought i) (a x y : State) (q : y ≡ stamp_when stamp b (node_at ws i) x) where
+  pub starts_turn : x ≡ stamp_all stamp (starts_to start d ws sought i) a → y ≡ stamp_all stamp (starts_to start d ws sought (i + 1)) a
+  starts_turn p =
+      let here : List ℕ = cons_if b (node_at ws i) [] in
+      rw (add-one i, ← r) (q ∙ when_one stamp b (node_at ws i) x ∙ ap (stamp_all stamp here) p ∙ sym (all_append stamp (starts_to start d ws sought i) here a))
+
+  pub starts_ready : (n : ℕ) → node_at ws i < n → Ready stamp n x → Ready stamp n y
+  starts_ready n h k = all_ready stamp n (cons_if b (node_at ws i) []) (when_nodes n b (node_at ws i) h) k (q ∙ when_one stamp b (node_at ws i) x)
 
 -- ---- the nodes that hold a use
 
-module _ (stamp : ℕ) (ws : List ℕ) where
+module _ (stamp : ℕ) (ws : List PlacedUse) where
   pub used_none : (cells : List ℕ) → Fresh stamp cells → Used stamp ws 0 cells
   used_none cells f =
       record { sound = λ v e. absurd (omega (arith, f v)); complete = λ j h. absurd (omega arith) }

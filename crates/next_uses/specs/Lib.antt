@@ -1,1 +1,2 @@
 pub mod Backwards
+pub mod Searches

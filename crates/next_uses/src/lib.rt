@@ -1,202 +1,138 @@
 // Which nodes see a read or a pure write of a local ahead, found backwards from its uses (local_flow.rs).
 #![tactic(auto)]
 
-ghost use Rattle.std.specs.Prelude.{◌≡◌, ◌<◌, ◌≤◌, length, get_or};
+ghost use Rattle.std.specs.Prelude.{◌≡◌, ◌<◌, ◌≤◌, length};
 ghost use Rattle.search.specs.Stamps.{Fresh, Stamped, Unmarked, stamp_all};
-ghost use Rattle.search.specs.Lent.{held, left, st_at};
+ghost use Rattle.search.specs.Running.{state_of, SameColumns};
 ghost use Rattle.flow.specs.Findings.{meeting};
-ghost use Rattle.use_words.specs.Words.{node_in, use_of, AllPlaced};
-ghost use Rattle.live_steps.specs.Walk.{declared};
+ghost use Rattle.use_words.specs.Words.{use_of, AllPlaced};
+ghost use Rattle.live_steps.specs.Walk.{nodes_of, declared};
 ghost use Rattle.predecessors.specs.Predecessors.{Chained};
+ghost use Rattle.predecessors.specs.Ways.{nodes_back};
 ghost use Rattle.uses_by_node.specs.Uses.{Rising};
-ghost use Rattle.next_uses.specs.Backwards.{sort_of, starts_here, start_pushed, all_starts, Used, Searched, AllUnmarked, MarksAhead};
+ghost use Rattle.next_uses.specs.Backwards.{sort_of, Used, BothUnmarked, MarksAhead};
+ghost use Rattle.next_uses.specs.Searches.{begins_here, all_begins, Finds, SameMarks};
 
-use live_steps::{LocalDeclaration, is_alive_at};
-use predecessors::{head_of, push_chain};
-use search::{cell, insert};
-use use_words::{is_read, node_of};
-use uses_by_node::opens_node;
+use live_steps::FlowGraph;
+use predecessors::WayBack;
+use search::Search;
+use use_words::PlacedUse;
+use uses_by_node::{AheadMarks, opens_node};
 
-// Whether a use is of the sort that is searched for: a pure write, or a read.
-fn is_of_sort(pure: bool, word: u64) -> bool
-    ensures { result ≡ sort_of pure (meeting (use_of word)) }
-{
-    if pure { !is_read(word) } else { is_read(word) }
+// What a search back seeks: the nodes that a path to a read begins at, or to a pure write.
+#[derive(Clone, Copy)]
+pub enum Sought {
+    Read,
+    PureWrite,
 }
 
-// Whether the search starts at the node of place i: the node's first use decides.
-fn starts_here(
-    start: &[u64],
-    sorted: &[u64],
-    declaration: LocalDeclaration,
-    pure: bool,
-    i: usize,
-) -> bool
-    requires { (i < length sorted.now) × (node_in (get_or sorted.now i 0) < length start.now) }
-    ensures { result ≡ starts_here start.now (declared declaration) sorted.now pure i }
-{
-    let word = sorted[i];
-    if opens_node(sorted, i) {
-        if is_of_sort(pure, word) {
-            is_alive_at(start, declaration, node_of(word))
-        } else {
-            false
+impl Sought {
+    // Whether a use is of the sort that is sought.
+    fn is_met_by(self, used: PlacedUse) -> bool
+        ensures { result ≡ sort_of self (meeting (use_of used)) }
+    {
+        match self {
+            Sought::Read => used.is_read(),
+            Sought::PureWrite => !used.is_read(),
         }
-    } else {
-        false
     }
 }
 
-// The node of place i pushed, if the search starts there.
-fn push_start(
-    start: &[u64],
-    sorted: &[u64],
-    marks: &mut [u16],
-    stack: &mut [u16],
-    declaration: LocalDeclaration,
-    stamp: u16,
-    pure: bool,
-    top: usize,
-    i: usize,
-) -> usize
-    requires i_in_bounds { (i < length sorted.now) × (node_in (get_or sorted.now i 0) < length start.now) × (node_in (get_or sorted.now i 0) < length marks.old) }
-    requires top_in_bounds { (get_or marks.old (node_in (get_or sorted.now i 0)) 0 ≡ stamp → ⊥) → top < length stack.old }
-    ensures { st_at left marks stack result ≡ start_pushed stamp start.now (declared declaration) sorted.now pure i (st_at held marks stack top) }
+// Whether the search begins at the node of place i: the node's first use decides.
+#[tactic(auto, using(std::proofs::lemmas::Bool::Decides::nat_tests), unfolding(crate::specs::Backwards::starts_here))]
+fn begins_here(way: &WayBack<'_>, uses: &[PlacedUse], sought: Sought, i: usize) -> bool
+    requires { (i < length uses.now) × AllPlaced (nodes_back way.now) uses.now }
+    ensures { result ≡ begins_here way.now uses.now sought i }
 {
-    if starts_here(start, sorted, declaration, pure, i) {
-        let v = node_of(sorted[i]);
-        insert(marks, stack, top, v, stamp)
-    } else {
-        top
+    opens_node(uses, i)
+        && sought.is_met_by(uses[i])
+        && way
+            .graph
+            .is_alive_at(way.declaration, usize::from(uses[i].node))
+}
+
+// The nodes that the search begins at pushed on the empty stack.
+fn push_begins(way: &WayBack<'_>, uses: &[PlacedUse], sought: Sought, search: &mut Search<'_>)
+    requires unmarked { Unmarked search.old.stamp (nodes_back way.now) search.old.marks.now search.old.stack.now × (search.old.top ≡ 0) }
+    requires placed { AllPlaced (nodes_back way.now) uses.now }
+    ensures same { SameColumns search.old search.new × (search.new.stamp ≡ search.old.stamp) }
+    ensures pushed { state_of search.new ≡ stamp_all search.old.stamp (all_begins way.now uses.now sought) (state_of search.old) }
+{
+    for (i, used) in uses.iter().enumerate() {
+        if begins_here(way, uses, sought, i) {
+            search.insert(usize::from(used.node));
+        }
     }
 }
 
-// The nodes that the search starts at pushed on the empty stack.
-fn push_starts(
-    start: &[u64],
-    sorted: &[u64],
-    marks: &mut [u16],
-    stack: &mut [u16],
-    n: usize,
-    declaration: LocalDeclaration,
-    stamp: u16,
-    pure: bool,
-) -> usize
-    requires n_bound { (n ≤ 1600) × (n ≤ length start.now) × (n ≤ length marks.old) × (n ≤ length stack.old) }
-    requires all_placed { AllPlaced n sorted.now }
-    ensures { st_at left marks stack result ≡ stamp_all stamp (all_starts start.now (declared declaration) sorted.now pure) (st_at held marks stack 0) }
+// The nodes that a path which meets a use of the sort begins at, marked.
+fn search_back(way: &WayBack<'_>, uses: &[PlacedUse], sought: Sought, search: &mut Search<'_>)
+    requires unmarked { Unmarked search.old.stamp (nodes_back way.now) search.old.marks.now search.old.stack.now × (search.old.top ≡ 0) }
+    requires placed { AllPlaced (nodes_back way.now) uses.now × Chained (nodes_back way.now) way.now.chain.now × (search.old.stamp ≡ way.now.stamp) }
+    ensures same { SameColumns search.old search.new }
+    ensures finds { Finds way.now uses.now sought search.new.marks.now }
+    ensures stamped { Stamped search.old.stamp search.new.marks.now }
 {
-    let mut top = 0;
-    let mut i = 0;
-    while i < sorted.len() {
-        top = push_start(
-            start,
-            sorted,
-            marks,
-            stack,
-            declaration,
-            stamp,
-            pure,
-            top,
-            i,
-        );
-        i += 1;
-    }
-    top
-}
-
-// The nodes that a path which meets a use of the sort begins at, marked by the stamp.
-fn search_back(
-    start: &[u64],
-    chain: &[u64],
-    sorted: &[u64],
-    used: &[u16],
-    marks: &mut [u16],
-    stack: &mut [u16],
-    n: usize,
-    declaration: LocalDeclaration,
-    stamp: u16,
-    pure: bool,
-)
-    requires n_bound { (n ≤ 1600) × (n ≤ length start.now) × (n ≤ length used.now) }
-    requires all_placed { AllPlaced n sorted.now × Chained n chain.now × Unmarked stamp n marks.old stack.old }
-    ensures searched { Searched stamp n start.now (declared declaration) sorted.now pure chain.now used.now marks }
-    ensures stamped { Stamped stamp (left marks) }
-{
-    let mut top = push_starts(start, sorted, marks, stack, n, declaration, stamp, pure);
-    while 0 < top {
-        top -= 1;
-        let u = cell(stack, top);
-        let e = head_of(chain, u);
-        top = push_chain(
-            start,
-            chain,
-            used,
-            marks,
-            stack,
-            n,
-            declaration,
-            stamp,
-            top,
-            e,
-        );
+    push_begins(way, uses, sought, search);
+    while let Some(u) = search.pop() {
+        way.push_predecessors(search, u);
     }
 }
 
 // The nodes that hold a use marked by the stamp.
-fn mark_used(sorted: &[u64], used: &mut [u16], stamp: u16)
-    requires { AllPlaced (length used.old) sorted.now × Fresh stamp used.old }
-    ensures { Used stamp sorted.now (length sorted.now) (left used) × Stamped stamp (left used) }
+pub fn mark_used(uses: &[PlacedUse], used: &mut [u16], stamp: u16)
+    requires { AllPlaced (length used.old) uses.now × Fresh stamp used.old }
+    ensures { Used stamp uses.now (length uses.now) used.new × Stamped stamp used.new }
 {
-    let mut i = 0;
-    while i < sorted.len() {
-        used[node_of(sorted[i])] = stamp;
-        i += 1;
+    for u in uses {
+        used[usize::from(u.node)] = stamp;
     }
 }
 
-// What the paths meet: a stamp in `reads` for the nodes that a path to a read begins at, and in `writes` for those of a pure write.
-pub fn mark_next_uses(
-    start: &[u64],
-    chain: &[u64],
-    sorted: &[u64],
-    used: &mut [u16],
-    reads: &mut [u16],
-    writes: &mut [u16],
-    stack: &mut [u16],
-    n: usize,
-    declaration: LocalDeclaration,
-    stamp: u16,
-)
-    requires n_bound { (n ≤ 1600) × (n ≤ length start.now) }
-    requires all_placed { AllPlaced n sorted.now × Rising sorted.now × Chained n chain.now }
-    requires all_unmarked { AllUnmarked stamp n used.old reads.old writes.old stack.old }
-    ensures marks_ahead { MarksAhead stamp n (declared declaration) start.now chain.now sorted.now reads writes }
-    ensures stamped { Stamped stamp (left used) × Stamped stamp (left reads) × Stamped stamp (left writes) }
-{
-    mark_used(sorted, used, stamp);
-    search_back(
-        start,
-        chain,
-        sorted,
-        used,
-        reads,
-        stack,
-        n,
-        declaration,
-        stamp,
-        false,
-    );
-    search_back(
-        start,
-        chain,
-        sorted,
-        used,
-        writes,
-        stack,
-        n,
-        declaration,
-        stamp,
-        true,
-    );
+// The marks of a local's next uses: the nodes that a path to a read begins at, and those of a pure write; with the stack of the searches.
+#[derive(Drop)]
+pub struct NextUses<'a> {
+    pub reads: &'a mut [u16],
+    pub writes: &'a mut [u16],
+    pub stack: &'a mut [u16],
+}
+
+impl NextUses<'_> {
+    // What the paths meet: the stamp in `reads` for the nodes that a path to a read begins at, and in `writes` for those of a pure write.
+    pub fn mark(&mut self, way: &WayBack<'_>, uses: &[PlacedUse])
+        requires placed { AllPlaced (nodes_back way.now) uses.now × Rising uses.now }
+        requires chained { Chained (nodes_back way.now) way.now.chain.now × Used way.now.stamp uses.now (length uses.now) way.now.used.now }
+        requires unmarked { BothUnmarked way.now.stamp (nodes_back way.now) self.old.reads.now self.old.writes.now self.old.stack.now }
+        ensures same { SameMarks self.old self.new }
+        ensures marks_ahead { MarksAhead way.now.stamp (nodes_back way.now) (declared way.now.declaration) way.now.graph.start.now way.now.chain.now uses.now self.new.reads.now self.new.writes.now }
+        ensures stamped { Stamped way.now.stamp self.new.reads.now × Stamped way.now.stamp self.new.writes.now }
+    {
+        let mut search = Search {
+            marks: self.reads,
+            stack: self.stack,
+            top: 0,
+            stamp: way.stamp,
+        };
+        search_back(way, uses, Sought::Read, &mut search);
+        let mut search = Search {
+            marks: self.writes,
+            stack: self.stack,
+            top: 0,
+            stamp: way.stamp,
+        };
+        search_back(way, uses, Sought::PureWrite, &mut search);
+    }
+    // What is ahead, by the marks that the stamp made.
+    pub fn ahead<'m>(&'m self, graph: FlowGraph<'m>, stamp: u16) -> AheadMarks<'m>
+        requires { (nodes_of graph ≤ length self.now.reads.now) × (nodes_of graph ≤ length self.now.writes.now) }
+        ensures graph { result.graph ≡ graph.entry }
+        ensures marks { (result.reads.now ≡ self.now.reads.now) × (result.writes.now ≡ self.now.writes.now) × (result.stamp ≡ stamp) }
+    {
+        AheadMarks {
+            graph,
+            reads: self.reads,
+            writes: self.writes,
+            stamp,
+        }
+    }
 }

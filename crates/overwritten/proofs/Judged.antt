@@ -16,6 +16,8 @@ use Rattle.use_words.proofs.Words.{spanless_renumbers}
 use Rattle.live_steps.specs.Walk.{chart}
 use Rattle.uses_by_node.specs.Uses.{by_node, Rising, overwritten_in}
 use Rattle.uses_by_node.proofs.ByNode.{words_rise, ahead_by, over_spanless, overwritten_by}
+use Rattle.use_words.specs.declared.PlacedUse.{PlacedUse}
+use Rattle.facts.specs.declared.NameFacts.{NameFacts}
 use Rattle.facts.specs.Facts.{is_judged, None}
 use Rattle.locals.specs.Columns.{Pass, uses_by_node, part_at}
 use Rattle.locals.proofs.Columns.{charted_nodes}
@@ -109,7 +111,7 @@ words_by_nodes g h e d n us ℓ has =
 
 -- ---- by the columns of the pass
 
-module _ {S U : List ℕ} {n names : ℕ} {first second start node_of_name name_end facts starts column : List ℕ} (p : Pass (uses_by_node S U n) S U n names first second start node_of_name name_end facts starts column) {ℓ : ℕ} (h : ℓ < names) where
+module _ {S U : List ℕ} {n names : ℕ} {first second start node_of_name name_end : List ℕ} {facts : List NameFacts} {starts : List ℕ} {column : List PlacedUse} (p : Pass (uses_by_node S U n) S U n names first second start node_of_name name_end facts starts column) {ℓ : ℕ} (h : ℓ < names) where
   judged : is_judged (local_at S ℓ) (all_found (uses_of S U ℓ)) ≡ true → words_of (overwritten_of S U ℓ) ≡ judged_words ℓ (not (no_value (local_at S ℓ))) (chart n first second start) (declaration (graph S) ℓ) (uses_in (part_at ℓ starts column))
   judged e =
       let g : Graph = chart n first second start in
@@ -122,7 +124,7 @@ module _ {S U : List ℕ} {n names : ℕ} {first second start node_of_name name_
       rw p.charted.count at (words_listed S U ℓ e) ∙ sym (by_node_law ∙ words_by_nodes g (graph S) same d n us ℓ has)
 
   -- the same of what was read of the local
-  pub judged_as : is_judged (local_at S ℓ) (all_found (uses_of S U ℓ)) ≡ true → (has : Bool) → has ≡ not (no_value (local_at S ℓ)) → (d : Declaration) → d ≡ declaration (graph S) ℓ → (sorted : List ℕ) → sorted ≡ part_at ℓ starts column → words_of (overwritten_of S U ℓ) ≡ judged_words ℓ has (chart n first second start) d (uses_in sorted)
+  pub judged_as : is_judged (local_at S ℓ) (all_found (uses_of S U ℓ)) ≡ true → (has : Bool) → has ≡ not (no_value (local_at S ℓ)) → (d : Declaration) → d ≡ declaration (graph S) ℓ → (sorted : List PlacedUse) → sorted ≡ part_at ℓ starts column → words_of (overwritten_of S U ℓ) ≡ judged_words ℓ has (chart n first second start) d (uses_in sorted)
   judged_as e has v d w sorted q = judged e ∙ (λ i. judged_words ℓ (sym v i) (chart n first second start) (sym w i) (uses_in (sym q i)))
 
   -- the local's uses stand by node
@@ -141,5 +143,5 @@ each_none f zero h = refl
 each_none f (suc k) h = rw (each_none f k (λ ℓ l. h ℓ (omega (arith, l))), h k (omega arith))
 
 -- then nothing is listed
-pub nothing_listed : {S U : List ℕ} {n names : ℕ} {first second start node_of_name name_end facts starts column : List ℕ} → Pass (uses_by_node S U n) S U n names first second start node_of_name name_end facts starts column → None is_judged names facts → of_each (overwritten_of S U) names ≡ []
+pub nothing_listed : {S U : List ℕ} {n names : ℕ} {first second start node_of_name name_end : List ℕ} {facts : List NameFacts} {starts : List ℕ} {column : List PlacedUse} → Pass (uses_by_node S U n) S U n names first second start node_of_name name_end facts starts column → None is_judged names facts → of_each (overwritten_of S U) names ≡ []
 nothing_listed {S} {U} {names = names} p none = each_none (overwritten_of S U) names (λ ℓ h. none_listed S U ℓ (none ℓ h (local_at S ℓ) (all_found (uses_of S U ℓ)) (p.table.known.facts_are ℓ h)))

@@ -1,2 +1,3 @@
 pub mod Chains
-pub mod Links
+pub mod Building
+pub mod Pushes

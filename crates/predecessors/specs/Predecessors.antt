@@ -1,11 +1,10 @@
--- A node's predecessors, as a list and as a chain through a column of words. Node u's first edge has the code u + u + 1, its second u + u + 2, and 0 ends a chain. A node's word holds three codes: that of the last edge to it, and those of the edges that its own first and second edge follow in their chains.
+-- A node's predecessors, as a list and as a chain through a column. Node u's first edge has the code u + u + 1, its second u + u + 2, and 0 ends a chain. A node keeps three codes: that of the last edge to it, and those of the edges that its own first and second edge follow in their chains.
 -- Assumes nothing: these are definitions.
-use Rattle.std.specs.Prelude.{ℕ, zero, suc, ◌+◌, ◌-◌, ◌*◌, ◌/◌, ◌%◌, ◌≤◌, ◌<◌, ◌≡◌, ◌⊎◌, Bool, cond, ◌&&◌, not, List, [], ◌∷◌, length, get_or, set, eqb, ltb}
-use Rattle.search.specs.Search.{cons_if, filter}
-use Rattle.search.specs.Worklist.{State}
-use Rattle.search.specs.Stamps.{stamp_all}
+use Rattle.std.specs.Prelude.{ℕ, zero, suc, ◌+◌, ◌-◌, ◌/◌, ◌%◌, ◌≤◌, ◌<◌, ◌≡◌, ◌⊎◌, Bool, cond, ◌&&◌, not, List, [], ◌∷◌, length, get_or, set, eqb}
+use Rattle.search.specs.Search.{cons_if}
 use Rattle.flow.specs.Locals.{Declaration}
 use Rattle.live_steps.specs.Walk.{alive_in}
+use Rattle.predecessors.specs.declared.Links.{Links}
 
 -- the nodes below k with an edge to v, the last first, once for each edge
 abbrev pub preds_of : List ℕ → List ℕ → ℕ → ℕ → List ℕ
@@ -20,66 +19,72 @@ last_to first second v (suc k) = cond (eqb (get_or second k 0) v) (k + k + 2) (c
 abbrev pub last_half : List ℕ → List ℕ → ℕ → ℕ → ℕ
 last_half first second v k = cond (eqb (get_or first k 0) v) (k + k + 1) (last_to first second v k)
 
--- the three codes of a word
-abbrev pub head_in : ℕ → ℕ
-head_in w = w % 65536
+-- what no edge is linked to
+abbrev pub unlinked : Links
+unlinked = record { last = 0; after_first = 0; after_second = 0 }
 
-abbrev pub after_first : ℕ → ℕ
-after_first w = w / 65536 % 65536
+-- the three codes of a node
+abbrev pub head_of : List Links → ℕ → ℕ
+head_of chain v = (get_or chain v unlinked).last
 
-abbrev pub after_second : ℕ → ℕ
-after_second w = w / 4294967296
+abbrev pub after_first : List Links → ℕ → ℕ
+after_first chain v = (get_or chain v unlinked).after_first
 
--- of a node
-abbrev pub head_of : List ℕ → ℕ → ℕ
-head_of chain v = head_in (get_or chain v 0)
+abbrev pub after_second : List Links → ℕ → ℕ
+after_second chain v = (get_or chain v unlinked).after_second
 
--- the column holds n nodes, and each word is 0
-pub record Blank (n : ℕ) (chain : List ℕ) : Type 0 where
+-- the column holds n nodes, and nothing is linked to one
+pub record Blank (n : ℕ) (chain : List Links) : Type 0 where
   pub holds : n ≤ length chain
-  pub none : (v : ℕ) → v < n → get_or chain v 0 ≡ 0
+  pub none : (v : ℕ) → v < n → get_or chain v unlinked ≡ unlinked
 
 -- the column holds n nodes, and its chains have the edges of the nodes below k
-pub record Linked (first second : List ℕ) (n k : ℕ) (chain : List ℕ) : Type 0 where
+pub record Linked (first second : List ℕ) (n k : ℕ) (chain : List Links) : Type 0 where
   pub holds : n ≤ length chain
   pub heads : (v : ℕ) → v < n → head_of chain v ≡ last_to first second v k
-  pub firsts : (u : ℕ) → u < k → get_or first u 0 < n → after_first (get_or chain u 0) ≡ last_to first second (get_or first u 0) u
-  pub seconds : (u : ℕ) → u < k → get_or second u 0 < n → after_second (get_or chain u 0) ≡ last_half first second (get_or second u 0) u
+  pub firsts : (u : ℕ) → u < k → get_or first u 0 < n → after_first chain u ≡ last_to first second (get_or first u 0) u
+  pub seconds : (u : ℕ) → u < k → get_or second u 0 < n → after_second chain u ≡ last_half first second (get_or second u 0) u
 
 -- the chains are those of some graph
-pub record Chained (n : ℕ) (chain : List ℕ) : Type 0 where
+pub record Chained (n : ℕ) (chain : List Links) : Type 0 where
   pub first : List ℕ
   pub second : List ℕ
   pub linked : Linked first second n n chain
 
--- an edge of u to v put in front of v's chain: v's head is put at a place of u's word, and the edge's code is v's head. What is no node has no chain.
-abbrev pub with_head : ℕ → ℕ → ℕ
-with_head w code = w - head_in w + code
-
-abbrev pub link_head : ℕ → ℕ → List ℕ → List ℕ
-link_head v code chain = set chain v (with_head (get_or chain v 0) code)
-
-abbrev pub link_at : ℕ → ℕ → ℕ → ℕ → ℕ → List ℕ → List ℕ
-link_at n u v place code chain =
-    cond (ltb v n) (link_head v code (set chain u (get_or chain u 0 + place * head_of chain v))) chain
+-- an edge put in front of v's chain: its code is v's head
+abbrev pub link_head : ℕ → ℕ → List Links → List Links
+link_head v code chain = set chain v (record (get_or chain v unlinked) { last = code })
 
 -- the chain from a code has these nodes
-abbrev pub Chain : ℕ → List ℕ → ℕ → List ℕ → Type 0
+abbrev pub Chain : ℕ → List Links → ℕ → List ℕ → Type 0
 Chain n chain e [] = e ≡ 0
 Chain n chain e (u ∷ us) =
-    (u < n) × (((e ≡ u + u + 1) × (after_first (get_or chain u 0) < e) × Chain n chain (after_first (get_or chain u 0)) us) ⊎ ((e ≡ u + u + 2) × (after_second (get_or chain u 0) < e) × Chain n chain (after_second (get_or chain u 0)) us))
+    (u < n) × (((e ≡ u + u + 1) × (after_first chain u < e) × Chain n chain (after_first chain u) us) ⊎ ((e ≡ u + u + 2) × (after_second chain u < e) × Chain n chain (after_second chain u) us))
 
 -- the node of an edge, and the code of the edge after it
 abbrev pub node_of_edge : ℕ → ℕ
 node_of_edge e = (e - 1) / 2
 
-abbrev pub edge_after : List ℕ → ℕ → ℕ
-edge_after chain e = cond (eqb ((e - 1) % 2) 0) (after_first (get_or chain (node_of_edge e) 0)) (after_second (get_or chain (node_of_edge e) 0))
+abbrev pub edge_after : List Links → ℕ → ℕ
+edge_after chain e = cond (eqb ((e - 1) % 2) 0) (after_first chain (node_of_edge e)) (after_second chain (node_of_edge e))
+
+-- the code k edges on, or 0 past the end, and that each on the way is an edge of a node below n, which follows an earlier one
+abbrev pub edge_on : ℕ → List Links → ℕ → ℕ
+edge_on zero chain e = e
+edge_on (suc k) chain e = cond (eqb e 0) 0 (edge_on k chain (edge_after chain e))
+
+abbrev pub Falls : ℕ → List Links → ℕ → Type 0
+Falls n chain e =
+    (k : ℕ) → (edge_on k chain e ≡ 0 → ⊥) → (node_of_edge (edge_on k chain e) < n) × (edge_after chain (edge_on k chain e) < edge_on k chain e)
+
+-- the nodes of the first k edges of a chain, and of all: since codes fall, e of them are enough
+abbrev pub nodes_on : ℕ → List Links → ℕ → List ℕ
+nodes_on zero chain e = []
+nodes_on (suc k) chain e = cond (eqb e 0) [] (node_of_edge e ∷ nodes_on k chain (edge_after chain e))
+
+unfoldable pub left_on : List Links → ℕ → List ℕ
+left_on chain e = nodes_on e chain e
 
 -- a path may go on through v: the local is alive there, and no use of it is marked there
 unfoldable pub passes : List ℕ → Declaration → ℕ → List ℕ → ℕ → Bool
 passes start d stamp used v = not (eqb (get_or used v 0) stamp) && alive_in start d v
-
--- from s to t, those of the nodes on the chain from a code that pass a test are pushed
-abbrev pub Pushes : ℕ → List ℕ → ℕ → ℕ → (ℕ → Bool) → State → State → Type 0
-Pushes n chain code stamp test s t = (us : List ℕ) → Chain n chain code us → t ≡ stamp_all stamp (filter test us) s

@@ -1,130 +1,138 @@
-// The predecessors of each node, as chains through one column of words, and the search's way back along them (local_flow.rs).
+// The predecessors of each node, as chains of edges through one column, and the search's way back along them (local_flow.rs).
 #![tactic(auto)]
 
-ghost use Rattle.std.specs.Prelude.{◌≡◌, List, ℕ, ◌<◌, ◌≤◌, length, get_or, take};
-ghost use Rattle.search.specs.Worklist.{st};
-ghost use Rattle.search.specs.Stamps.{stamp_when, Ready};
-ghost use Rattle.search.specs.Lent.{held, left, st_at};
-ghost use Rattle.live_steps.specs.Walk.{declared};
-ghost use Rattle.predecessors.specs.Predecessors.{Blank, Linked, link_at, head_of, Chain, node_of_edge, edge_after, passes as goesOn, Pushes};
+ghost use Rattle.std.specs.Prelude.{◌≡◌, List, ℕ, ◌+◌, ◌*◌, ◌<◌, ◌≤◌, length};
+ghost use Rattle.live_steps.specs.Walk.{nodes_of};
+ghost use Rattle.predecessors.specs.Predecessors.{Blank, Linked, Falls, link_head, head_of, left_on};
 
-use live_steps::{LocalDeclaration, is_alive_at};
-use search::{at, insert};
-use words::HALF;
+use live_steps::{FlowGraph, LocalDeclaration};
+use search::Search;
 
-// A node's word is the code of the last edge to it + FIRST × that of the edge before its own first one + SECOND × that of the edge before its own second one.
-const FIRST: u64 = 65536;
-
-const SECOND: u64 = HALF;
-
-// An edge of node u to v put in front of v's chain: the code of v's last edge is put at a place (FIRST or SECOND) of u's word that is still empty, and the edge's own code takes its place. What is no node has no chain.
-fn link(chain: &mut [u64], n: usize, u: usize, v: usize, place: u64, code: usize)
-    requires u_lt_n { (u < n) × (n ≤ length chain.old) × (get_or chain.old u 0 < 4294967296) }
-    requires place_bound { (place ≤ 4294967296) × (code < 65536) }
-    ensures { left chain ≡ link_at n u v place code (held chain) }
-{
-    if v < n {
-        chain[u] += place * (chain[v] % FIRST);
-        chain[v] = chain[v] - chain[v] % FIRST + code as u64;
-    }
+// What a node keeps of the chains: the last edge to it, and the edges that its own first and second edge follow in their chains.
+// Node u's first edge has the code u + u + 1, its second u + u + 2, and 0 is no edge.
+#[derive(Clone, Copy)]
+pub struct Links {
+    pub last: u16,
+    pub after_first: u16,
+    pub after_second: u16,
 }
 
-// The chains of predecessors of all nodes, from words that are 0.
-pub fn build_predecessors(first: &[u64], second: &[u64], chain: &mut [u64], n: usize)
-    requires n_bound { (n ≤ 1600) × (n ≤ length first.now) × (n ≤ length second.now) }
-    requires blank { Blank n chain.old }
-    ensures { Linked (take n first.now) (take n second.now) n n (left chain) }
-{
-    let mut u = 0;
-    while u < n {
-        let a = at(first, u);
-        link(chain, n, u, a, FIRST, u + u + 1);
-        let b = at(second, u);
-        link(chain, n, u, b, SECOND, u + u + 2);
-        u += 1;
-    }
-}
+// A node that no edge is linked to.
+pub const UNLINKED: Links = Links {
+    last: 0,
+    after_first: 0,
+    after_second: 0,
+};
 
-// The code of the last edge to v.
-pub fn head_of(chain: &[u64], v: usize) -> usize
-    requires { v < length chain.now }
-    ensures { result ≡ head_of chain.now v }
+// An edge put in front of v's chain. The result is the edge that it follows there. What is no node has no chain.
+fn put_in_front(chain: &mut [Links], v: u64, edge: u16) -> u16
+    ensures linked { chain.new ≡ link_head v edge chain.old }
+    ensures follows { v < length chain.old → result ≡ head_of chain.old v }
 {
-    (chain[v] % FIRST) as usize
-}
-
-// The code of the edge that follows in a chain.
-fn edge_after(chain: &[u64], e: usize) -> usize
-    requires { (0 < e) × (node_of_edge e < length chain.now) }
-    ensures { result ≡ edge_after chain.now e }
-{
-    let word = chain[(e - 1) / 2];
-    if (e - 1) % 2 == 0 {
-        (word / FIRST % FIRST) as usize
+    let v = v as usize;
+    if v < chain.len() {
+        let after = chain[v].last;
+        chain[v].last = edge;
+        after
     } else {
-        (word / SECOND) as usize
+        0
     }
 }
 
-// Whether a path goes on through v: past a use its next use is that one.
-#[tactic(auto, using(std::proofs::lemmas::Bool::Decides::nat_tests), unfolding(crate::specs::Predecessors::passes))]
-fn passes(start: &[u64], used: &[u16], declaration: LocalDeclaration, stamp: u16, v: usize) -> bool
-    requires { (v < length start.now) × (v < length used.now) }
-    ensures { result ≡ goesOn start.now (declared declaration) stamp used.now v }
+// The chains of predecessors of all nodes, from nodes that nothing is linked to.
+pub fn build_predecessors(graph: FlowGraph<'_>, chain: &mut [Links])
+    requires { (length chain.old ≡ nodes_of graph) × Blank (nodes_of graph) chain.old }
+    ensures { Linked graph.entry.first.now graph.entry.second.now (nodes_of graph.entry) (nodes_of graph.entry) chain.new }
 {
-    if used[v] == stamp {
-        false
-    } else {
-        is_alive_at(start, declaration, v)
+    for (u, (a, b)) in graph.first.iter().zip(graph.second).enumerate() {
+        chain[u].after_first = put_in_front(chain, *a, (u + u + 1) as u16);
+        chain[u].after_second = put_in_front(chain, *b, (u + u + 2) as u16);
     }
 }
 
-// A predecessor v pushed, if a path goes on through it.
-fn push_back(
-    start: &[u64],
-    used: &[u16],
-    marks: &mut [u16],
-    stack: &mut [u16],
-    declaration: LocalDeclaration,
-    stamp: u16,
-    top: usize,
-    v: usize,
-) -> usize
-    requires v_in_bounds { (v < length start.now) × (v < length used.now) × (v < length marks.old) × (v < 65536) }
-    requires top_in_bounds { (get_or marks.old v 0 ≡ stamp → ⊥) → top < length stack.old }
-    ensures { st_at left marks stack result ≡ stamp_when stamp (goesOn start.now (declared declaration) stamp used.now v) v (st_at held marks stack top) }
-{
-    if passes(start, used, declaration, stamp, v) {
-        insert(marks, stack, top, v, stamp)
-    } else {
-        top
+// The predecessors on a chain, from an edge on.
+#[derive(Drop)]
+pub struct Predecessors<'a> {
+    pub chain: &'a [Links],
+    pub edge: u16,
+    ghost falls: { Falls (length chain.now) chain.now edge },
+}
+
+impl Iterator for Predecessors<'_> {
+    type Item = usize;
+
+    ghost use Rattle.std.specs.Iterator.{YieldsFirst, item_count};
+
+    ghost next_gives = { YieldsFirst (λ s. left_on s.chain.now s.edge) };
+
+    ghost remaining = { item_count (λ s. left_on s.chain.now s.edge) };
+
+    fn next(&mut self) -> Option<usize> {
+        let index = self.edge.checked_sub(1)?;
+        let u = usize::from(index / 2);
+        let links = self.chain[u];
+        self.edge = if index % 2 == 0 {
+            links.after_first
+        } else {
+            links.after_second
+        };
+        Some(u)
     }
 }
 
-// The predecessors on a chain pushed.
-pub fn push_chain(
-    start: &[u64],
-    chain: &[u64],
-    used: &[u16],
-    marks: &mut [u16],
-    stack: &mut [u16],
-    n: usize,
-    declaration: LocalDeclaration,
-    stamp: u16,
-    top0: usize,
-    code: usize,
-) -> usize
-    requires n_bound { (n ≤ 1600) × (n ≤ length start.now) × (n ≤ length chain.now) × (n ≤ length used.now) }
-    requires ready { Ready stamp n (st marks.old stack.old top0) }
-    requires by_index { (us : List ℕ) × Chain n chain.now code us }
-    ensures { Pushes n chain.now code stamp (goesOn start.now (declared declaration) stamp used.now) (st_at held marks stack top0) (st_at left marks stack result) }
-{
-    let mut top = top0;
-    let mut e = code;
-    while e != 0 {
-        let u = (e - 1) / 2;
-        top = push_back(start, used, marks, stack, declaration, stamp, top, u);
-        e = edge_after(chain, e);
+impl<'a> Predecessors<'a> {
+    ghost use Rattle.predecessors.specs.Predecessors.{Linked, Chained, left_on, preds_of};
+
+    // The predecessors of v, the last first, once for each edge.
+    pub fn of(chain: &'a [Links], v: usize) -> Predecessors<'a>
+        requires { (v < length chain.now) × Chained (length chain.now) chain.now }
+        ensures { (first second : List ℕ) → Linked first second (length chain.now) (length chain.now) chain.now → left_on result.chain.now result.edge ≡ preds_of first second v (length chain.now) }
+    {
+        Predecessors {
+            chain,
+            edge: chain[v].last,
+        }
     }
-    top
+}
+
+// What the search back from a local's uses reads: the graph and the chains of its nodes, the local, and the nodes that hold a use of it, marked by a stamp.
+#[derive(Clone, Copy)]
+pub struct WayBack<'a> {
+    pub graph: FlowGraph<'a>,
+    pub chain: &'a [Links],
+    pub declaration: LocalDeclaration,
+    pub used: &'a [u16],
+    pub stamp: u16,
+    ghost as_long: { (length chain.now ≡ nodes_of graph) × (nodes_of graph ≤ length used.now) },
+}
+
+impl WayBack<'_> {
+    ghost use Rattle.search.specs.Search.{filter};
+    ghost use Rattle.search.specs.Stamps.{Ready, stamp_all};
+    ghost use Rattle.search.specs.Running.{state_of, SameColumns};
+    ghost use Rattle.predecessors.specs.Predecessors.{Linked, Chained, preds_of};
+    ghost use Rattle.predecessors.specs.Ways.{nodes_back, goes_on};
+
+    // Whether a path goes on through v: past a use its next use is that one.
+    #[tactic(auto, using(std::proofs::lemmas::Bool::Decides::nat_tests), unfolding(crate::specs::Predecessors::passes))]
+    fn passes(&self, v: usize) -> bool
+        requires { v < nodes_back self.now }
+        ensures { result ≡ goes_on self.now v }
+    {
+        self.used[v] != self.stamp && self.graph.is_alive_at(self.declaration, v)
+    }
+
+    // The predecessors of v that a path goes on through pushed.
+    pub fn push_predecessors(&self, search: &mut Search<'_>, v: usize)
+        requires ready { Ready search.old.stamp (nodes_back self.now) (state_of search.old) }
+        requires chained { (v < nodes_back self.now) × Chained (nodes_back self.now) self.now.chain.now }
+        ensures same { SameColumns search.old search.new × (search.new.stamp ≡ search.old.stamp) }
+        ensures pushed { (first second : List ℕ) → Linked first second (nodes_back self.now) (nodes_back self.now) self.now.chain.now → state_of search.new ≡ stamp_all search.old.stamp (filter (goes_on self.now) (preds_of first second v (nodes_back self.now))) (state_of search.old) }
+    {
+        for u in Predecessors::of(self.chain, v) {
+            if self.passes(u) {
+                search.insert(u);
+            }
+        }
+    }
 }

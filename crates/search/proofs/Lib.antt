@@ -5,3 +5,4 @@ pub mod Engines
 pub mod Worklist
 pub mod Stamps
 pub mod Alike
+pub mod Running

@@ -3,3 +3,4 @@ pub mod Worklist
 pub mod Stamps
 pub mod Lent
 pub mod Engines
+pub mod Running

@@ -10,10 +10,5 @@ pub const SMALL: usize = 128;
 pub fn is_small(n: usize, names: usize, uses: usize) -> bool
     ensures { result ≡ true → (n ≤ 128) × (names ≤ 128) × (uses ≤ 128) }
 {
-    if n <= SMALL {
-        if names <= SMALL {
-            return uses <= SMALL;
-        }
-    }
-    false
+    n <= SMALL && names <= SMALL && uses <= SMALL
 }

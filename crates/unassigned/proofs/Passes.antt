@@ -8,26 +8,46 @@ use native.Mathlib.Numerals.{add-one}
 use native.Mathlib.Decide.{ℕ_discrete}
 use lib.ListN.{length, set, drop, length-set, length-map}
 use lib.Seq.{get_or-set_same, get_or-set_other, drop-set-lt, drop-drop}
-use Rattle.search.specs.Stamps.{Unmarked}
+use Rattle.search.specs.declared.Search.{Search}
+use Rattle.search.specs.Worklist.{State, st}
+use Rattle.search.specs.Stamps.{Stamped, Unmarked}
+use Rattle.search.specs.Running.{state_of, SameColumns}
+use Rattle.search.proofs.Stamps.{unmarked_after, fresh_stamped}
+use Rattle.search.proofs.Running.{same_none, same_on}
 use Rattle.flow.specs.Findings.{unassigned_of, of_each}
 use Rattle.flow.specs.Judge.{words_of}
 use Rattle.flow.proofs.Few.{all_unassigned_few}
-use Rattle.locals.specs.Entries.{Room, Added}
+use Rattle.locals.specs.declared.FindingList.{FindingList}
+use Rattle.locals.specs.Entries.{Room, AddsTo}
 use Rattle.locals.proofs.Entries.{added_none, added_more, added_long}
 use Rattle.unassigned.specs.Words.{mark_figure}
 use Rattle.unassigned.specs.Pass.{Figures}
 
 -- the walk of the next local may begin, whatever the sheets
-pub record Going (n names : ℕ) (visited₀ stack₀ visited stack : List ℕ) (ℓ : ℕ) : Type 0 where
-  pub within : ℓ ≤ names
-  pub unmarked : Unmarked (ℓ + 1) n visited stack
-  pub visited_long : length visited ≡ length visited₀
-  pub stack_long : length stack ≡ length stack₀
+pub record Going (n ℓ : ℕ) (e s : Search) : Type 0 where
+  pub same : SameColumns e s
+  pub unmarked : Unmarked (ℓ + 1) n s.marks.now s.stack.now
 
-pub going_more : {n names : ℕ} {visited₀ stack₀ visited stack visited' stack' : List ℕ} {ℓ : ℕ} → Going n names visited₀ stack₀ visited stack ℓ → ℓ < names → Unmarked (ℓ + 2) n visited' stack' → length visited' ≡ length visited → length stack' ≡ length stack → Going n names visited₀ stack₀ visited' stack' (ℓ + 1)
-going_more {ℓ = ℓ} g h r v s =
-    let e : ℓ + 1 + 1 ≡ ℓ + 2 = omega arith in
-    record { within = omega arith; unmarked = rw e r; visited_long = v ∙ g.visited_long; stack_long = s ∙ g.stack_long }
+module _ {n ℓ : ℕ} {e s : Search} (g : Going n ℓ e s) {b : Search} (c : SameColumns s b) (q : (state_of b ≡ st s.marks.now s.stack.now 0) × (b.stamp ≡ ℓ + 1)) where
+  marks_kept : b.marks.now ≡ s.marks.now
+  marks_kept = ap (λ (x : State). x.marks) q.0
+
+  stack_kept : b.stack.now ≡ s.stack.now
+  stack_kept = ap (λ (x : State). x.stack) q.0
+
+  -- it has begun
+  pub going_begun : Unmarked b.stamp n b.marks.now b.stack.now × (b.top ≡ 0)
+  going_begun = (rw (q.1, marks_kept, stack_kept) g.unmarked, ap (λ (x : State). x.top) q.0)
+
+  -- it is over, or none was due
+  pub going_on : {t : Search} → SameColumns b t → Stamped b.stamp t.marks.now → Going n (ℓ + 1) e t
+  going_on d r = record {
+    same = same_on g.same (same_on c d);
+    unmarked = unmarked_after (omega arith) g.unmarked (rw q.1 at r) (d.marks_len ∙ c.marks_len) (d.stack_len ∙ c.stack_len);
+  }
+
+  pub going_still : Going n (ℓ + 1) e b
+  going_still = going_on (same_none b) (rw (q.1, marks_kept) (fresh_stamped (ℓ + 1) s.marks.now g.unmarked.fresh))
 
 module _ (S U : List ℕ) where
   -- ---- the mark figures
@@ -60,25 +80,25 @@ module _ (S U : List ℕ) where
   words_few : (ℓ : ℕ) → length (words ℓ) ≤ ℓ
   words_few ℓ = omega (arith, length-map (of_each (unassigned_of S U) ℓ) (λ f. f.word), all_unassigned_few S U ℓ)
 
-  -- the locals below ℓ are listed, with `count` findings
-  pub record Listing (ℓ : ℕ) (words₀ mark₀ words mark : List ℕ) (count : ℕ) : Type 0 where
-    pub listed : Added (words_of (of_each (unassigned_of S U) ℓ)) 0 words₀ count words
+  -- the locals below ℓ are listed
+  pub record Listing (ℓ : ℕ) (f₀ f : FindingList) (mark₀ mark : List ℕ) : Type 0 where
+    pub listed : AddsTo (words_of (of_each (unassigned_of S U) ℓ)) f₀ f
     pub figures : Figures S U ℓ mark₀ mark
 
-  pub listing_none : (ws mark : List ℕ) → Listing 0 ws mark ws mark 0
+  pub listing_none : (f : FindingList) (mark : List ℕ) → Listing 0 f f mark mark
   unfolding of_each
-  listing_none ws mark = record { listed = added_none 0 ws; figures = figures_none }
+  listing_none f mark = record { listed = (added_none f.count f.words.now, refl); figures = figures_none }
 
-  module _ {ℓ : ℕ} {words₀ mark₀ ws mark : List ℕ} {count : ℕ} (l : Listing ℓ words₀ mark₀ ws mark count) where
+  module _ {ℓ : ℕ} {f₀ f : FindingList} {mark₀ mark : List ℕ} (l : Listing ℓ f₀ f mark₀ mark) where
     -- at most one finding each
-    pub listing_few : count ≤ ℓ
-    listing_few = omega (arith, l.listed.counted, words_few ℓ)
+    pub listing_few : f.count ≤ f₀.count + ℓ
+    listing_few = omega (arith, l.listed.0.counted, words_few ℓ)
 
-    pub listing_long : Room ℓ 0 words₀ → length ws ≡ length words₀
-    listing_long room = added_long l.listed (omega (arith, words_few ℓ))
+    pub listing_long : Room ℓ f₀.count f₀.words.now → length f.words.now ≡ length f₀.words.now
+    listing_long room = added_long l.listed.0 (omega (arith, words_few ℓ))
 
-    pub listing_more : {r : ℕ} {words' mark' : List ℕ} → Room ℓ 0 words₀ → ℓ < length mark₀ → Added (words_of (unassigned_of S U ℓ)) count ws r words' → mark' ≡ set mark ℓ (mark_figure S U ℓ) → Listing (ℓ + 1) words₀ mark₀ words' mark' r
+    pub listing_more : {f' : FindingList} {mark' : List ℕ} → Room ℓ f₀.count f₀.words.now → ℓ < length mark₀ → AddsTo (words_of (unassigned_of S U ℓ)) f f' → mark' ≡ set mark ℓ (mark_figure S U ℓ) → Listing (ℓ + 1) f₀ f' mark₀ mark'
     listing_more room h a e = record {
-      listed = rw (add-one ℓ, words_next ℓ) (added_more l.listed (omega (arith, words_few ℓ)) a);
+      listed = (rw (add-one ℓ, words_next ℓ) (added_more l.listed.0 (omega (arith, words_few ℓ)) a.0), a.1 ∙ l.listed.1);
       figures = figures_more h l.figures e;
     }

@@ -1,135 +1,83 @@
 // The unassigned findings: for each local without a value its first read that no write can reach (local_flow.rs).
 #![tactic(auto)]
 
-ghost use Rattle.std.specs.Prelude.{◌≡◌, ◌+◌, ◌<◌, ◌≤◌, length, set};
-ghost use Rattle.search.specs.Lent.{held, left};
-ghost use Rattle.search.specs.Stamps.{Unmarked};
+ghost use Rattle.std.specs.Prelude.{◌≡◌, true, ◌+◌, ◌<◌, ◌≤◌, length};
+ghost use Rattle.search.specs.Running.{SameColumns};
+ghost use Rattle.search.specs.Stamps.{Stamped, Unmarked};
 ghost use Rattle.use_words.specs.Words.{uses_in, AllPlaced};
-ghost use Rattle.live_steps.specs.Walk.{Long, charted, declared};
-ghost use Rattle.locals.specs.Entries.{Room, Adds};
+ghost use Rattle.live_steps.specs.Walk.{nodes_of, charted, declared};
+ghost use Rattle.locals.specs.Entries.{Room, AddsTo};
 ghost use Rattle.unassigned.specs.Words.{words_at, unassigned_words, visits};
 ghost use Rattle.unassigned.specs.Pass.{AnyPass, ListsUnassigned};
 
-use facts::is_due;
-use live_steps::LocalDeclaration;
-use local_walk::{Walked, walk_local};
-use locals::{declaration_at, part_of, push_finding};
+use live_steps::{FlowGraph, LocalDeclaration};
+use local_walk::walk_local;
+use locals::{FindingList, PassTables};
+use search::Search;
+use use_words::PlacedUse;
 use words::finding::{LOCAL, USE};
 
-// The mark figure and the finding of a walk. The result is the number of findings.
-#[tactic(auto, using(locals::proofs::Entries::added_none, crate::proofs::Words::words_none, crate::proofs::Words::words_at_one))]
-fn push_walked(
-    finding_word: &mut [u64],
-    mark: &mut [u64],
-    count: usize,
-    local: usize,
-    walked: Walked,
-) -> usize
-    requires { (local < 1024) × (local < length mark.old) × (walked.first ≤ 65536) × (count < length finding_word.old) }
-    ensures adds { Adds (words_at local walked.first) count finding_word result }
-    ensures mark_value { left mark ≡ set (held mark) local walked.nodes }
+// The finding of a walk, if it found a use.
+#[tactic(auto, using(locals::proofs::Entries::added_none))]
+fn push_found(findings: &mut FindingList<'_>, local: usize, first: Option<u16>)
+    requires { (local < 1024) × (findings.old.count < length findings.old.words.now) }
+    ensures { AddsTo (words_at local first) findings.old findings.new }
 {
-    let nodes = walked.nodes;
-    let first = walked.first;
-    mark[local] = nodes as u64;
-    if first == 0 {
-        count
-    } else {
-        push_finding(
-            finding_word,
-            count,
-            LOCAL * local as u64 + USE * first as u64,
-        )
+    if let Some(number) = first {
+        findings.push(LOCAL * local as u64 + USE * (number as u64 + 1));
     }
 }
 
-// The finding and the mark figure of one local with the uses `mine`, if its walk is due. Its stamp is its number + 1. The result is the number of findings.
+// The finding of one local with the uses `mine`. The result is its mark figure: how many nodes the walk visits.
 fn list_local(
-    first: &[u64],
-    second: &[u64],
-    start: &[u64],
-    mine: &[u64],
-    visited: &mut [u16],
-    stack: &mut [u16],
-    finding_word: &mut [u64],
-    mark: &mut [u64],
-    n: usize,
+    graph: &FlowGraph<'_>,
+    mine: &[PlacedUse],
+    search: &mut Search<'_>,
+    findings: &mut FindingList<'_>,
     declaration: LocalDeclaration,
-    due: bool,
-    count: usize,
     local: usize,
 ) -> usize
-    requires unmarked { Unmarked (local + 1) n visited.old stack.old × (n ≤ 1600) × (local < 1024) × (local < length mark.old) }
-    requires long { Long n first.now second.now start.now × AllPlaced n mine.now }
-    requires room { Room 1 count finding_word.old }
-    ensures adds { Adds (unassigned_words due local (charted n first.now second.now start.now) (declared declaration) (uses_in mine.now)) count finding_word result }
-    ensures mark_value { left mark ≡ set (held mark) local (visits due n (charted n first.now second.now start.now) (declared declaration) (uses_in mine.now)) }
-    ensures unmarked_2 { Unmarked (local + 2) n (left visited) (left stack) }
+    requires unmarked { Unmarked search.old.stamp (nodes_of graph.now) search.old.marks.now search.old.stack.now × (search.old.top ≡ 0) }
+    requires placed { AllPlaced (nodes_of graph.now) mine.now }
+    requires room { (local < 1024) × Room 1 findings.old.count findings.old.words.now }
+    ensures same { SameColumns search.old search.new × (search.new.stamp ≡ search.old.stamp) }
+    ensures adds { AddsTo (unassigned_words true local (charted graph.now) (declared declaration) (uses_in mine.now)) findings.old findings.new }
+    ensures figure { result ≡ visits true (nodes_of graph.now) (charted graph.now) (declared declaration) (uses_in mine.now) }
+    ensures stamped { Stamped search.old.stamp search.new.marks.now }
 {
-    if due {
-        let walked = walk_local(
-            first,
-            second,
-            start,
-            mine,
-            visited,
-            stack,
-            n,
-            declaration,
-            local as u16 + 1,
-        );
-        push_walked(finding_word, mark, count, local, walked)
-    } else {
-        mark[local] = 0;
-        count
-    }
+    let walked = walk_local(graph, mine, search, declaration);
+    push_found(findings, local, walked.first);
+    walked.nodes
 }
 
-// The unassigned findings of all locals, in local order, and the mark figure of each: how many nodes its walk visits. The result is
-// the number of findings. The marks are below stamp 1 before.
+// The unassigned findings of all locals, in local order, and the mark figure of each. The marks are below stamp 1 before.
 pub fn list_unassigned(
-    first: &[u64],
-    second: &[u64],
-    start: &[u64],
-    name_node: &[u64],
-    name_end: &[u64],
-    facts: &[u16],
-    starts: &[u16],
-    by_local: &[u64],
-    visited: &mut [u16],
-    stack: &mut [u16],
-    finding_word: &mut [u64],
+    pass: &PassTables<'_>,
+    search: &mut Search<'_>,
+    findings: &mut FindingList<'_>,
     mark: &mut [u64],
-    n: usize,
-    names: usize,
-) -> usize
-    requires any_pass { AnyPass n names first second start name_node name_end facts starts by_local }
-    requires unmarked { Unmarked 1 n visited.old stack.old × (names ≤ length mark.old) × Room names 0 finding_word.old }
-    ensures lists_unassigned { ListsUnassigned n names first.now second.now start.now name_node.now name_end.now facts.now starts.now by_local.now finding_word mark result }
-    ensures upper_bound { result ≤ names }
+)
+    requires any_pass { AnyPass pass.now }
+    requires unmarked { Unmarked 1 (nodes_of pass.now.graph) search.old.marks.now search.old.stack.now }
+    requires room { (length pass.now.facts.now ≤ length mark.old) × Room (length pass.now.facts.now) findings.old.count findings.old.words.now }
+    ensures same { SameColumns search.old search.new }
+    ensures lists { ListsUnassigned pass.now findings.old findings.new mark.old mark.new }
+    ensures few { findings.new.count ≤ findings.old.count + length pass.now.facts.now }
 {
-    let mut count = 0;
-    let mut local = 0;
-    while local < names {
-        let declaration = declaration_at(name_node, name_end, local);
-        let mine = part_of(starts, by_local, local);
-        let due = is_due(facts[local]);
-        count = list_local(
-            first,
-            second,
-            start,
-            mine,
-            visited,
-            stack,
-            finding_word,
-            mark,
-            n,
-            declaration,
-            due,
-            count,
-            local,
-        );
-        local += 1;
+    for (local, name) in pass.facts.iter().enumerate() {
+        search.begin(local as u16 + 1);
+        let visited = if name.is_due() {
+            list_local(
+                &pass.graph,
+                pass.uses.of(local),
+                search,
+                findings,
+                pass.names.of(local),
+                local,
+            )
+        } else {
+            0
+        };
+        mark[local] = visited as u64;
     }
-    count
 }

@@ -1,78 +1,76 @@
-// A use in one word, as the walks over a local's uses take it: what they ask of it stands together.
+// A use with its node, as the walks over a local's uses take it: what they ask of it stands together, in eight bytes.
 #![tactic(auto)]
 
 ghost use Rattle.std.specs.Prelude.{◌≡◌, ◌&&◌, ◌<◌, eqb};
 ghost use Rattle.flow.specs.Sheet.{local_of, use_kind_of, crossing_of};
 ghost use Rattle.flow.specs.Findings.{is_read, is_write};
-ghost use Rattle.use_words.specs.Words.{number_in, node_in, local_in, closure_in, use_of};
+ghost use Rattle.use_words.specs.Words.{kind_number, use_of};
 
-use words::use_kind::{READ, WRITE};
-use words::{CROSSING, HALF, USE_KIND};
+use words::use_kind::{READ, READ_WRITE, WRITE};
+use words::{CROSSING, USE_KIND};
 
-// A number, a node and a local are each below FIELD.
-const FIELD: u64 = 65536;
+// "kind 0 Read, 1 Write, 2 ReadWrite". A word has room for one number more, which refusal 8 turns back.
+#[derive(Clone, Copy, PartialEq, Eq)]
+pub enum UseKind {
+    Read,
+    Write,
+    ReadWrite,
+    Other,
+}
 
-// The word is number + NODE × node + LOCAL × local + KIND × kind + CLOSURE × (1 in a closure).
-const NODE: u64 = 65536;
-
-const LOCAL: u64 = HALF;
-
-const KIND: u64 = HALF * FIELD;
-
-const CLOSURE: u64 = KIND * CROSSING;
-
-// The use with this number, at this node, whose word in the use sheet is `word`.
-#[tactic(auto, using(crate::proofs::Words::use_inside, crate::proofs::Words::use_uncrossed, crate::proofs::Words::use_uncaptured))]
-pub fn pack(number: usize, node: usize, word: u64, captured: bool) -> u64
-    requires { (number < 65536) × (node < 65536) }
-    ensures result_value { use_of result ≡ record { number = number; span = 0; kind = use_kind_of word; in_closure = captured && eqb (crossing_of word) 1; found = Some node } }
-    ensures result_value_2 { local_in result ≡ local_of word }
-{
-    let local = word % USE_KIND;
-    let kind = word / USE_KIND % CROSSING;
-    let open = number as u64 + NODE * node as u64 + LOCAL * local + KIND * kind;
-    if captured {
-        if word / USE_KIND / CROSSING == 1 {
-            return open + CLOSURE;
+impl UseKind {
+    // The kind in a word of the use sheet.
+    pub fn of(word: u64) -> UseKind
+        ensures { kind_number result ≡ use_kind_of word }
+    {
+        match word / USE_KIND % CROSSING {
+            READ => UseKind::Read,
+            WRITE => UseKind::Write,
+            READ_WRITE => UseKind::ReadWrite,
+            _ => UseKind::Other,
         }
     }
-    open
 }
 
-pub fn number_of(word: u64) -> usize
-    ensures { result ≡ number_in word }
-{
-    (word % FIELD) as usize
+#[derive(Clone, Copy)]
+pub struct PlacedUse {
+    pub number: u16,
+    pub node: u16,
+    pub local: u16,
+    pub kind: UseKind,
+    pub in_closure: bool,
 }
 
-pub fn node_of(word: u64) -> usize
-    ensures { result ≡ node_in word }
-{
-    (word / NODE % FIELD) as usize
-}
+impl PlacedUse {
+    // The use with this number, at this node, whose word in the use sheet is `word`.
+    #[tactic(auto, unfolding(crate::specs::Words::use_of))]
+    pub fn new(number: usize, node: usize, word: u64, captured: bool) -> PlacedUse
+        requires { (number < 65536) × (node < 65536) }
+        ensures placed { use_of result ≡ record { number = number; span = 0; kind = use_kind_of word; in_closure = captured && eqb (crossing_of word) 1; found = Some node } }
+        ensures local { result.local ≡ local_of word }
+    {
+        PlacedUse {
+            number: number as u16,
+            node: node as u16,
+            local: (word % USE_KIND) as u16,
+            kind: UseKind::of(word),
+            in_closure: captured && word / USE_KIND / CROSSING == 1,
+        }
+    }
 
-pub fn local_of(word: u64) -> usize
-    ensures { result ≡ local_in word }
-{
-    (word / LOCAL % FIELD) as usize
-}
+    // A Read or a ReadWrite.
+    #[tactic(auto, unfolding(crate::specs::Words::use_of))]
+    pub fn is_read(self) -> bool
+        ensures { result ≡ is_read (use_of self) }
+    {
+        self.kind != UseKind::Write
+    }
 
-// A Read or a ReadWrite.
-pub fn is_read(word: u64) -> bool
-    ensures { result ≡ is_read (use_of word) }
-{
-    word / KIND % CROSSING != WRITE
-}
-
-// A Write or a ReadWrite.
-pub fn is_write(word: u64) -> bool
-    ensures { result ≡ is_write (use_of word) }
-{
-    word / KIND % CROSSING != READ
-}
-
-pub fn is_in_closure(word: u64) -> bool
-    ensures { result ≡ closure_in word }
-{
-    word / CLOSURE == 1
+    // A Write or a ReadWrite.
+    #[tactic(auto, unfolding(crate::specs::Words::use_of))]
+    pub fn is_write(self) -> bool
+        ensures { result ≡ is_write (use_of self) }
+    {
+        self.kind != UseKind::Read
+    }
 }

@@ -1,4 +1,4 @@
--- A local's uses by node: each node's first use is the one that it has in use order, so that the same is ahead of each node; those overwritten are the same in the same order; and words that stand for them rise by node.
+-- A local's uses by node: each node's first use is the one that it has in use order, so that the same is ahead of each node; those overwritten are the same in the same order; and placed uses that stand for them rise by node.
 -- Assumes nothing.
 use Prim.Native.Nat.{ℕ, zero, suc, ◌+◌, ◌≤◌, ◌<◌}
 use mathlib.Core.Path.{◌≡◌, refl, sym, ap, ap₂, fun_ext, ◌∙◌}
@@ -21,9 +21,10 @@ use Rattle.flow.proofs.Laws.{mem_append}
 use Rattle.flow.proofs.Members.{in_range}
 use Rattle.flow.proofs.OwnUses.{renumbered_overwritten}
 use Rattle.flow.proofs.Order.{Rising as RisingBy, nil, cons, rising_append, rising_at}
-use Rattle.use_words.specs.Words.{node_in, use_of, uses_in, spanless}
+use Rattle.use_words.specs.declared.PlacedUse.{PlacedUse}
+use Rattle.use_words.specs.Words.{node_in, use_of, uses_in, spanless, no_use as blank}
 use Rattle.use_words.proofs.Words.{spanless_renumbers}
-use Rattle.bucket_sort.specs.Grouped.{of_key, grouped}
+use Rattle.bucket_sort.specs.Grouped.{grouped}
 use Rattle.bucket_sort.proofs.Grouped.{of_here, of_other}
 use Rattle.uses_by_node.specs.Uses.{uses_at, by_node, Rising, overwritten_in}
 
@@ -62,7 +63,7 @@ uses_past : (v : ℕ) (u : Use) (us : List Use) → (node u ≡ v → ⊥) → u
 uses_past v u us q = of_other node v u us q
 
 uses_own : (v : ℕ) (us : List Use) → first_at v (uses_at v us) ≡ first_at v us
-unfolding first_at of_key
+unfolding first_at
 uses_own v [] = refl
 uses_own v (u ∷ us) = elim (ℕ_discrete (node u) v) [
   | yes e ↦ rw (uses_here v u us e, eq-eqb _ _ e)
@@ -70,7 +71,7 @@ uses_own v (u ∷ us) = elim (ℕ_discrete (node u) v) [
 ]
 
 uses_other : (v w : ℕ) (us : List Use) → (w ≡ v → ⊥) → first_at v (uses_at w us) ≡ no_use
-unfolding first_at of_key
+unfolding first_at
 uses_other v w [] q = refl
 uses_other v w (u ∷ us) q = elim (ℕ_discrete (node u) w) [
   | yes e ↦ rw (uses_here w u us e, ne_eqb (node u) v (λ p. q (sym e ∙ p))) (uses_other v w us q)
@@ -79,7 +80,6 @@ uses_other v w (u ∷ us) q = elim (ℕ_discrete (node u) w) [
 
 -- who stands in it
 uses_mem : (v : ℕ) (us : List Use) (x : Use) → Memᴰ x (uses_at v us) → Memᴰ x us × (node x ≡ v)
-unfolding of_key
 uses_mem v [] x m = absurd (Memᴰ.not-nil m)
 uses_mem v (u ∷ us) x m = elim (ℕ_discrete (node u) v) [
   | yes e ↦ ⊎_elim (λ p. (Memᴰ.head p, ap node p ∙ e)) (λ k. let r = uses_mem v us x k in (Memᴰ.tail r.0, r.1)) (front (rw (uses_here v u us e) at m))
@@ -117,7 +117,6 @@ abbrev Earlier : Use → Use → Type 0
 Earlier x y = node x ≤ node y
 
 uses_rising : (v : ℕ) (us : List Use) → RisingBy Earlier (uses_at v us)
-unfolding of_key
 uses_rising v [] = nil
 uses_rising v (u ∷ us) = elim (ℕ_discrete (node u) v) [
   | yes e ↦ rw (uses_here v u us e) (cons {x = u} {l = uses_at v us} (λ y m. omega (arith, (uses_mem v us y m).1)) (uses_rising v us))
@@ -130,21 +129,21 @@ by_rising zero us = nil
 by_rising (suc n) us =
     rising_append (by_node n us) (uses_at n us) (by_rising n us) (uses_rising n us) (λ x y m k. omega (arith, (by_mem n us x m).1, (uses_mem n us y k).1))
 
--- ---- words that stand for them
+-- ---- placed uses that stand for them
 
-module _ (ws : List ℕ) (l : List Use) (e : uses_in ws ≡ map spanless l) where
+module _ (ws : List PlacedUse) (l : List Use) (e : uses_in ws ≡ map spanless l) where
   words_length : length ws ≡ length l
   words_length = sym (length-map ws use_of) ∙ ap length e ∙ length-map l spanless
 
-  words_node : (i : ℕ) → node_in (get_or ws i 0) ≡ node (get_or l i (use_of 0))
+  words_node : (i : ℕ) → node_in (get_or ws i blank) ≡ node (get_or l i (use_of blank))
   unfolding use_of
   words_node i =
-      ap node (sym (get_or-map use_of ws i 0) ∙ ap (λ (x : List Use). get_or x i (use_of 0)) e ∙ get_or-map spanless l i (use_of 0))
+      ap node (sym (get_or-map use_of ws i blank) ∙ ap (λ (x : List Use). get_or x i (use_of blank)) e ∙ get_or-map spanless l i (use_of blank))
 
-module _ (n : ℕ) (us : List Use) (ws : List ℕ) (e : uses_in ws ≡ map spanless (by_node n us)) where
+module _ (n : ℕ) (us : List Use) (ws : List PlacedUse) (e : uses_in ws ≡ map spanless (by_node n us)) where
   pub words_rise : Rising ws
   words_rise i h =
-      omega (arith, words_node ws (by_node n us) e i, words_node ws (by_node n us) e (i + 1), rising_at (use_of 0) (by_rising n us) i (i + 1) (omega arith) (omega (arith, words_length ws (by_node n us) e)))
+      omega (arith, words_node ws (by_node n us) e i, words_node ws (by_node n us) e (i + 1), rising_at (use_of blank) (by_rising n us) i (i + 1) (omega arith) (omega (arith, words_length ws (by_node n us) e)))
 
 -- ---- what is ahead
 
@@ -190,7 +189,7 @@ module _ (g : Graph) (a : Ahead) where
       ∙ sym (append_assoc (only_if (is_overwritten g a x xs) (x ∷ [])) (overwritten_in g a xs) (overwritten_in g a ys))
 
   over_own : (v : ℕ) (us : List Use) → overwritten_in g a (uses_at v us) ≡ overwritten_at g a v us
-  unfolding overwritten_at of_key
+  unfolding overwritten_at
   over_own v [] = refl
   over_own v (u ∷ us) = elim (ℕ_discrete (node u) v) [
     | yes e ↦ rw (uses_here v u us e, eq-eqb _ _ e) (ap₂ (λ (b : Bool) (l : List Use). only_if b (u ∷ []) ++ l) (over_same u (uses_at v us) us (rw e (uses_own v us))) (over_own v us))

@@ -1,4 +1,4 @@
--- The places of a column of use words: a node's first use and its place, and whether the use at a place is overwritten, where the nodes rise: by its kind, the use at the next place and, where that is at another node, the paths ahead.
+-- The places of a column of uses: a node's first use and its place, and whether the use at a place is overwritten, where the nodes rise: by its kind, the use at the next place and, where that is at another node, the paths ahead.
 -- Assumes nothing.
 use Prim.Native.Nat.{ℕ, zero, suc, ◌+◌, ◌≤◌, ◌<◌}
 use mathlib.Core.Path.{◌≡◌, refl, sym, ap, ◌∙◌}
@@ -16,29 +16,30 @@ use Rattle.search.proofs.Bools.{and_both}
 use Rattle.flow.specs.Graph.{Graph}
 use Rattle.flow.specs.Findings.{Use, node, is_read, is_write, Meeting, no_use, a_read, a_pure_write, meeting, first_at, or_else, Ahead, is_overwritten, is_overwritten_unread}
 use Rattle.flow.proofs.Members.{both_and}
-use Rattle.use_words.specs.Words.{node_in, use_of, uses_in}
+use Rattle.use_words.specs.declared.PlacedUse.{PlacedUse}
+use Rattle.use_words.specs.Words.{node_in, use_of, uses_in, no_use as blank}
 use Rattle.use_words.proofs.Words.{node_is}
 use Rattle.uses_by_node.specs.Uses.{Rising, next_in_node}
 
-abbrev pub node_at : List ℕ → ℕ → ℕ
-node_at ws i = node_in (get_or ws i 0)
+abbrev pub node_at : List PlacedUse → ℕ → ℕ
+node_at ws i = node_in (get_or ws i blank)
 
 -- ---- the first use at a node
 
 -- no use at v
-pub record NoPlace (v : ℕ) (ws : List ℕ) : Type 0 where
+pub record NoPlace (v : ℕ) (ws : List PlacedUse) : Type 0 where
   pub none : (j : ℕ) → j < length ws → node_at ws j ≡ v → ⊥
   pub is : first_at v (uses_in ws) ≡ no_use
 
 -- the first use at v, and its place
-pub record FirstPlace (v : ℕ) (ws : List ℕ) : Type 0 where
+pub record FirstPlace (v : ℕ) (ws : List PlacedUse) : Type 0 where
   pub at : ℕ
   pub below : at < length ws
   pub here : node_at ws at ≡ v
   pub before : (j : ℕ) → j < at → node_at ws j ≡ v → ⊥
-  pub is : first_at v (uses_in ws) ≡ meeting (use_of (get_or ws at 0))
+  pub is : first_at v (uses_in ws) ≡ meeting (use_of (get_or ws at blank))
 
-module _ (v w : ℕ) (us : List Use) where
+module _ (v : ℕ) (w : PlacedUse) (us : List Use) where
   first_here : node_in w ≡ v → first_at v (use_of w ∷ us) ≡ meeting (use_of w)
   unfolding first_at use_of
   first_here e = rw (eq-eqb (node_in w) v e)
@@ -47,7 +48,7 @@ module _ (v w : ℕ) (us : List Use) where
   unfolding first_at use_of
   first_past q = rw (ne_eqb (node_in w) v q)
 
-pub find : (v : ℕ) (ws : List ℕ) → NoPlace v ws ⊎ FirstPlace v ws
+pub find : (v : ℕ) (ws : List PlacedUse) → NoPlace v ws ⊎ FirstPlace v ws
 unfolding first_at
 find v [] = inl (record { none = λ j h. absurd (omega arith); is = refl })
 find v (w ∷ ws) = elim (ℕ_discrete (node_in w) v) [
@@ -59,10 +60,10 @@ find v (w ∷ ws) = elim (ℕ_discrete (node_in w) v) [
 ]
 
 -- where no place before i has its node, place i is the node's first
-pub first_is : (ws : List ℕ) (i : ℕ) → i < length ws → ((j : ℕ) → j < i → node_at ws j ≡ node_at ws i → ⊥) → first_at (node_at ws i) (uses_in ws) ≡ meeting (use_of (get_or ws i 0))
+pub first_is : (ws : List PlacedUse) (i : ℕ) → i < length ws → ((j : ℕ) → j < i → node_at ws j ≡ node_at ws i → ⊥) → first_at (node_at ws i) (uses_in ws) ≡ meeting (use_of (get_or ws i blank))
 first_is ws i h b =
     ⊎_elim (λ p. absurd (p.none i h refl))
-    (λ p. p.is ∙ ap (λ (k : ℕ). meeting (use_of (get_or ws k 0))) (same p)) (find (node_at ws i) ws)
+    (λ p. p.is ∙ ap (λ (k : ℕ). meeting (use_of (get_or ws k blank))) (same p)) (find (node_at ws i) ws)
   where
     same : (p : FirstPlace (node_at ws i) ws) → p.at ≡ i
     same p = elim (dec_lt p.at i) [
@@ -70,19 +71,19 @@ first_is ws i h b =
       | no l ↦ elim (dec_lt i p.at) [ yes k ↦ absurd (p.before i k refl) | no k ↦ omega arith ]
     ]
 
-none_first : (v : ℕ) (ws : List ℕ) → ((j : ℕ) → j < length ws → node_at ws j ≡ v → ⊥) → first_at v (uses_in ws) ≡ no_use
+none_first : (v : ℕ) (ws : List PlacedUse) → ((j : ℕ) → j < length ws → node_at ws j ≡ v → ⊥) → first_at v (uses_in ws) ≡ no_use
 none_first v ws q = ⊎_elim (λ p. p.is) (λ p. absurd (q p.at p.below p.here)) (find v ws)
 
 -- ---- the next place
 
-pub rises : (ws : List ℕ) → Rising ws → (i j : ℕ) → i ≤ j → j < length ws → node_at ws i ≤ node_at ws j
+pub rises : (ws : List PlacedUse) → Rising ws → (i j : ℕ) → i ≤ j → j < length ws → node_at ws i ≤ node_at ws j
 rises ws r i zero h l = let e : i ≡ 0 = omega arith in rw e (omega arith)
 rises ws r i (suc j) h l = elim (ℕ_discrete i (suc j)) [
   | yes e ↦ rw e (omega arith)
   | no q ↦ omega (arith, rises ws r i j (omega arith) (omega arith), rw (add-one j) at (r j (omega arith)))
 ]
 
-module _ (ws : List ℕ) (i : ℕ) where
+module _ (ws : List PlacedUse) (i : ℕ) where
   pub next_node : next_in_node ws i ≡ true → (i + 1 < length ws) × (node_at ws i ≡ node_at ws (i + 1))
   unfolding next_in_node
   next_node e =
@@ -94,10 +95,10 @@ module _ (ws : List ℕ) (i : ℕ) where
   node_next l e = both_and (lt-ltb (i + 1) (length ws) l) (eq-eqb (node_at ws i) (node_at ws (i + 1)) e)
 
   -- the next use in the node, if there is one
-  next_first : next_in_node ws i ≡ true → first_at (node_at ws i) (uses_in (drop (i + 1) ws)) ≡ meeting (use_of (get_or ws (i + 1) 0))
+  next_first : next_in_node ws i ≡ true → first_at (node_at ws i) (uses_in (drop (i + 1) ws)) ≡ meeting (use_of (get_or ws (i + 1) blank))
   next_first q =
       let k = next_node q in
-      rw (drop-cons ws (i + 1) 0 k.0) (first_here (node_at ws i) (get_or ws (i + 1) 0) (uses_in (drop (suc (i + 1)) ws)) (sym k.1))
+      rw (drop-cons ws (i + 1) blank k.0) (first_here (node_at ws i) (get_or ws (i + 1) blank) (uses_in (drop (suc (i + 1)) ws)) (sym k.1))
 
   no_first : Rising ws → next_in_node ws i ≡ false → first_at (node_at ws i) (uses_in (drop (i + 1) ws)) ≡ no_use
   no_first r q = none_first (node_at ws i) (drop (i + 1) ws) none
@@ -105,7 +106,7 @@ module _ (ws : List ℕ) (i : ℕ) where
       none : (j : ℕ) → j < length (drop (i + 1) ws) → node_at (drop (i + 1) ws) j ≡ node_at ws i → ⊥
       none j k p =
           let b : i + 1 + j < length ws = omega (arith, length-drop (i + 1) ws) in
-          let e : node_at ws (i + 1 + j) ≡ node_at ws i = ap node_in (sym (get_or-drop (i + 1) ws j 0)) ∙ p in
+          let e : node_at ws (i + 1 + j) ≡ node_at ws i = ap node_in (sym (get_or-drop (i + 1) ws j blank)) ∙ p in
           false≢true (sym q ∙ node_next (omega arith) (omega (arith, rises ws r i (i + 1) (omega arith) (omega arith), rises ws r (i + 1) (i + 1 + j) (omega arith) b)))
 
 -- ---- the three cases of the code
@@ -114,9 +115,9 @@ pure_next : (b other : Bool) → or_else (cond b a_read a_pure_write) other ≡ 
 pure_next true other = refl
 pure_next false other = refl
 
-module _ (g : Graph) (a : Ahead) (ws : List ℕ) (i : ℕ) where
+module _ (g : Graph) (a : Ahead) (ws : List PlacedUse) (i : ℕ) where
   abbrev here : Use
-  here = use_of (get_or ws i 0)
+  here = use_of (get_or ws i blank)
 
   abbrev after : List Use
   after = uses_in (drop (i + 1) ws)
@@ -131,11 +132,11 @@ module _ (g : Graph) (a : Ahead) (ws : List ℕ) (i : ℕ) where
     unfolding is_overwritten
     by_first m e =
         sym (ap (λ (b : Bool). b && or_else (first_at (node here) after) (is_overwritten_unread g a (node here))) w
-        ∙ ap (λ (v : ℕ). or_else (first_at v after) (is_overwritten_unread g a v)) (node_is (get_or ws i 0))
+        ∙ ap (λ (v : ℕ). or_else (first_at v after) (is_overwritten_unread g a v)) (node_is (get_or ws i blank))
         ∙ ap (λ (x : Meeting). or_else x (is_overwritten_unread g a (node_at ws i))) e)
 
-    pub by_next : next_in_node ws i ≡ true → not (is_read (use_of (get_or ws (i + 1) 0))) ≡ is_overwritten g a here after
-    by_next q = sym (pure_next (is_read (use_of (get_or ws (i + 1) 0))) (is_overwritten_unread g a (node_at ws i))) ∙ by_first _ (next_first ws i q)
+    pub by_next : next_in_node ws i ≡ true → not (is_read (use_of (get_or ws (i + 1) blank))) ≡ is_overwritten g a here after
+    by_next q = sym (pure_next (is_read (use_of (get_or ws (i + 1) blank))) (is_overwritten_unread g a (node_at ws i))) ∙ by_first _ (next_first ws i q)
 
     pub by_paths : Rising ws → next_in_node ws i ≡ false → is_overwritten_unread g a (node_at ws i) ≡ is_overwritten g a here after
     by_paths r q = by_first no_use (no_first ws i r q)

@@ -1,14 +1,15 @@
--- A local's uses by node: their words in a column, and the marks of what is ahead in two others.
+-- A local's uses by node, in a column, and the marks of what is ahead in two others.
 -- Assumes nothing: these are definitions.
 use Rattle.std.specs.Prelude.{ℕ, zero, suc, ◌+◌, ◌<◌, ◌≤◌, Bool, true, ◌&&◌, not, List, [], ◌∷◌, ◌++◌, length, get_or, eqb, ltb}
-use Rattle.search.specs.Lent.{Column, held}
 use Rattle.search.specs.Stamps.{flags_of}
 use Rattle.flow.specs.Graph.{Graph}
 use Rattle.flow.specs.Locals.{only_if}
 use Rattle.flow.specs.Findings.{Use, node, Ahead, is_overwritten}
-use Rattle.use_words.specs.Words.{node_in}
+use Rattle.use_words.specs.declared.PlacedUse.{PlacedUse}
+use Rattle.use_words.specs.Words.{node_in, no_use}
 use Rattle.bucket_sort.specs.Grouped.{of_key, grouped}
-use Rattle.live_steps.specs.Walk.{chart}
+use Rattle.live_steps.specs.declared.FlowGraph.{FlowGraph}
+use Rattle.live_steps.specs.Walk.{chart, nodes_of}
 
 -- the uses at the node v, in order
 abbrev pub uses_at : ℕ → List Use → List Use
@@ -18,22 +19,26 @@ uses_at v us = of_key node v us
 abbrev pub by_node : ℕ → List Use → List Use
 by_node n us = grouped node n us
 
--- words of uses whose nodes rise
-abbrev pub Rising : List ℕ → Type 0
-Rising ws = (i : ℕ) → i + 1 < length ws → node_in (get_or ws i 0) ≤ node_in (get_or ws (i + 1) 0)
+-- uses whose nodes rise
+abbrev pub Rising : List PlacedUse → Type 0
+Rising ws = (i : ℕ) → i + 1 < length ws → node_in (get_or ws i no_use) ≤ node_in (get_or ws (i + 1) no_use)
 
 -- whether the next place holds a use at the same node
-unfoldable pub next_in_node : List ℕ → ℕ → Bool
-next_in_node ws i = ltb (i + 1) (length ws) && eqb (node_in (get_or ws i 0)) (node_in (get_or ws (i + 1) 0))
+unfoldable pub next_in_node : List PlacedUse → ℕ → Bool
+next_in_node ws i = ltb (i + 1) (length ws) && eqb (node_in (get_or ws i no_use)) (node_in (get_or ws (i + 1) no_use))
 
 -- whether place i is the first of its node
-abbrev pub opens_node : List ℕ → ℕ → Bool
+abbrev pub opens_node : List PlacedUse → ℕ → Bool
 opens_node ws zero = true
 opens_node ws (suc i) = not (next_in_node ws i)
 
 -- the graph of two columns of edges
 abbrev pub edges : ℕ → List ℕ → List ℕ → Graph
 edges n first second = chart n first second []
+
+-- that of code's columns
+abbrev pub edges_of : FlowGraph → Graph
+edges_of g = edges (nodes_of g) g.first.now g.second.now
 
 -- what is ahead, by the marks in two columns
 abbrev pub marked : ℕ → ℕ → List ℕ → List ℕ → Ahead

@@ -1,106 +1,86 @@
 // A local's uses by node, and which of its writes are overwritten unread, by the marks of what is ahead (local_flow.rs).
 #![tactic(auto)]
 
-ghost use Rattle.std.specs.Prelude.{◌≡◌, ◌&&◌, ◌+◌, ◌<◌, ◌≤◌, length, get_or, drop, ltb, eqb};
-ghost use Rattle.search.specs.Stamps.{flags_of};
-ghost use Rattle.search.specs.Lent.{held};
-ghost use Rattle.flow.specs.Reachable.{successors};
-ghost use Rattle.flow.specs.Findings.{any_flag, is_overwritten_unread, is_overwritten};
-ghost use Rattle.use_words.specs.Words.{use_of, uses_in, AllPlaced};
-ghost use Rattle.uses_by_node.specs.Uses.{Rising, next_in_node, opens_node, edges, marked};
+ghost use Rattle.std.specs.Prelude.{◌≡◌, ◌+◌, ◌<◌, ◌≤◌, length};
+ghost use Rattle.live_steps.specs.Walk.{nodes_of};
+ghost use Rattle.uses_by_node.specs.Uses.{next_in_node, opens_node};
 
-use search::at;
-use use_words::{is_read, is_write, node_of};
+use live_steps::FlowGraph;
+use use_words::PlacedUse;
 
 // Whether the next place holds a use at the same node.
-fn next_in_node(sorted: &[u64], i: usize) -> bool
-    requires { i < length sorted.now }
-    ensures { result ≡ next_in_node sorted.now i }
+#[tactic(auto, using(std::proofs::lemmas::Bool::Decides::nat_tests), unfolding(crate::specs::Uses::next_in_node))]
+fn next_in_node(uses: &[PlacedUse], i: usize) -> bool
+    requires { i < length uses.now }
+    ensures { result ≡ next_in_node uses.now i }
 {
-    let next = i + 1;
-    if next < sorted.len() {
-        node_of(sorted[i]) == node_of(sorted[next])
-    } else {
-        false
-    }
+    i + 1 < uses.len() && uses[i].node == uses[i + 1].node
 }
 
 // Whether place i is the first of its node.
-pub fn opens_node(sorted: &[u64], i: usize) -> bool
-    requires { i < length sorted.now }
-    ensures { result ≡ opens_node sorted.now i }
+pub fn opens_node(uses: &[PlacedUse], i: usize) -> bool
+    requires { i < length uses.now }
+    ensures { result ≡ opens_node uses.now i }
 {
-    if i == 0 {
-        true
-    } else {
-        !next_in_node(sorted, i - 1)
-    }
+    i == 0 || !next_in_node(uses, i - 1)
 }
 
-// Whether v is a node that is marked.
-fn is_marked(marks: &[u16], n: usize, stamp: u16, v: usize) -> bool
-    requires { n ≤ length marks.now }
-    ensures { result ≡ (ltb v n && eqb (get_or marks.now v 0) stamp) }
-{
-    if v < n { marks[v] == stamp } else { false }
+// What is ahead of a local's nodes: the stamp marks those that a path to a read begins at, and those of a pure write.
+#[derive(Clone, Copy)]
+pub struct AheadMarks<'a> {
+    pub graph: FlowGraph<'a>,
+    pub reads: &'a [u16],
+    pub writes: &'a [u16],
+    pub stamp: u16,
+    ghost as_long: { (nodes_of graph ≤ length reads.now) × (nodes_of graph ≤ length writes.now) },
 }
 
-// Whether a successor of v is marked.
-fn is_ahead(first: &[u64], second: &[u64], marks: &[u16], n: usize, stamp: u16, v: usize) -> bool
-    requires { (n ≤ length first.now) × (n ≤ length second.now) × (n ≤ length marks.now) × (v < n) }
-    ensures { result ≡ any_flag (flags_of stamp n marks.now) (successors (edges n first.now second.now) v) }
-{
-    let a = at(first, v);
-    if is_marked(marks, n, stamp, a) {
-        true
-    } else {
-        let b = at(second, v);
-        is_marked(marks, n, stamp, b)
-    }
-}
+impl AheadMarks<'_> {
+    ghost use Rattle.std.specs.Prelude.{◌&&◌, get_or, drop, ltb, eqb};
+    ghost use Rattle.search.specs.Stamps.{flags_of};
+    ghost use Rattle.flow.specs.Reachable.{successors};
+    ghost use Rattle.flow.specs.Findings.{any_flag, is_overwritten_unread, is_overwritten};
+    ghost use Rattle.use_words.specs.Words.{use_of, uses_in, no_use, AllPlaced};
+    ghost use Rattle.uses_by_node.specs.Uses.{Rising, edges_of};
+    ghost use Rattle.uses_by_node.specs.Marks.{ahead_of};
 
-// Whether of the paths that a value leaves v by, some meets a pure write and none a read.
-pub fn is_overwritten_unread(
-    first: &[u64],
-    second: &[u64],
-    reads: &[u16],
-    writes: &[u16],
-    n: usize,
-    stamp: u16,
-    v: usize,
-) -> bool
-    requires { (n ≤ length first.now) × (n ≤ length second.now) × (n ≤ length reads.now) × (n ≤ length writes.now) × (v < n) }
-    ensures { result ≡ is_overwritten_unread (edges n first.now second.now) (marked stamp n reads.now writes.now) v }
-{
-    if is_ahead(first, second, reads, n, stamp, v) {
-        false
-    } else {
-        is_ahead(first, second, writes, n, stamp, v)
+    // Whether v is a node that is marked.
+    #[tactic(auto, using(std::proofs::lemmas::Bool::Decides::nat_tests))]
+    fn is_marked(&self, marks: &[u16], v: u64) -> bool
+        requires { nodes_of self.now.graph ≤ length marks.now }
+        ensures { result ≡ (ltb v (nodes_of self.now.graph) && eqb (get_or marks.now v 0) self.now.stamp) }
+    {
+        v < self.graph.first.len() as u64 && marks[v as usize] == self.stamp
     }
-}
 
-// Whether the use at place i is an overwritten write: by the next use in its node or, where none follows there, by what the paths from its node meet.
-pub fn is_overwritten(
-    first: &[u64],
-    second: &[u64],
-    sorted: &[u64],
-    reads: &[u16],
-    writes: &[u16],
-    n: usize,
-    stamp: u16,
-    i: usize,
-) -> bool
-    requires n_in_bounds { (n ≤ length first.now) × (n ≤ length second.now) × (n ≤ length reads.now) × (n ≤ length writes.now) × (i < length sorted.now) }
-    requires all_placed { AllPlaced n sorted.now × Rising sorted.now }
-    ensures { result ≡ is_overwritten (edges n first.now second.now) (marked stamp n reads.now writes.now) (use_of (get_or sorted.now i 0)) (uses_in (drop (i + 1) sorted.now)) }
-{
-    let word = sorted[i];
-    if !is_write(word) {
-        return false;
+    // Whether a successor of v is marked.
+    fn is_ahead(&self, marks: &[u16], v: usize) -> bool
+        requires { (nodes_of self.now.graph ≤ length marks.now) × (v < nodes_of self.now.graph) }
+        ensures { result ≡ any_flag (flags_of self.now.stamp (nodes_of self.now.graph) marks.now) (successors (edges_of self.now.graph) v) }
+    {
+        self.is_marked(marks, self.graph.first[v]) || self.is_marked(marks, self.graph.second[v])
     }
-    if next_in_node(sorted, i) {
-        return !is_read(sorted[i + 1]);
+
+    // Whether of the paths that a value leaves v by, some meets a pure write and none a read.
+    pub fn is_overwritten_unread(&self, v: usize) -> bool
+        requires { v < nodes_of self.now.graph }
+        ensures { result ≡ is_overwritten_unread (edges_of self.now.graph) (ahead_of self.now) v }
+    {
+        !self.is_ahead(self.reads, v) && self.is_ahead(self.writes, v)
     }
-    let v = node_of(word);
-    is_overwritten_unread(first, second, reads, writes, n, stamp, v)
+
+    // Whether the use at place i is an overwritten write: by the next use in its node or, where none follows there, by what the paths from its node meet.
+    pub fn is_overwritten(&self, uses: &[PlacedUse], i: usize) -> bool
+        requires i_in_bounds { i < length uses.now }
+        requires all_placed { AllPlaced (nodes_of self.now.graph) uses.now × Rising uses.now }
+        ensures { result ≡ is_overwritten (edges_of self.now.graph) (ahead_of self.now) (use_of (get_or uses.now i no_use)) (uses_in (drop (i + 1) uses.now)) }
+    {
+        if !uses[i].is_write() {
+            return false;
+        }
+        if next_in_node(uses, i) {
+            return !uses[i + 1].is_read();
+        }
+        self.is_overwritten_unread(usize::from(uses[i].node))
+    }
 }

@@ -1,21 +1,23 @@
--- `name_facts::find_names` meets its contract: at the loop's head the names of the first i words are stored.
+-- `name_facts::find_names` meets its contract: at the loop's head the names of the words before it are stored.
 -- Assumes nothing.
-use mathlib.Core.Path.{refl}
-use Rattle.name_facts.proofs.Names.{reading_begins, reading_turn, reading_ends}
+use mathlib.Core.Path.{sym, ap, ◌∙◌}
+use native.Mathlib.Omega.{arith}
+use borrow.Author.Rules.{rules}
+use Rattle.kinds.specs.Numbers.{kind_number}
+use Rattle.name_facts.proofs.Names.{turn_name, turn_local, turn_other, reading_ends}
 use Rattle.name_facts.proofs.find_names.Goals as goal
+use Rattle.name_facts.proofs.find_names.Goals.{in-Some-Name, in-Some-Local, in_default, in_default-2}
 
-pub loop-i-init : goal.loop-i-init
-loop-i-init c = reading_begins _ _ c.requires.1
-
--- ---- a turn
-pub loop-i-preserved : goal.loop-i-preserved
-loop-i-preserved c =
-    rw (c.values_after-values.ensures, c.before_after-before.ensures)
-    (reading_turn _ _ c.requires.1 c.loop-i.invariant c.loop-i-test.true refl c.store_name-names.auto.facts c.store_name-names.ensures)
-
--- ---- the end
-pub shape_of-facts : goal.shape_of-facts
-shape_of-facts c = c.loop-i.invariant.long
+pub loop-word-preserved : goal.loop-word-preserved
+loop-word-preserved c =
+    elim c.match-of.branch [
+      | in-Some-Name w ↦ rw (w.facts-is, w.names-is, w.values-is, w.before-is)
+          (turn_name c.args.kinds.now _ c.requires.1 c.loop-word.invariant c.loop-word-test.true (sym w.in-Some-Name.ensures ∙ ap kind_number w.in-Some-Name.field-0-is) (omega arith) w.facts_of.ensures)
+      | in-Some-Local w ↦ rw (w.facts-is, w.names-is, w.values-is, w.before-is)
+          (turn_local c.args.kinds.now _ c.requires.1 c.loop-word.invariant c.loop-word-test.true (sym w.in-Some-Local.ensures ∙ ap kind_number w.in-Some-Local.field-0-is))
+      | in_default w ↦ rw (w.facts-is, w.names-is, w.values-is, w.before-is) (turn_other c.args.kinds.now _ c.requires.1 c.loop-word.invariant c.loop-word-test.true (search rules) (search rules))
+      | in_default-2 w ↦ rw (w.facts-is, w.names-is, w.values-is, w.before-is) (turn_other c.args.kinds.now _ c.requires.1 c.loop-word.invariant c.loop-word-test.true (search rules) (search rules))
+    ]
 
 pub returns : goal.returns
-returns c = reading_ends _ _ c.requires.1 c.loop-i.invariant c.loop-i-test.false
+returns c = reading_ends _ _ c.requires.1 c.loop-word.invariant (omega arith)

@@ -1,21 +1,14 @@
 -- `next_uses::search_back` meets its contract: the law of a search by a stamp, for every graph whose chains these are.
 -- Assumes nothing.
-use Prim.Native.Nat.{ℕ}
-use mathlib.Core.Path.{◌≡◌}
-use mathlib.Core.List.{List}
-use lib.ListN.{length}
-use Rattle.search.specs.Worklist.{st}
 use Rattle.search.specs.Stamps.{flagged}
+use Rattle.search.specs.Running.{state_of}
 use Rattle.search.proofs.Worklist.{measure}
-use Rattle.search.proofs.Stamps.{Underway}
-use Rattle.use_words.specs.Words.{AllPlaced}
-use Rattle.live_steps.specs.Walk.{declared}
-use Rattle.predecessors.specs.Predecessors.{Linked}
-use Rattle.next_uses.proofs.Walks.{back_search}
+use Rattle.predecessors.specs.Ways.{nodes_back}
+use Rattle.next_uses.proofs.Backing.{Backing}
 use Rattle.next_uses.proofs.search_back.Given as goal
 
-abbrev pub invariant-loop-top : goal.invariant-loop-top
-invariant-loop-top l = (length l.marks ≡ length l.initial.marks) × (length l.stack ≡ length l.initial.stack) × ((f s : List ℕ) → Linked f s l.n l.n l.chain → (p : AllPlaced l.n l.sorted) → Underway l.stamp (back_search l.start (declared l.declaration) l.sorted l.pure l.n p l.stamp l.used f s) (st l.marks l.stack l.top))
+abbrev pub invariant-loop-u : goal.invariant-loop-u
+invariant-loop-u l = Backing l.way l.uses l.fn.sought l.fn.search l.search
 
-abbrev pub decreases-loop-top : goal.decreases-loop-top
-decreases-loop-top l = measure l.n (flagged l.stamp l.n (st l.marks l.stack l.top))
+abbrev pub decreases-loop-u : goal.decreases-loop-u
+decreases-loop-u l = measure (nodes_back l.way) (flagged l.fn.search.stamp (nodes_back l.way) (state_of l.search))

@@ -1,59 +1,50 @@
--- `predecessors::build_predecessors` meets its contract. The loop's invariant: the chains have the edges of the nodes below u, and the words from u on have a head alone.
+-- `predecessors::build_predecessors` meets its contract. The loop's invariant: the chains have the edges of the nodes passed, and the two columns are passed as far.
 -- Assumes nothing.
-use Prim.Native.Nat.{ℕ}
-use mathlib.Core.Path.{◌≡◌, refl, sym, ◌∙◌, subst}
-use mathlib.Core.List.{List}
-use native.Mathlib.Omega.{arith}
-use lib.ListN.{take}
-use lib.Seq.{get_or-take}
+use Rattle.std.proofs.Common.{rules, get_or, suc, length-drop, ◌≡◌, ℕ, ◌<◌, ◌≤◌, length, sym, ◌∙◌, ap, subst, arith}
+use mathlib.Core.Logic.{⊎_elim}
+use Rattle.live_steps.specs.Walk.{nodes_of}
 use Rattle.predecessors.specs.Predecessors.{Linked}
-use Rattle.predecessors.proofs.Links.{Half, none_built, first_linked, second_linked}
+use Rattle.predecessors.proofs.Building.{none_built, turn_linked, turn_long, drop_next}
 use Rattle.predecessors.proofs.build_predecessors.Goals as goal
-use Rattle.predecessors.proofs.build_predecessors.Goals.{After-link, Start}
 
-abbrev firsts : Start → List ℕ
-firsts c = take c.args.n c.args.first.now
-
-abbrev seconds : Start → List ℕ
-seconds c = take c.args.n c.args.second.now
-
--- the chains with the first edge
-half : (c : After-link) → Half (firsts (goal.at.After-link c).Start) (seconds (goal.at.After-link c).Start) c.args.n c.loop-u.u c.link.new.chain
-half c =
-    let d = (goal.at.After-link c).Start in
-    first_linked (firsts d) (seconds d) c.args.n c.loop-u.u c.loop-u.chain c.requires.n_bound.0 c.loop-u-test.true c.loop-u.invariant.1 c.at-a.result c.link.new.chain (c.at-a.ensures ∙ sym (get_or-take c.args.n c.args.first.now c.loop-u.u 0 c.loop-u-test.true)) c.link.ensures
-
--- ---- before the loop
 pub loop-u-init : goal.loop-u-init
 loop-u-init c =
-    let d = (goal.at.loop-u-init c).Start in
-    (omega arith, none_built (firsts d) (seconds d) c.args.n c.args.chain.now c.requires.blank, refl)
-
--- ---- a turn
-pub link-requires : goal.link-requires
-link-requires c =
-    let bare = c.loop-u.invariant.1.bare c.loop-u.u (omega arith) c.loop-u-test.true in
-    record { u_lt_n = (c.loop-u-test.true, c.loop-u.invariant.1.linked.holds, omega (arith, bare)); place_bound = (omega arith, omega arith) }
-
-pub link-requires-in-loop-u : goal.link-requires-in-loop-u
-link-requires-in-loop-u c =
-    let h = half (goal.at.link-requires-in-loop-u c).After-link in
-    record { u_lt_n = (c.loop-u-test.true, h.holds, h.room); place_bound = (omega arith, omega arith) }
+    let z : c.into_iter-u-iterator.result.count ≡ 0 = search rules in
+    rw z (record {
+      linked = none_built c.args.graph.first.now c.args.graph.second.now (nodes_of c.args.graph) c.args.chain.now c.requires.1;
+      long = c.requires.0;
+      passed = omega arith;
+      firsts = search rules;
+      seconds = search rules;
+    })
 
 pub loop-u-preserved : goal.loop-u-preserved
 loop-u-preserved c =
-    let d = (goal.at.loop-u-preserved c).Start in (
-      omega arith,
-      second_linked (firsts d) (seconds d) c.args.n c.loop-u.u c.link.new.chain c.requires.n_bound.0 c.loop-u-test.true (half (goal.at.loop-u-preserved c).After-link) c.at-b.result c.link-in-loop-u.new.chain (c.at-b.ensures ∙ sym (get_or-take c.args.n c.args.second.now c.loop-u.u 0 c.loop-u-test.true)) c.link-in-loop-u.ensures,
-      c.link-in-loop-u.auto.chain ∙ c.link.auto.chain ∙ c.loop-u.invariant.2,
-    )
-
--- ---- after the loop
-pub shape_of-chain : goal.shape_of-chain
-shape_of-chain c = c.loop-u.invariant.2
+    let n = nodes_of c.args.graph in
+    let k = c.loop-u.u-iterator.count in
+    let u = c.in-Some.u in
+    let step = c.in-Some.ensures.steps in
+    let f = drop_next k c.args.graph.first.now _ _ (sym c.loop-u.invariant.firsts ∙ step.0.0) in
+    let s = drop_next k c.args.graph.second.now _ _ (sym c.loop-u.invariant.seconds ∙ step.0.1) in
+    let l = subst (λ (x : ℕ). Linked c.args.graph.first.now c.args.graph.second.now n x c.loop-u.chain) (sym step.1) c.loop-u.invariant.linked in
+    let a = f.1 ∙ ap (λ (x : ℕ). get_or c.args.graph.first.now x 0) (sym step.1) in
+    let b = s.1 ∙ ap (λ (x : ℕ). get_or c.args.graph.second.now x 0) (sym step.1) in
+    let next : c.next.new.self.count ≡ suc u = omega (arith, step.1, step.2) in
+    let here : u < n = omega (arith, f.0, step.1) in
+    record {
+      linked = rw next (turn_linked c.args.graph.first.now c.args.graph.second.now n u here c.loop-u.chain l c.loop-u.invariant.long c.in-Some.a.now c.in-Some.b.now c.put_in_front.result c.put_in_front-in-loop-u.result a b c.put_in_front.new.chain c.put_in_front-in-loop-u.new.chain c.put_in_front.ensures.linked c.put_in_front-in-loop-u.ensures.linked c.put_in_front.ensures.follows c.put_in_front-in-loop-u.ensures.follows);
+      long = turn_long c.args.graph.first.now c.args.graph.second.now n u here c.loop-u.chain l c.loop-u.invariant.long c.in-Some.a.now c.in-Some.b.now c.put_in_front.result c.put_in_front-in-loop-u.result a b c.put_in_front.new.chain c.put_in_front-in-loop-u.new.chain c.put_in_front.ensures.linked c.put_in_front-in-loop-u.ensures.linked;
+      passed = omega (arith, f.0, step.2);
+      firsts = rw step.2 f.2;
+      seconds = rw step.2 s.2;
+    }
 
 pub returns : goal.returns
 returns c =
-    let d = (goal.at.returns c).Start in
-    let e : c.loop-u.u ≡ c.args.n = omega arith in
-    subst (λ (k : ℕ). Linked (firsts d) (seconds d) c.args.n k c.loop-u.chain) e c.loop-u.invariant.1.linked
+    let k = c.loop-u.u-iterator.count in
+    let whole : length c.args.graph.first.now ≤ k =
+    ⊎_elim
+    (λ x. omega (arith, x.1.0, ap length c.loop-u.invariant.firsts, length-drop k c.args.graph.first.now))
+    (λ x. omega (arith, x.1.0, ap length c.loop-u.invariant.seconds, length-drop k c.args.graph.second.now)) c.in-None.ensures.steps.0 in
+    let e : k ≡ nodes_of c.args.graph = omega arith in
+    subst (λ (k : ℕ). Linked c.args.graph.first.now c.args.graph.second.now (nodes_of c.args.graph) k c.loop-u.chain) e c.loop-u.invariant.linked

@@ -1,13 +1,16 @@
--- `predecessors::build_predecessors` meets its contract. The loop's invariant: the chains have the edges of the nodes below u, and the words from u on have a head alone.
+-- `predecessors::build_predecessors` meets its contract. The loop's invariant: the chains have the edges of the nodes passed, and the two columns are passed as far.
 -- Assumes nothing.
-use Prim.Native.Nat.{◌≤◌, ◌-◌}
-use mathlib.Core.Path.{◌≡◌}
-use lib.ListN.{length, take}
-use Rattle.predecessors.proofs.Links.{Building}
+use Rattle.std.proofs.Common.{◌≡◌, ◌≤◌, length, drop}
+use Rattle.live_steps.specs.Walk.{nodes_of}
+use Rattle.predecessors.specs.Predecessors.{Linked}
 use Rattle.predecessors.proofs.build_predecessors.Given as goal
 
 abbrev pub invariant-loop-u : goal.invariant-loop-u
-invariant-loop-u l = (l.u ≤ l.n) × Building (take l.n l.first) (take l.n l.second) l.n l.u l.chain × (length l.chain ≡ length l.initial.chain)
-
-abbrev pub decreases-loop-u : goal.decreases-loop-u
-decreases-loop-u l = l.n - l.u
+invariant-loop-u l =
+    record {
+      linked : Linked l.graph.first.now l.graph.second.now (nodes_of l.graph) l.u-iterator.count l.chain;
+      long : length l.chain ≡ nodes_of l.graph;
+      passed : l.u-iterator.count ≤ nodes_of l.graph;
+      firsts : l.u-iterator.iter.a.rest.now ≡ drop l.u-iterator.count l.graph.first.now;
+      seconds : l.u-iterator.iter.b.rest.now ≡ drop l.u-iterator.count l.graph.second.now;
+    }
