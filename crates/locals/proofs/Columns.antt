@@ -1,22 +1,15 @@
 -- What the columns of a pass hold for one local: its part, its declaration, and the nodes of the graph.
 -- Assumes nothing.
-use Prim.Native.Nat.{ℕ, ◌+◌, ◌<◌}
+use Prim.Native.Nat.{ℕ, ◌<◌}
 use mathlib.Core.Path.{◌≡◌, sym, ap, ◌∙◌}
 use mathlib.Core.List.{List}
-use native.Mathlib.Omega.{arith}
 use lib.ListN.{get_or, take}
 use lib.Seq.{get_or-take}
 use Rattle.flow.specs.Graph.{Graph, graph}
 use Rattle.flow.specs.Locals.{declaration}
-use Rattle.flow.specs.Findings.{Use}
-use Rattle.use_words.specs.declared.PlacedUse.{PlacedUse}
 use Rattle.live_steps.specs.declared.LocalDeclaration.{LocalDeclaration}
 use Rattle.live_steps.specs.Walk.{Charts, chart, declared}
-use Rattle.locals.specs.Columns.{Named, Cut, Parts}
-
--- each local has a part
-pub part_cut : {list : ℕ → List Use} {m n names : ℕ} {starts : List ℕ} {column : List PlacedUse} → Parts list m n names starts column → (ℓ : ℕ) → ℓ < names → Cut ℓ starts column
-part_cut p ℓ h = record { inside = omega (arith, p.starts_long); rising = p.rising ℓ h; within = omega (arith, p.within (ℓ + 1) (omega arith), p.column_long) }
+use Rattle.locals.specs.Columns.{Named}
 
 -- a declaration that was read from the columns of names is 01's
 pub declared_at : {S : List ℕ} {n names : ℕ} {node_of_name name_end : List ℕ} → Named S n names node_of_name name_end → (ℓ : ℕ) → ℓ < names → (d : LocalDeclaration) → d.node ≡ get_or node_of_name ℓ 0 → d.scope_end ≡ get_or name_end ℓ 0 → declared d ≡ declaration (graph S) ℓ

@@ -1,19 +1,15 @@
 -- Words are listed one after the other: none, one, and some after others.
 -- Assumes nothing.
-use Prim.Native.Nat.{ℕ, ◌+◌, ◌<◌, ◌≤◌}
-use mathlib.Core.Path.{◌≡◌, refl, sym, ap, ap₂, ◌∙◌}
-use mathlib.Core.List.{List, [], ◌∷◌, ◌++◌, append_assoc}
+use Prim.Native.Nat.{ℕ, ◌+◌, ◌≤◌}
+use mathlib.Core.Path.{◌≡◌, sym, ap, ap₂, ◌∙◌}
+use mathlib.Core.List.{List, [], ◌++◌, append_assoc}
 use native.Mathlib.Omega.{arith}
-use native.Mathlib.Numerals.{add-one}
-use lib.ListN.{length, set, take, drop, length-append, length-drop, take-append-drop}
-use lib.Seq.{set_split, take_at, drop_at, drop-drop, length-take-le}
+use lib.ListN.{length, take, drop, length-append, length-drop, take-append-drop}
+use lib.Seq.{take_at, drop_at, drop-drop, length-take-le}
 use Rattle.locals.specs.Entries.{Put, Added}
 
 put_none : (k : ℕ) (old : List ℕ) → Put [] k old old
 put_none k old = let e : k + 0 ≡ k = omega arith in rw e (sym (take-append-drop k old))
-
-put_one : (x k : ℕ) (old : List ℕ) → k < length old → Put (x ∷ []) k old (set old k x)
-put_one x k old h = rw (add-one k) (set_split old k x h)
 
 module _ (xs : List ℕ) (k : ℕ) (old : List ℕ) (room : k + length xs ≤ length old) where
   head_long : length (take k old ++ xs) ≡ k + length xs
@@ -41,9 +37,6 @@ module _ (xs : List ℕ) (k : ℕ) (old : List ℕ) (room : k + length xs ≤ le
 
 pub added_none : (k : ℕ) (old : List ℕ) → Added [] k old k old
 added_none k old = record { counted = omega arith; entered = put_none k old }
-
-pub added_one : (w k : ℕ) (old : List ℕ) → k < length old → Added (w ∷ []) k old (k + 1) (set old k w)
-added_one w k old h = record { counted = refl; entered = put_one w k old h }
 
 module _ {xs : List ℕ} {k : ℕ} {old : List ℕ} {r : ℕ} {mid : List ℕ} (p : Added xs k old r mid) where
   -- the column is as long as it was

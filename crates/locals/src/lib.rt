@@ -55,7 +55,7 @@ pub struct PassTables<'a> {
     pub uses: UseTable<'a>,
 }
 
-// The words of findings, one after the other.
+// The words of findings, one after the other. The count stands beside the column, since that is memory which C lends.
 #[derive(Drop)]
 pub struct FindingList<'a> {
     pub words: &'a mut [u64],

@@ -61,9 +61,6 @@ one_more w b = go (eqb (kind_of w) NAME)
     go false = omega arith
 
 module _ (kinds : List ℕ) (facts₀ : List NameFacts) (room : length kinds ≤ length facts₀) where
-  pub reading_begins : Reading kinds facts₀ facts₀ 0 0 0 0
-  reading_begins = record { within = omega arith; few = omega arith; short = omega arith; long = refl; cells = refl; rest = refl }
-
   module _ {facts : List NameFacts} {names values before i : ℕ} (r : Reading kinds facts₀ facts names values before i) where
     pub reading_turn : i < length kinds → {w k : ℕ} {facts' : List NameFacts} → w ≡ get_or kinds i 0 → length facts' ≡ length facts → Stored (name_here w values before) names facts facts' k → Reading kinds facts₀ facts' k (values_after w values) (before_after w before) (i + 1)
     unfolding locals_in

@@ -9,7 +9,8 @@ use facts::NameFacts;
 use kinds::Kind;
 use words::ARGUMENT;
 
-// As many values stand for a call or `...` last: no name of the LOCAL lacks one.
+// As many values stand for a call or `...` last: no name of the LOCAL lacks one. An Option would be no plainer: it would be made of a
+// LOCAL's word and asked in one place.
 const OPEN: u64 = 65535;
 
 // A name's facts: its flags, and whether it has one of its LOCAL's values, where `before` names of the LOCAL stand before it.
@@ -26,7 +27,8 @@ fn facts_of(flags: u64, values: u64, before: u64) -> NameFacts
     }
 }
 
-// The facts of each name of a sheet, by the words of its items, and how many names there are.
+// The facts of each name of a sheet, by the words of its items, and how many names there are: the column is fixed memory, which the
+// caller cuts to that.
 pub fn find_names(kinds: &[u64], facts: &mut [NameFacts]) -> usize
     requires { (length kinds.now ≤ 1024) × (length kinds.now ≤ length facts.old) }
     ensures { Stored (locals_in 0 0 kinds.now) 0 facts.old facts.new result }
