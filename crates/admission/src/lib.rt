@@ -29,7 +29,7 @@ fn item_verdict(sheet: &[u64]) -> Result<(), Refusal>
     if too_deep(items) {
         return Err(Refusal::TooDeep);
     }
-    if bad_nesting(items.words, items.spans) {
+    if bad_nesting(items) {
         return Err(Refusal::BadNesting);
     }
     if off_the_line(outer, items.words, items.spans) {

@@ -1,4 +1,4 @@
-// What holds inside a block, as a struct that each builder changes and puts back: "Break target, continue target and scope end return to
+// What holds inside a block, as a struct whose methods take it and hand it back: "Break target, continue target and scope end return to
 // their outer settings when a body closes".
 #![tactic(auto)]
 
@@ -16,24 +16,27 @@ pub struct BlockSettings {
 
 impl BlockSettings {
     // Inside a scope that ends at scope_end.
-    pub fn enter_scope(&mut self, scope_end: u64)
-        ensures { self.new ≡ scope_settings scope_end self.old }
+    pub fn enter_scope(mut self, scope_end: u64) -> BlockSettings
+        ensures { result ≡ scope_settings scope_end self }
     {
         self.scope_end = scope_end;
+        self
     }
 
     // Inside a loop: where BREAK and CONTINUE go.
-    pub fn enter_loop(&mut self, break_target: usize, continue_target: usize)
-        ensures { self.new ≡ loop_settings break_target continue_target self.old }
+    pub fn enter_loop(mut self, break_target: usize, continue_target: usize) -> BlockSettings
+        ensures { result ≡ loop_settings break_target continue_target self }
     {
         self.break_target = break_target;
         self.continue_target = continue_target;
+        self
     }
 
     // Outside again, with the labels in force there.
-    pub fn return_to(&mut self, outer: BlockSettings)
-        ensures { self.new ≡ outer }
+    pub fn return_to(mut self, outer: BlockSettings) -> BlockSettings
+        ensures { result ≡ outer }
     {
-        *self = outer;
+        self = outer;
+        self
     }
 }

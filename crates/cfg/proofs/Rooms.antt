@@ -13,7 +13,9 @@ use Rattle.flow.specs.Tree.{Open, simple, do_block, while_loop, repeat_loop, for
 use Rattle.flow.specs.Size.{stmt_nodes, block_nodes, arm_nodes}
 use Rattle.flow.specs.Graph.{Graph}
 use Rattle.flow.proofs.NodeCount.{built_count}
-use Rattle.blocks.specs.Open.{item_at, open_at, Ender}
+use Rattle.blocks.specs.Open.{item_at, open_at, Ender, ends_at}
+use Rattle.blocks.proofs.Scan.{ends, ends_not}
+use Rattle.kinds.specs.Ends.{ends_block}
 use Rattle.blocks.proofs.Parse.{read_at, read_do, read_while, read_repeat, read_for, read_if, read_elseif, read_else, read_simple}
 use Rattle.kinds.specs.Starts.{has_start}
 use Rattle.cfg_steps.specs.Columns.{Place, Cols, simple_made, Good}
@@ -78,6 +80,14 @@ pub close_starts : (w : ℕ) → closes (kind_of w) ≡ true → has_start w ≡
 close_starts w c = elim (ℕ_discrete (kind_of w) 8) [ yes e ↦ rw e | no p ↦ elim (ℕ_discrete (kind_of w) 9) [ yes e ↦ rw e | no q ↦ absurd (false≢true (rw (ne_eqb (kind_of w) 8 p, ne_eqb (kind_of w) 9 q) at c)) ] ]
 
 -- ---- what ends a block
+
+pub block_ends : (k : ℕ) → ends_block k ≡ true → Ender k
+unfolding ends_at
+block_ends k e = ends k e
+
+pub block_goes_on : (k : ℕ) → ends_block k ≡ false → Ender k → ⊥
+unfolding ends_at
+block_goes_on k e = ends_not k e
 
 -- a word of a kind that opens nothing
 abbrev pub OpensNone : ℕ → Type 0

@@ -3,12 +3,12 @@
 
 ghost use Rattle.std.specs.Prelude.{◌≡◌, true, false, ◌+◌, ◌≤◌, ◌<◌, length, get_or};
 ghost use Rattle.flow.specs.Sheet.{kind_of};
+ghost use Rattle.kinds.specs.Ends.{ends_block};
 ghost use Rattle.search.specs.Lent.{held, left};
 ghost use Rattle.cfg_steps.specs.Columns.{cols, cols_at, place, columns, Good, Kept};
 ghost use Rattle.cfg.specs.Steps.{Sane, ForSpans, Stepped, Opened, Finished, Scoped, Looped, Arm, ArmBuilt, Chosen, BlockRoom, EnteredRoom, AtStmt, PastHead, AtEnd, AtArm, Started, Wide, WholeRoom, Whole};
 
 use block_settings::BlockSettings;
-use blocks::ends_at;
 use cfg_steps::GraphBuilder;
 use flow::Counts;
 use if_builder::IfBuilder;
@@ -24,6 +24,14 @@ fn past(at: usize, len: usize) -> usize
     if at < len { at + 1 } else { at }
 }
 
+// Whether the block that an item stands behind ends there.
+#[tactic(auto, using(std::proofs::lemmas::Bool::Decides::nat_tests))]
+fn ends_block(word: u64) -> bool
+    ensures { result ≡ ends_block (kind_of word) }
+{
+    Kind::of(word).is_some_and(|kind| kind.ends_block())
+}
+
 // The statements from the builder's item on, up to the item that ends their block.
 #[cycle(arm_arms_block_for_loop_if_stmt_loop_body_repeat_loop_scoped_block_stmt_while_loop)]
 fn block(b: &mut GraphBuilder<'_>)
@@ -32,7 +40,7 @@ fn block(b: &mut GraphBuilder<'_>)
     ensures built { ForSpans b.old.kinds.now (λ ks ss. Finished ks ss (place b.old) (columns b.old) (place b.new) (columns b.new)) }
 {
     while let Some(&word) = b.kinds.get(b.item) {
-        if ends_at(word % ARGUMENT, 0) {
+        if ends_block(word) {
             return;
         }
         stmt(b);
@@ -47,10 +55,10 @@ fn scoped_block(b: &mut GraphBuilder<'_>, scope_end: u64)
     ensures built { ForSpans b.old.kinds.now (λ ks ss. Scoped ks ss scope_end (place b.old) (columns b.old) (place b.new) (columns b.new)) }
 {
     let outer = b.settings;
-    b.settings.enter_scope(scope_end);
+    b.settings = outer.enter_scope(scope_end);
     b.enter_block();
     block(b);
-    b.settings.return_to(outer);
+    b.settings = b.settings.return_to(outer);
 }
 
 // A loop's body: BREAK goes to break_target, CONTINUE and the body's end to continue_target.
@@ -62,10 +70,10 @@ fn loop_body(b: &mut GraphBuilder<'_>, scope_end: u64, break_target: usize, cont
     ensures built { ForSpans b.old.kinds.now (λ ks ss. Looped ks ss scope_end break_target continue_target (place b.old) (columns b.old) (place b.new) (columns b.new)) }
 {
     let outer = b.settings;
-    b.settings.enter_loop(break_target, continue_target);
+    b.settings = outer.enter_loop(break_target, continue_target);
     scoped_block(b, scope_end);
     b.close_into(continue_target);
-    b.settings.return_to(outer);
+    b.settings = b.settings.return_to(outer);
 }
 
 // The WHILE of item i.

@@ -1,7 +1,7 @@
 // The edges of a graph that is being built: an edge in its word, and the node that a label's name stands for.
 #![tactic(auto)]
 
-ghost use Rattle.std.specs.Prelude.{◌≡◌, ◌≤◌, ◌<◌, ◌^◌, length, IfSome};
+ghost use Rattle.std.specs.Prelude.{◌≡◌, ◌<◌, ◌^◌, length, IfSome};
 ghost use Rattle.flow.specs.Graph.{label_node};
 ghost use Rattle.cfg_edges.specs.Halves.{joined_from, label_list};
 

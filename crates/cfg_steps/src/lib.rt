@@ -3,11 +3,11 @@
 #![tactic(auto)]
 
 ghost use Rattle.std.specs.Prelude.{◌≡◌, true, false, cond, eqb, List, [], ◌∷◌, ℕ, ◌+◌, ◌%◌, ◌≤◌, ◌<◌, ◌^◌, length, get_or, set};
-ghost use Rattle.flow.specs.Sheet.{kind_of, argument_of};
+ghost use Rattle.flow.specs.Sheet.{kind_of};
 ghost use Rattle.flow.specs.Graph.{new_node, advance_to, code, close_into, jump, record_code, declare, connect, set_current, enter_when, unless_true, label_node};
 ghost use Rattle.blocks.specs.Open.{labels_at};
 ghost use Rattle.cfg_edges.specs.Halves.{label_list};
-ghost use Rattle.cfg_steps.specs.Columns.{place, columns, cursor_node, settings_of, Good, Standing, Does, DoesCode, DoesSimple, Enters, LabelsFit, EdgesOnly, CodesOnly, NamesOnly, EdgesAndCodes, EdgesAndLabels, LabelsKept, Kept, labelled, gone, repeat_end, simple_made};
+ghost use Rattle.cfg_steps.specs.Columns.{place, columns, cursor_node, settings_of, Good, Standing, Does, DoesCode, DoesSimple, Enters, LabelsFit, EdgesOnly, CodesOnly, NamesOnly, EdgesAndCodes, EdgesAndLabels, LabelsKept, labelled, gone, repeat_end, simple_made};
 
 use block_settings::BlockSettings;
 use blocks::block_labels;

@@ -1,51 +1,43 @@
-// The lines of findings, written into a lent output.
+// The lines of findings, written into an output.
 #![tactic(auto)]
 
-ghost use Rattle.std.specs.Prelude.{◌≡◌, ◌-◌, ◌≤◌, length};
+ghost use Rattle.std.specs.Prelude.{◌≡◌};
 ghost use Rattle.flow.specs.Listing;
-ghost use Rattle.line_writer.specs.Output.{Room, Appended};
-ghost use Rattle.finding_lines.specs.Findings.{first_findings};
+ghost use Rattle.line_writer.specs.Output.{HasRoom, Appends};
+ghost use Rattle.finding_lines.specs.Findings.{findings_of};
 
-use line_writer::line;
+use line_writer::Output;
 use words::HALF;
 use words::finding::LOCAL;
 
 // So many locals a finding's lower half has room for.
 const LOCALS: u64 = HALF / LOCAL;
 
-// The use number of a finding, whose word has one more in its upper half. A finding without a use has 0 there, and is never unassigned.
-fn use_number(upper: u64) -> u64
-    ensures { result ≡ upper - 1 }
-{
-    if upper == 0 { 0 } else { upper - 1 }
-}
-
-// `unassigned LOCAL USE START END` or `overwritten LOCAL START END`.
-fn finding_line(output: &mut [u8], at: usize, word: u64, span: u64) -> usize
-    requires { Room (Listing.finding_line (record { word = word; span = span })) at output.old }
-    ensures { Appended (Listing.finding_line (record { word = word; span = span })) at output.old output.new result }
+// `unassigned LOCAL USE START END` or `overwritten LOCAL START END`. The upper half has one more than the use number, and 0 where
+// there is no use, which is never unassigned.
+fn finding_line(output: &mut Output, word: u64, span: u64)
+    requires { HasRoom (Listing.finding_line (record { word = word; span = span })) output.old }
+    ensures same { output.new.bytes.ghost_name ≡ output.old.bytes.ghost_name }
+    ensures appended { Appends (Listing.finding_line (record { word = word; span = span })) output.old output.new }
 {
     let local = word / LOCAL % LOCALS;
+    let start = span % HALF;
+    let end = span / HALF;
     if word % LOCAL == 0 {
-        let values = [local, use_number(word / HALF), span % HALF, span / HALF];
-        line(output, at, b"unassigned", &values)
+        let read = (word / HALF).saturating_sub(1);
+        output.line("unassigned", &[local, read, start, end]);
     } else {
-        let values = [local, span % HALF, span / HALF];
-        line(output, at, b"overwritten", &values)
+        output.line("overwritten", &[local, start, end]);
     }
 }
 
-// A line for each of the first n findings.
-pub fn finding_lines(output: &mut [u8], at: usize, words: &[u64], spans: &[u64], n: usize) -> usize
-    requires n_in_bounds { (n ≤ length words.now) × (n ≤ length spans.now) }
-    requires room { Room (Listing.finding_lines (first_findings n words.now spans.now)) at output.old }
-    ensures { Appended (Listing.finding_lines (first_findings n words.now spans.now)) at output.old output.new result }
+// A line for each finding, by its word and its span.
+pub fn finding_lines(output: &mut Output, words: &[u64], spans: &[u64])
+    requires { HasRoom (Listing.finding_lines (findings_of words.now spans.now)) output.old }
+    ensures same { output.new.bytes.ghost_name ≡ output.old.bytes.ghost_name }
+    ensures appended { Appends (Listing.finding_lines (findings_of words.now spans.now)) output.old output.new }
 {
-    let mut next = at;
-    let mut i = 0;
-    while i < n {
-        next = finding_line(output, next, words[i], spans[i]);
-        i += 1;
+    for (word, span) in words.iter().zip(spans) {
+        finding_line(output, *word, *span);
     }
-    next
 }

@@ -1,6 +1,6 @@
 -- The numbers of the kinds, as a word has them.
 -- Assumes nothing: these are definitions.
-use Rattle.std.specs.Prelude.{ℕ}
+use Rattle.std.specs.Prelude.{ℕ, Option, Some, None}
 use Rattle.kinds.specs.declared.Kind.{Kind}
 use Rattle.kinds.specs.declared.Kind.TheVariants.{Do, While, Repeat, For, If, ElseIf, Else, End, Until, Local, Name, Label, Goto, Break, Continue, Return, Call, Plain, Empty}
 
@@ -25,3 +25,8 @@ kind_number Return = 16
 kind_number Call = 17
 kind_number Plain = 18
 kind_number Empty = 19
+
+-- 0, which is no kind's, where there is none
+abbrev pub number_or_none : Option Kind → ℕ
+number_or_none None = 0
+number_or_none (Some k) = kind_number k

@@ -21,8 +21,8 @@ const LAST_TRUE: u64 = 8;
 // The argument of a CALL that raises: of bare `error`, whose span holds a reference of that name.
 const RAISES: u64 = 6;
 
-// The kinds of the sheet's table, in the order of its numbers.
-#[derive(Clone, Copy, PartialEq, Eq)]
+// The kinds of the sheet's table, in the order of its numbers. EMPTY fills the places of an array of kinds that are not in use.
+#[derive(Clone, Copy, PartialEq, Eq, Default)]
 pub enum Kind {
     Do,
     While,
@@ -42,6 +42,7 @@ pub enum Kind {
     Return,
     Call,
     Plain,
+    #[default]
     Empty,
 }
 

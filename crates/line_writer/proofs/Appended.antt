@@ -4,7 +4,8 @@
 --     both        one text after another
 --     same-long   the output keeps its length
 --     then-room   the room that is left
---     printed     from the output's start on
+--     printed     into an output where nothing was printed
+--     Left        a text of which a rest is still to be appended: `begin`, `next`, `done`
 -- Assumes nothing.
 use mathlib.Core.Path.{◌≡◌, refl, sym, ap, ◌∙◌}
 use mathlib.Core.List.{List, [], ◌∷◌, ◌++◌, append_assoc, append-nil}
@@ -14,7 +15,8 @@ use native.Mathlib.Numerals.{add-one}
 use native.Mathlib.Omega.{arith}
 use lib.ListN.{length, take, drop, set, length-append, length-drop, take-append-drop}
 use lib.Seq.{length-take-le, take_at, drop-append-add, drop-drop, set_split}
-use Rattle.line_writer.specs.Output.{Room, Appended, Printed}
+use Rattle.line_writer.specs.declared.Output.{Output}
+use Rattle.line_writer.specs.Output.{Room, Appended, HasRoom, Appends, Printed}
 
 pub nothing : {at : ℕ} {old : List ℕ} → Appended [] at old old at
 nothing {at} {old} = record { ends = sym (add-zero at); cells = rw (add-zero, append-nil) (sym (take-append-drop at old)) }
@@ -51,10 +53,27 @@ module _ {xs : List ℕ} {at : ℕ} {old mid : List ℕ} {m : ℕ} (h : Room xs 
     cells = q.cells ∙ rw (p.ends, p.cells, length-append, front, behind (length ys)) (simp (append_assoc, add_assoc));
   }
 
--- from the output's start on
-pub printed : {xs old new : List ℕ} {r : ℕ} → Appended xs 0 old new r → Printed xs old new r
-printed p = record { count = rw zero-add at p.ends; cells = rw zero-add at p.cells }
+-- in bytes that were `old` and are left as `new`
+pub printed : {xs old new : List ℕ} (start end : Output) → Appends xs start end → start.len ≡ 0 → start.bytes.now ≡ old → new ≡ end.bytes.now → Printed xs old new end.len
+printed start end p z o n = record { count = rw (z, zero-add) at p.ends; cells = n ∙ rw (z, o, zero-add) at p.cells }
 
 -- the output holds all of it
 pub within : {xs old new : List ℕ} {r : ℕ} → Printed xs old new r → r ≤ length new
 within p = rw (p.count, p.cells, length-append) (omega arith)
+
+-- of `all`, begun at `start`, `rest` is left to append
+pub record Left (all rest : List ℕ) (start mid : Output) : Type 0 where
+  pub room : HasRoom rest mid
+  pub whole : (end : Output) → Appends rest mid end → Appends all start end
+
+pub begin : {all : List ℕ} {start : Output} → HasRoom all start → Left all all start start
+begin r = record { room = r; whole = λ end a. a }
+
+module _ {all : List ℕ} {start mid : Output} where
+  pub next : (xs ys : List ℕ) {after : Output} → Left all (xs ++ ys) start mid → Appends xs mid after → Left all ys start after
+  next xs ys p q =
+      let r = first_room xs ys p.room in
+      record { room = then_room r q ys p.room; whole = λ end a. p.whole end (both r q a) }
+
+  pub done : Left all [] start mid → Appends all start mid
+  done p = p.whole mid nothing

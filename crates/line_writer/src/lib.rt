@@ -1,82 +1,61 @@
-// Bytes appended to an output: each function writes from `at` on, and returns the place after.
+// Lines appended to lent bytes.
 #![tactic(auto)]
 
-ghost use Rattle.std.specs.Prelude.{◌≡◌, [], ◌∷◌, ◌++◌, ◌+◌, ◌<◌};
+ghost use Rattle.std.specs.Prelude.{◌≡◌, [], ◌∷◌, ◌++◌};
 ghost use Rattle.flow.specs.Listing;
-ghost use Rattle.line_writer.specs.Output.{Room, Appended};
+ghost use Rattle.line_writer.specs.Output.{HasRoom, Appends};
 
-// One byte.
-fn byte(output: &mut [u8], at: usize, b: u8) -> usize
-    requires { Room (b ∷ []) at output.old }
-    ensures { Appended (b ∷ []) at output.old output.new result }
-{
-    output[at] = b;
-    at + 1
+use itoa::Buffer;
+
+// Lent bytes, the first `len` of which are printed.
+#[derive(Drop)]
+pub struct Output<'a> {
+    pub bytes: &'a mut [u8],
+    pub len: usize,
 }
 
-// A fixed text.
-fn text(output: &mut [u8], at: usize, bytes: &[u8]) -> usize
-    requires { Room bytes.now at output.old }
-    ensures { Appended bytes.now at output.old output.new result }
-{
-    let mut next = at;
-    let mut i = 0;
-    while i < bytes.len() {
-        next = byte(output, next, bytes[i]);
-        i += 1;
+impl<'a> Output<'a> {
+    // Nothing is printed yet.
+    pub fn new(bytes: &'a mut [u8]) -> Output<'a>
+        ensures same { result.bytes.ghost_name ≡ bytes.entry.ghost_name }
+        ensures held { result.bytes.now ≡ bytes.old }
+        ensures empty { result.len ≡ 0 }
+    {
+        Output { bytes, len: 0 }
     }
-    next
-}
 
-// The digit of a number below 10.
-fn digit(n: u64) -> u8
-    requires { n < 10 }
-    ensures { result ≡ 48 + n }
-{
-    b'0' + n as u8
-}
-
-// A number in decimal: what stands before its last digit, then that.
-#[tactic(auto, using(crate::proofs::LastDigit::one_digit))]
-fn decimal(output: &mut [u8], at: usize, n: u64) -> usize
-    requires { Room (Listing.decimal n) at output.old }
-    ensures { Appended (Listing.decimal n) at output.old output.new result }
-{
-    if n < 10 {
-        return byte(output, at, digit(n));
+    fn push_str(&mut self, text: &str)
+        requires { HasRoom text.now self.old }
+        ensures same { self.new.bytes.ghost_name ≡ self.old.bytes.ghost_name }
+        ensures appended { Appends text.now self.old self.new }
+    {
+        let end = self.len + text.len();
+        let bytes = &mut *self.bytes;
+        bytes[self.len..end].copy_from_slice(text.as_bytes());
+        self.len = end;
     }
-    let next = decimal(output, at, n / 10);
-    byte(output, next, digit(n % 10))
-}
 
-// A number of a line, with the space before it.
-fn number(output: &mut [u8], at: usize, n: u64) -> usize
-    requires { Room (32 ∷ Listing.decimal n) at output.old }
-    ensures { Appended (32 ∷ Listing.decimal n) at output.old output.new result }
-{
-    let next = byte(output, at, b' ');
-    decimal(output, next, n)
-}
-
-// The numbers of a line, and its newline.
-fn numbers(output: &mut [u8], at: usize, values: &[u64]) -> usize
-    requires { Room (Listing.numbers values.now) at output.old }
-    ensures { Appended (Listing.numbers values.now) at output.old output.new result }
-{
-    let mut next = at;
-    let mut i = 0;
-    while i < values.len() {
-        next = number(output, next, values[i]);
-        i += 1;
+    // A number in decimal, with the space before it.
+    fn push_number(&mut self, n: u64)
+        requires { HasRoom (32 ∷ Listing.decimal n) self.old }
+        ensures same { self.new.bytes.ghost_name ≡ self.old.bytes.ghost_name }
+        ensures appended { Appends (32 ∷ Listing.decimal n) self.old self.new }
+    {
+        let mut digits = Buffer::new();
+        self.push_str(" ");
+        self.push_str(digits.format(n));
     }
-    byte(output, next, b'\n')
-}
 
-// A line: its word and its numbers.
-pub fn line(output: &mut [u8], at: usize, word: &[u8], values: &[u64]) -> usize
-    requires { Room (word.now ++ Listing.numbers values.now) at output.old }
-    ensures { Appended (word.now ++ Listing.numbers values.now) at output.old output.new result }
-{
-    let next = text(output, at, word);
-    numbers(output, next, values)
+    // A line: its word and its numbers.
+    pub fn line(&mut self, word: &str, values: &[u64])
+        requires { HasRoom (word.now ++ Listing.numbers values.now) self.old }
+        ensures same { self.new.bytes.ghost_name ≡ self.old.bytes.ghost_name }
+        ensures appended { Appends (word.now ++ Listing.numbers values.now) self.old self.new }
+    {
+        self.push_str(word);
+        for n in values {
+            self.push_number(*n);
+        }
+        self.push_str("\n");
+    }
 }

@@ -26,10 +26,10 @@ fn of_bytes(input: &[u8], output: &mut [u8]) -> usize
     if file_words::lost_or_spare(input) {
         return lines::refused(output, Refusal::Miscount);
     }
-    let n = input.len() / 8;
-    let mut words = [0u64; file_words::WORDS];
-    file_words::read_words(input, &mut words, n);
-    of_words(&words[..n], output)
+    let mut room = [0u64; file_words::WORDS];
+    let words = &mut room[..input.len() / 8];
+    file_words::read_words(input, words);
+    of_words(words, output)
 }
 
 // What a file prints, in an output with room for all that can be printed; nothing in a shorter one. The result is how many bytes of the output that takes.

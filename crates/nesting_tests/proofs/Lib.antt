@@ -1,3 +1,5 @@
 pub mod Stacks
 pub mod Sweeps
 pub mod Nesting
+pub mod Decoded
+pub mod Opened

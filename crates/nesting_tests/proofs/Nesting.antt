@@ -13,8 +13,6 @@ use Rattle.search.proofs.Bools.{neither, and_both}
 use Rattle.flow.specs.Kinds.{opens, closes}
 use Rattle.flow.specs.Refusals.{one, outnumbered, may_stand, open_after}
 use Rattle.flow.specs.Sheet.{Item, kind, member}
-use Rattle.nesting_tests.specs.Stack.{stack_of}
-use Rattle.nesting_tests.proofs.Stacks.{length_stack_of}
 
 -- an opener and a closer more cancel out
 ltb_suc : (c o : ℕ) → ltb (suc c + 64) (suc o) ≡ ltb (c + 64) o
@@ -108,7 +106,3 @@ turned_length k x y l t h = go (opens k) (closes k) t refl refl refl
 pub open_length : (k : ℕ) (os : List ℕ) → may_stand k os ≡ true → length (open_after k os) ≡ length os + one (opens k) - one (closes k)
 unfolding open_after
 open_length k os e = turned_length k k 7 os (eqb k 7) (λ p. stands_in k os e (rw (eqb-true k 7 p)))
-
-pub depth_next : (k d r : ℕ) (a b : List ℕ) → may_stand k (stack_of d a) ≡ true → stack_of r b ≡ open_after k (stack_of d a) → r ≡ d + one (opens k) - one (closes k)
-depth_next k d r a b m e =
-    sym (length_stack_of r b) ∙ ap length e ∙ open_length k (stack_of d a) m ∙ ap (λ (n : ℕ). n + one (opens k) - one (closes k)) (length_stack_of d a)

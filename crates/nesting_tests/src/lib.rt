@@ -1,117 +1,90 @@
 // Refusal 5, bad nesting: openers and closers that do not pair, arms outside an IF, and neighbours that may not stand side by side.
 #![tactic(auto)]
 
-ghost use Rattle.std.specs.Prelude.{◌≡◌, true, false, ◌&&◌, not, [], ◌∷◌, ◌+◌, ◌≤◌, length};
-ghost use Rattle.flow.specs.Sheet.{member, zip};
-ghost use Rattle.flow.specs.Kinds.{kinds, opens};
+ghost use Rattle.std.specs.Prelude.{◌≡◌, false, List, ℕ, ◌&&◌, not, [], ◌+◌, ◌≤◌};
+ghost use Rattle.arrayvec.specs.ArrayVec.{array_vec_len};
+ghost use Rattle.flow.specs.Sheet.{kind_of, zip};
+ghost use Rattle.flow.specs.Kinds.{opens};
 ghost use Rattle.flow.specs.Refusals.{one, innermost, may_stand, open_after, may_follow, outnumbered, pairs_up, side_by_side};
-ghost use Rattle.nesting_tests.specs.Stack.{stack_of};
+ghost use Rattle.kinds.specs.Numbers.{number_or_none};
+ghost use Rattle.nesting_tests.specs.Stack.{open_kinds};
 
-use kinds::{ends_block, is_closer, is_opener};
+use arrayvec::ArrayVec;
+use kinds::Kind;
+use sheet_parts::Items;
 use words::ARGUMENT;
-use words::kind::{CONTINUE, ELSE, ELSEIF, END, IF, LOCAL, NAME, REPEAT, RETURN, UNTIL};
 use words::limit::DEPTH;
 
-// The kind of the innermost open item, 0 where nothing is open.
-fn innermost_of(opened: &[u64; DEPTH], depth: usize) -> u64
-    requires { depth ≤ 64 }
-    ensures { result ≡ innermost (stack_of depth opened.now) }
+// What stands behind the last item, as a word: its kind is none.
+const NO_ITEM: u64 = 0;
+
+// Whether an item may stand where this kind is the innermost that is open.
+#[tactic(auto, unfolding(flow::specs::Refusals::may_stand))]
+fn may_stand(inner: Option<Kind>, kind: Option<Kind>) -> bool
+    ensures { (os : List ℕ) → innermost os ≡ number_or_none inner → result ≡ may_stand (number_or_none kind) os }
 {
-    if depth == 0 {
-        return 0;
+    match kind {
+        Some(Kind::End) => !matches!(inner, None | Some(Kind::Repeat)),
+        Some(Kind::Until) => inner == Some(Kind::Repeat),
+        Some(Kind::ElseIf | Kind::Else) => inner == Some(Kind::If),
+        _ => true,
     }
-    opened[depth - 1]
 }
 
-fn may_stand(opened: &[u64; DEPTH], depth: usize, kind: u64) -> bool
-    requires { depth ≤ 64 }
-    ensures { result ≡ may_stand kind (stack_of depth opened.now) }
+// What is open past an item. An IF becomes an ELSE once its ELSE has come.
+#[tactic(auto, unfolding(flow::specs::Refusals::open_after))]
+fn open_after(opened: &mut ArrayVec<Kind, DEPTH>, kind: Option<Kind>)
+    requires { array_vec_len opened.old + one (opens (number_or_none kind)) ≤ 64 }
+    ensures { open_kinds opened.new.items ≡ open_after (number_or_none kind) (open_kinds opened.old.items) }
 {
-    let inner = innermost_of(opened, depth);
-    if kind == END {
-        if inner == 0 {
-            return false;
+    match kind {
+        Some(Kind::End | Kind::Until) => {
+            let _ = opened.pop();
         }
-        return inner != REPEAT;
+        Some(Kind::Else) => {
+            let _ = opened.pop();
+            opened.push(Kind::Else);
+        }
+        Some(kind) => {
+            if kind.is_opener() {
+                opened.push(kind);
+            }
+        }
+        None => {}
     }
-    if kind == UNTIL {
-        return inner == REPEAT;
-    }
-    if kind == ELSEIF {
-        return inner == IF;
-    }
-    if kind == ELSE {
-        return inner == IF;
-    }
-    true
 }
 
-// How many items are open past one of this kind. An IF becomes an ELSE once its ELSE has come.
-fn open_after(opened: &mut [u64; DEPTH], depth: usize, kind: u64) -> usize
-    requires opened_len { (length opened.old ≡ 64) × (depth ≤ 64) × (depth + one (opens kind) ≤ 64) }
-    requires opened_value { may_stand kind (stack_of depth opened.old) ≡ true }
-    ensures opened_len_2 { length opened.new ≡ 64 }
-    ensures opened_after { stack_of result opened.new ≡ open_after kind (stack_of depth opened.old) }
+// Whether two items may stand side by side. An item of kind 0, which the table lacks, counts as none.
+#[tactic(auto, unfolding(flow::specs::Refusals::may_follow))]
+fn may_follow(last: Option<Kind>, next: u64) -> bool
+    ensures { result ≡ may_follow (number_or_none last) (kind_of next) }
 {
-    if is_opener(kind) {
-        opened[depth] = kind;
-        return depth + 1;
-    }
-    if is_closer(kind) {
-        return depth - 1;
-    }
-    if kind == ELSE {
-        opened[depth - 1] = ELSE;
-    }
-    depth
-}
-
-// What may follow RETURN and CONTINUE: what ends their block, or 0 at the sheet's end.
-fn ends_block_or_sheet(kind: u64) -> bool
-    ensures { result ≡ member kind (0 ∷ kinds.END ∷ kinds.UNTIL ∷ kinds.ELSEIF ∷ kinds.ELSE ∷ []) }
-{
-    if kind == 0 {
-        return true;
-    }
-    ends_block(kind)
-}
-
-// Whether two kinds may stand side by side, 0 at the sheet's ends.
-fn may_follow(last: u64, kind: u64) -> bool
-    ensures { result ≡ may_follow last kind }
-{
+    let kind = Kind::of(next);
     match last {
-        LOCAL => kind == NAME,
-        NAME => true,
-        RETURN => ends_block_or_sheet(kind),
-        CONTINUE => ends_block_or_sheet(kind),
-        _ => kind != NAME,
+        Some(Kind::Local) => kind == Some(Kind::Name),
+        Some(Kind::Name) => true,
+        Some(Kind::Return | Kind::Continue) => match kind {
+            Some(kind) => kind.ends_block(),
+            None => next % ARGUMENT == 0,
+        },
+        _ => kind != Some(Kind::Name),
     }
 }
 
-pub fn bad_nesting(kinds: &[u64], spans: &[u64]) -> bool
-    requires kinds_len { (length kinds.now ≡ length spans.now) × (length kinds.now ≤ 1024) }
-    requires spans_value { outnumbered 0 0 (zip kinds.now spans.now) ≡ false }
-    ensures { result ≡ not (pairs_up [] (zip kinds.now spans.now) && side_by_side 0 (zip kinds.now spans.now)) }
+pub fn bad_nesting(items: Items<'_>) -> bool
+    requires { outnumbered 0 0 (zip items.words.now items.spans.now) ≡ false }
+    ensures { result ≡ not (pairs_up [] (zip items.entry.words.now items.entry.spans.now) && side_by_side 0 (zip items.entry.words.now items.entry.spans.now)) }
 {
-    let mut opened = [0u64; DEPTH];
-    let mut depth: usize = 0;
-    let mut last = 0;
-    let mut i = 0;
-    while i < kinds.len() {
-        let kind = kinds[i] % ARGUMENT;
-        if !may_stand(&opened, depth, kind) {
+    let mut opened = ArrayVec::<Kind, DEPTH>::new();
+    let mut last = None;
+    for word in items.words {
+        let kind = Kind::of(*word);
+        let inner = opened.as_slice().last().copied();
+        if !may_stand(inner, kind) || !may_follow(last, *word) {
             return true;
         }
-        if !may_follow(last, kind) {
-            return true;
-        }
-        depth = open_after(&mut opened, depth, kind);
+        open_after(&mut opened, kind);
         last = kind;
-        i += 1;
     }
-    if innermost_of(&opened, depth) == 0 {
-        return !may_follow(last, 0);
-    }
-    true
+    !(opened.is_empty() && may_follow(last, NO_ITEM))
 }

@@ -1,7 +1,7 @@
 use Rattle.cfg_steps.proofs.Loops.{move_did}
 use Rattle.std.specs.Prelude.{Some}
 use lib.Dec.{lit≤}
-use Rattle.cfg.proofs.Rooms.{do_room, while_room, repeat_room, for_room, if_room, simple_room, elseif_room, else_room, code_starts, close_starts, simple_kind, ended_on, arms_left, at_item, OpensNone}
+use Rattle.cfg.proofs.Rooms.{do_room, while_room, repeat_room, for_room, if_room, simple_room, elseif_room, else_room, code_starts, close_starts, simple_kind, ended_on, arms_left, at_item, OpensNone, block_ends, block_goes_on}
 use Rattle.cfg.proofs.Choices.{armed_none, armed_more, armed_chosen, chosen_last, arm_else, elseif_built, else_built, opened_stepped, do_stepped, simple_stepped}
 use Rattle.cfg.proofs.Statements.{with_item, good_item, with_cursor, good_cursor, while_opened, repeat_opened, for_opened, if_opened, looped_to}
 use Rattle.cfg.proofs.Scopes.{good_scope, entered_scope, good_loop, scoped_loop, entered_room, scoped, looped}
@@ -12,7 +12,6 @@ use Rattle.cfg_steps.proofs.Simple.{stands, kind_is}
 use Rattle.cfg_steps.specs.Columns.{place, within}
 use Rattle.flow.specs.Sheet.{kind_of}
 use Rattle.blocks.specs.Open.{open_at}
-use Rattle.blocks.proofs.Scan.{ends, ends_not}
 use lib.ListN.{get_or}
 use native.Mathlib.Omega.{arith}
 use mathlib.Core.Path.{◌≡◌, refl, sym, ap, ◌∙◌}
@@ -170,21 +169,21 @@ if_stmt-returns-clause-built t c =
 -- ---- scoped_block
 
 pub scoped_block-enter_block-requires : goal.scoped_block-enter_block-requires
-scoped_block-enter_block-requires t c = record { item_in_bounds = (c.requires.2, c.requires.0.few, c.requires.0.labels); good = good_scope c.args.scope_end (ap (λ (st : BlockSettings). within st (place c.args.b.now)) c.enter_scope.ensures) c.requires.4 c.requires.1; room = λ ss e. omega (arith, c.requires.3 ss e, labels_inside (open_at c.args.b.now.kinds.now ss c.args.b.now.item).top.body) }
+scoped_block-enter_block-requires t c = record { item_in_bounds = (c.requires.2, c.requires.0.few, c.requires.0.labels); good = good_scope c.args.scope_end (ap (λ (st : BlockSettings). within st (place c.args.b.now)) c.enter_scope-b.ensures) c.requires.4 c.requires.1; room = λ ss e. omega (arith, c.requires.3 ss e, labels_inside (open_at c.args.b.now.kinds.now ss c.args.b.now.item).top.body) }
 
 pub scoped_block-block-requires : goal.scoped_block-block-requires
 scoped_block-block-requires t c =
-    let n = (entered_scope c.args.b.now.kinds.now c.args.b.now.kinds.now (place c.args.b.now) c.args.scope_end (ap (λ (st : BlockSettings). within st (place c.args.b.now)) c.enter_scope.ensures) (c.enter_block.ensures.entered c.args.b.now.kinds.now refl (good_scope c.args.scope_end (ap (λ (st : BlockSettings). within st (place c.args.b.now)) c.enter_scope.ensures) c.requires.4 c.requires.1))) in
-    rw c.enter_block.ensures.kept.0 (omega (arith, n.item), (c.requires.0, n.good, omega (arith, n.item), λ ss e. entered_room _ ss c.requires.1 c.args.scope_end (entered_scope c.args.b.now.kinds.now ss (place c.args.b.now) c.args.scope_end (ap (λ (st : BlockSettings). within st (place c.args.b.now)) c.enter_scope.ensures) (c.enter_block.ensures.entered ss e (good_scope c.args.scope_end (ap (λ (st : BlockSettings). within st (place c.args.b.now)) c.enter_scope.ensures) c.requires.4 c.requires.1))) (c.requires.3 ss e)))
+    let n = (entered_scope c.args.b.now.kinds.now c.args.b.now.kinds.now (place c.args.b.now) c.args.scope_end (ap (λ (st : BlockSettings). within st (place c.args.b.now)) c.enter_scope-b.ensures) (c.enter_block.ensures.entered c.args.b.now.kinds.now refl (good_scope c.args.scope_end (ap (λ (st : BlockSettings). within st (place c.args.b.now)) c.enter_scope-b.ensures) c.requires.4 c.requires.1))) in
+    rw c.enter_block.ensures.kept.0 (omega (arith, n.item), (c.requires.0, n.good, omega (arith, n.item), λ ss e. entered_room _ ss c.requires.1 c.args.scope_end (entered_scope c.args.b.now.kinds.now ss (place c.args.b.now) c.args.scope_end (ap (λ (st : BlockSettings). within st (place c.args.b.now)) c.enter_scope-b.ensures) (c.enter_block.ensures.entered ss e (good_scope c.args.scope_end (ap (λ (st : BlockSettings). within st (place c.args.b.now)) c.enter_scope-b.ensures) c.requires.4 c.requires.1))) (c.requires.3 ss e)))
 
 pub scoped_block-returns-clause-built : goal.scoped_block-returns-clause-built
 scoped_block-returns-clause-built t c =
-    λ ss e. scoped _ ss c.requires.1 c.args.scope_end (entered_scope c.args.b.now.kinds.now ss (place c.args.b.now) c.args.scope_end (ap (λ (st : BlockSettings). within st (place c.args.b.now)) c.enter_scope.ensures) (c.enter_block.ensures.entered ss e (good_scope c.args.scope_end (ap (λ (st : BlockSettings). within st (place c.args.b.now)) c.enter_scope.ensures) c.requires.4 c.requires.1))) ((rw c.enter_block.ensures.kept.0 at c.block.ensures.built) ss e) (ap (λ (st : BlockSettings). within st (place c.block.new.b)) c.return_to.ensures)
+    λ ss e. scoped _ ss c.requires.1 c.args.scope_end (entered_scope c.args.b.now.kinds.now ss (place c.args.b.now) c.args.scope_end (ap (λ (st : BlockSettings). within st (place c.args.b.now)) c.enter_scope-b.ensures) (c.enter_block.ensures.entered ss e (good_scope c.args.scope_end (ap (λ (st : BlockSettings). within st (place c.args.b.now)) c.enter_scope-b.ensures) c.requires.4 c.requires.1))) ((rw c.enter_block.ensures.kept.0 at c.block.ensures.built) ss e) (ap (λ (st : BlockSettings). within st (place c.block.new.b)) c.return_to-b.ensures)
 
 -- ---- loop_body
 
 pub loop_body-scoped_block-requires : goal.loop_body-scoped_block-requires
-loop_body-scoped_block-requires t c = (omega arith, (c.requires.sane.0, good_loop c.args.break_target c.args.continue_target (ap (λ (st : BlockSettings). within st (place c.args.b.now)) c.enter_loop.ensures) c.requires.break_target_lt_nodes.0 c.requires.break_target_lt_nodes.1 c.requires.sane.1, c.requires.sane.2, c.requires.sane.3, c.requires.sane.4))
+loop_body-scoped_block-requires t c = (omega arith, (c.requires.sane.0, good_loop c.args.break_target c.args.continue_target (ap (λ (st : BlockSettings). within st (place c.args.b.now)) c.enter_loop-b.ensures) c.requires.break_target_lt_nodes.0 c.requires.break_target_lt_nodes.1 c.requires.sane.1, c.requires.sane.2, c.requires.sane.3, c.requires.sane.4))
 
 pub loop_body-close_into-requires : goal.loop_body-close_into-requires
 loop_body-close_into-requires t c =
@@ -193,20 +192,20 @@ loop_body-close_into-requires t c =
 
 pub loop_body-returns-clause-built : goal.loop_body-returns-clause-built
 loop_body-returns-clause-built t c =
-    λ ss e. let s = c.scoped_block.ensures.built ss e in looped _ ss c.requires.sane.1 c.args.scope_end c.args.break_target c.args.continue_target _ _ _ _ (scoped_loop _ ss (place c.args.b.now) c.args.scope_end c.args.break_target c.args.continue_target (ap (λ (st : BlockSettings). within st (place c.args.b.now)) c.enter_loop.ensures) s) (c.close_into.ensures.built _ s.moved.good) (ap (λ (st : BlockSettings). within st (place c.close_into.new.self)) c.return_to.ensures)
+    λ ss e. let s = c.scoped_block.ensures.built ss e in looped _ ss c.requires.sane.1 c.args.scope_end c.args.break_target c.args.continue_target _ _ _ _ (scoped_loop _ ss (place c.args.b.now) c.args.scope_end c.args.break_target c.args.continue_target (ap (λ (st : BlockSettings). within st (place c.args.b.now)) c.enter_loop-b.ensures) s) (c.close_into.ensures.built _ s.moved.good) (ap (λ (st : BlockSettings). within st (place c.close_into.new.self)) c.return_to-b.ensures)
 
 -- ---- block
 
 pub block-loop-word-init : goal.block-loop-word-init
 block-loop-word-init t c = ((refl, refl, refl, refl, refl), λ ss e. going_none c.requires.1 c.requires.2 (c.requires.3 ss e))
 
-pub block-returns-then-ends_at-clause-built : goal.block-returns-then-ends_at-clause-built
-block-returns-then-ends_at-clause-built t c =
+pub block-returns-then-ends_block-clause-built : goal.block-returns-then-ends_block-clause-built
+block-returns-then-ends_block-clause-built t c =
     λ ss e.
     let g = c.loop-word.invariant.1 ss e in
     let r = rw c.loop-word.invariant.0.0 at c.in-Some.ensures.lookup in
     let lt = ltb-true _ _ (sym r.0) in
-    let n = rw (get_or_read _ _ _ lt r.1 0) at (ends _ (sym c.ends_at.ensures ∙ c.if-ends_at.true)) in
+    let n = rw (get_or_read _ _ _ lt r.1 0) at (block_ends (kind_of c.in-Some.field-0.now) (sym c.ends_block.ensures ∙ c.if-ends_block.true)) in
     going_ended g (ender_done c.args.b.now.kinds.now ss e _ lt n) (λ h. n)
 
 pub block-stmt-requires : goal.block-stmt-requires
@@ -214,7 +213,7 @@ block-stmt-requires t c =
     let g = c.loop-word.invariant.1 c.args.b.now.kinds.now refl in
     let r = rw c.loop-word.invariant.0.0 at c.in-Some.ensures.lookup in
     let lt = ltb-true _ _ (sym r.0) in
-    let n = rw (get_or_read _ _ _ lt r.1 0) at (ends_not _ (sym c.ends_at.ensures ∙ c.if-ends_at.false)) in
+    let n = rw (get_or_read _ _ _ lt r.1 0) at (block_goes_on (kind_of c.in-Some.field-0.now) (sym c.ends_block.ensures ∙ c.if-ends_block.false)) in
     rw c.loop-word.invariant.0.0 (omega (arith, g.moved.forward, lt), (c.requires.0, g.moved.good, lt, n, λ ss e. going_room (c.loop-word.invariant.1 ss e)))
 
 pub block-loop-word-preserved : goal.block-loop-word-preserved

@@ -1,51 +1,56 @@
--- `finding_lines::finding_lines` meets its contract: at the loop's head the lines of the first i findings stand.
+-- `finding_lines::finding_lines` meets its contract: at the loop's head the lines of what the columns have left are left to append.
 -- Assumes nothing.
-use Prim.Native.Nat.{◌<◌}
-use mathlib.Core.Path.{◌≡◌}
-use mathlib.Core.List.{List}
+use Rattle.std.proofs.Common.{rules, inl, inr}
+use mathlib.Core.Path.{◌≡◌, refl}
+use mathlib.Core.List.{List, [], ◌∷◌, ◌++◌}
+use Prim.Native.Nat.{ℕ}
 use native.Mathlib.Omega.{arith}
-use lib.ListN.{length, get_or}
-use Rattle.flow.specs.Locals.{Finding}
-use Rattle.line_writer.proofs.Pieces.{none, long, room, turn, all}
-use Rattle.finding_lines.specs.Findings.{first_findings}
-use Rattle.finding_lines.proofs.Rows.{rows, row}
-use Rattle.finding_lines.proofs.Texts.{findings_pieces}
+use lib.ListN.{length}
+use Rattle.std.specs.Iterator.Adapters.{zip_first, zip_second}
+use Rattle.std.specs.Slice.Iter.{iter_rest}
+use Rattle.flow.specs.Listing.{finding_line, finding_lines}
+use Rattle.line_writer.proofs.Appended.{Left, first_room, begin, next, done}
+use Rattle.finding_lines.specs.Findings.{findings_of}
 use Rattle.finding_lines.proofs.finding_lines.Goals as goal
-use Rattle.finding_lines.proofs.finding_lines.Goals.{In-loop-i, Start}
+use Rattle.finding_lines.proofs.finding_lines.Goals.{In-Some}
 
-abbrev no_finding : Finding
-no_finding = record { word = 0; span = 0 }
-
-abbrev given : Start → List Finding
-given c = first_findings c.args.n c.args.words.now c.args.spans.now
-
-count : (c : Start) → length (given c) ≡ c.args.n
-count c = rows c.args.n c.args.words.now c.args.spans.now c.requires.n_in_bounds.0 c.requires.n_in_bounds.1
-
-pub loop-i-init : goal.loop-i-init
-loop-i-init c = none (rw (findings_pieces (given (goal.at.loop-i-init c).Start)) at c.requires.room)
+pub loop-word-init : goal.loop-word-init
+loop-word-init c = record {
+  same = search rules;
+  left = rw (c.into_iter-word-iterator.ensures.into_iter_gives, c.zip-word-items.ensures.first, c.iter.ensures.rest, c.zip-word-items.ensures.second.0) (begin c.requires);
+}
 
 -- ---- within a turn
-below : (c : In-loop-i) → c.loop-i.i < length (given (goal.at.In-loop-i c).Start)
-below c = omega (arith, count (goal.at.In-loop-i c).Start)
+one_left : (c : In-Some) → Left (finding_lines (findings_of c.args.words.now c.args.spans.now)) (finding_line (record { word = c.in-Some.word.now; span = c.in-Some.span.now }) ++ finding_lines (findings_of (iter_rest (zip_first c.next.new.self)) (iter_rest (zip_second c.next.new.self)))) c.args.output.now c.loop-word.output
+unfolding finding_lines
+one_left c = rw (c.in-Some.ensures.steps.0, c.in-Some.ensures.steps.1) at c.loop-word.invariant.left
 
-finding : (c : In-loop-i) → get_or (given (goal.at.In-loop-i c).Start) c.loop-i.i no_finding ≡ record { word = get_or c.args.words.now c.loop-i.i 0; span = get_or c.args.spans.now c.loop-i.i 0 }
-finding c = row c.args.n c.args.words.now c.args.spans.now c.requires.n_in_bounds.0 c.requires.n_in_bounds.1 c.loop-i.i no_finding c.loop-i-test.true
+pub finding_line-requires : goal.finding_line-requires
+finding_line-requires c = first_room _ _ (one_left (goal.at.finding_line-requires c).In-Some).room
 
-pub finding_line-next-requires : goal.finding_line-next-requires
-finding_line-next-requires c =
-    let d = (goal.at.finding_line-next-requires c).In-loop-i in
-    rw (finding d) at (room c.loop-i.invariant no_finding (below d))
+pub loop-word-preserved : goal.loop-word-preserved
+loop-word-preserved c = record {
+  same = search rules;
+  left = next _ _ (one_left (goal.at.loop-word-preserved c).In-Some) c.finding_line.ensures.appended;
+}
 
-pub loop-i-preserved : goal.loop-i-preserved
-loop-i-preserved c =
-    let d = (goal.at.loop-i-preserved c).In-loop-i in
-    turn c.loop-i.invariant no_finding (below d) (rw (finding d) c.finding_line-next.ensures)
+-- ---- behind the loop
+no_words : (ws ss : List ℕ) → length ws ≡ 0 → finding_lines (findings_of ws ss) ≡ []
+unfolding finding_lines
+no_words [] ss e = refl
+no_words (w ∷ ws) ss e = absurd (omega arith)
 
-pub shape_of-output : goal.shape_of-output
-shape_of-output c = long c.loop-i.invariant
+no_spans : (ws ss : List ℕ) → length ss ≡ 0 → finding_lines (findings_of ws ss) ≡ []
+unfolding finding_lines
+no_spans [] ss e = refl
+no_spans (w ∷ ws) [] e = refl
+no_spans (w ∷ ws) (s ∷ ss) e = absurd (omega arith)
 
-pub returns : goal.returns
-returns c =
-    let d = (goal.at.returns c).Start in
-    rw (findings_pieces (given d)) (all c.loop-i.invariant (omega (arith, count d)))
+pub returns-clause-appended : goal.returns-clause-appended
+returns-clause-appended c =
+    let ws = iter_rest (zip_first c.loop-word.word-iterator) in
+    let ss = iter_rest (zip_second c.loop-word.word-iterator) in
+    done (elim c.in-None.ensures.steps [
+      | inl (x, (e, y)) ↦ rw (no_words ws ss e) at c.loop-word.invariant.left
+      | inr (x, (e, y)) ↦ rw (no_spans ws ss e) at c.loop-word.invariant.left
+    ])

@@ -1,42 +1,54 @@
 -- `lines::report` meets its contract: no report is too long.
 -- Assumes nothing.
-use mathlib.Core.List.{List, [], ◌++◌}
+use Rattle.std.proofs.Common.{rules}
+use mathlib.Core.List.{List, ◌++◌, append_assoc}
 use Prim.Native.Nat.{ℕ}
-use native.Mathlib.Omega.{arith}
-use lib.ListN.{length-append}
+use lib.ListN.{take}
 use Rattle.flow.specs.Answers.{count_values}
-use Rattle.flow.specs.Listing.{finding_lines, report as reportLines}
-use Rattle.line_writer.specs.Output.{Room}
-use Rattle.line_writer.proofs.Appended.{first_room, then_room, both, printed}
-use Rattle.finding_lines.specs.Findings.{first_findings}
-use Rattle.lines.proofs.Texts.{whole_report}
-use Rattle.lines.proofs.Sizes.{findings_long, head_long, from_start}
+use Rattle.flow.specs.Listing.{line, finding_lines, report as reportLines}
+use Rattle.line_writer.specs.Output.{HasRoom}
+use Rattle.line_writer.proofs.Appended.{Left, first_room, begin, next, printed}
+use Rattle.finding_lines.specs.Findings.{findings_of}
+use Rattle.lines.proofs.Sizes.{report_long, from_start}
 use Rattle.lines.proofs.report.Goals as goal
-use Rattle.lines.proofs.report.Goals.{After-shared_slice_known-3-1, Start}
+use Rattle.lines.proofs.report.Goals.{After-new-output, After-line, After-line-2}
 
-abbrev first : Start → List ℕ
-first c = reportLines (count_values c.args.counts) c.args.reachable.now []
+abbrev text : After-new-output → List ℕ
+text c = reportLines (count_values c.args.counts) c.args.reachable.now (findings_of c.args.words.now c.args.spans.now)
 
-abbrev rest : Start → List ℕ
-rest c = finding_lines (first_findings c.args.n c.args.words.now c.args.spans.now)
+abbrev graph_line : After-new-output → List ℕ
+graph_line c = line "graph" (count_values c.args.counts)
 
--- ---- where the columns are known to hold words
-all_room : (c : After-shared_slice_known-3-1) → Room (first (goal.at.After-shared_slice_known-3-1 c).Start ++ rest (goal.at.After-shared_slice_known-3-1 c).Start) 0 c.args.output.now
-all_room c =
-    let d = (goal.at.After-shared_slice_known-3-1 c).Start in
-    let h = head_long (count_values c.args.counts) c.args.reachable.now in
-    let t = findings_long c.args.n c.args.words.now c.args.spans.now (λ i. (c.shared_slice_known-2-1.given i).fits) (λ i. (c.shared_slice_known-3-1.given i).fits) in
-    from_start (first d ++ rest d) (rw length-append (omega arith)) c.requires.n_bound.1
+abbrev exits_line : After-new-output → List ℕ
+exits_line c = line "exits" (take 5 c.args.reachable.now)
 
-first_fits : (c : After-shared_slice_known-3-1) → Room (first (goal.at.After-shared_slice_known-3-1 c).Start) 0 c.args.output.now
-first_fits c =
-    let d = (goal.at.After-shared_slice_known-3-1 c).Start in
-    first_room (first d) (rest d) (all_room c)
+abbrev findings : After-new-output → List ℕ
+findings c = finding_lines (findings_of c.args.words.now c.args.spans.now)
+
+all_left : (c : After-new-output) → Left (text c) (graph_line c ++ (exits_line c ++ findings c)) c.new-output.result c.new-output.result
+unfolding reportLines
+all_left c =
+    let long = report_long (count_values c.args.counts) c.args.reachable.now c.args.words.now c.args.spans.now c.requires.few (λ i. (c.type_inv.words i).fits) (λ i. (c.type_inv.spans i).fits) in
+    let room : HasRoom (text c) c.new-output.result = rw (c.new-output.ensures.held, c.new-output.ensures.empty) (from_start (text c) long c.requires.room) in
+    rw (← append_assoc (graph_line c) (exits_line c) (findings c)) (begin room)
+
+pub line-requires : goal.line-requires
+line-requires c = first_room _ _ (all_left (goal.at.line-requires c).After-new-output).room
+
+second_left : (c : After-line) → let d = (goal.at.After-line c).After-new-output in Left (text d) (exits_line d ++ findings d) c.new-output.result c.line.new.self
+second_left c = next _ _ (all_left (goal.at.After-line c).After-new-output) c.line.ensures.appended
+
+pub line-requires-2 : goal.line-requires-2
+line-requires-2 c = first_room _ _ (second_left (goal.at.line-requires-2 c).After-line).room
+
+third_left : (c : After-line-2) → let d = (goal.at.After-line-2 c).After-new-output in Left (text d) (findings d) c.new-output.result c.line-2.new.self
+third_left c = next _ _ (second_left (goal.at.After-line-2 c).After-line) c.line-2.ensures.appended
 
 pub finding_lines-requires : goal.finding_lines-requires
-finding_lines-requires c =
-    let d = (goal.at.finding_lines-requires c).After-shared_slice_known-3-1 in
-    record { n_in_bounds = (c.requires.in_bounds.1, c.requires.in_bounds.2); room = then_room (first_fits d) c.head_lines-next.ensures (rest (goal.at.finding_lines-requires c).Start) (all_room d) }
+finding_lines-requires c = (third_left (goal.at.finding_lines-requires c).After-line-2).room
 
 pub returns : goal.returns
-returns c = rw (← whole_report) (printed (both (first_fits (goal.at.returns c).After-shared_slice_known-3-1) c.head_lines-next.ensures c.finding_lines.ensures))
+returns c =
+    printed c.new-output.result c.finding_lines.new.output
+    ((third_left (goal.at.returns c).After-line-2).whole c.finding_lines.new.output c.finding_lines.ensures.appended)
+    c.new-output.ensures.empty c.new-output.ensures.held (search rules)

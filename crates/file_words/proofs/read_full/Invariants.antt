@@ -1,8 +1,8 @@
--- `flowlist::read_full` meets its contract, and ends: what it filled is what it took of the input.
+-- `file_words::read_full` meets its contract, and ends: what it filled is what it took of the input.
 -- Assumes nothing.
 use Rattle.std.proofs.Common.{◌-◌, ◌≡◌, ◌≤◌, length, take}
 use Rattle.std.specs.Io.KnownBytes.{Consumes}
-use Rattle.flowlist.proofs.read_full.Given as goal
+use Rattle.file_words.proofs.read_full.Given as goal
 
 abbrev pub invariant-loop-done : goal.invariant-loop-done
 invariant-loop-done g l = (l.done ≤ length l.buf) × (length l.buf ≡ length l.initial.buf) × Consumes (g.R.Read.remaining l.initial.input) (g.R.Read.remaining l.input) (take l.done l.buf)
