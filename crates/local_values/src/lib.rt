@@ -6,7 +6,7 @@ ghost use Rattle.uses_by_node.specs.Uses.{Rising};
 
 use live_steps::{FlowGraph, LocalDeclaration};
 use locals::FindingList;
-use next_uses::{NextUses, mark_used};
+use next_uses::{NextUses, SearchBack, mark_used};
 use predecessors::{Links, WayBack};
 use use_words::PlacedUse;
 use uses_by_node::AheadMarks;
@@ -23,7 +23,7 @@ pub struct JudgedLocal<'a> {
     ghost by_node: { Rising uses.now },
 }
 
-impl JudgedLocal<'_> {
+impl<'g> JudgedLocal<'g> {
     ghost use Rattle.std.specs.Prelude.{◌+◌, ◌*◌, ◌≤◌, length};
     ghost use Rattle.use_words.specs.Words.{uses_in, AllPlaced};
     ghost use Rattle.live_steps.specs.Walk.{nodes_of, charted, declared};
@@ -70,7 +70,7 @@ impl JudgedLocal<'_> {
     }
 
     // The marks of the local's next uses made, and its overwritten values listed. Its stamp is its number + 1.
-    pub fn list_values<'g>(
+    pub fn list_values(
         &self,
         graph: FlowGraph<'g>,
         chain: &'g [Links],
@@ -96,7 +96,10 @@ impl JudgedLocal<'_> {
             used,
             stamp,
         };
-        marks.mark(&way, self.uses);
+        marks.mark(&SearchBack {
+            way,
+            uses: self.uses,
+        });
         let ahead = marks.ahead(graph, stamp);
         self.list_initial(&ahead, findings);
         self.list_writes(&ahead, findings);

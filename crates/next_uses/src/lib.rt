@@ -38,44 +38,54 @@ impl Sought {
     }
 }
 
-// Whether the search begins at the node of place i: the node's first use decides.
-#[tactic(auto, using(std::proofs::lemmas::Bool::Decides::nat_tests), unfolding(crate::specs::Backwards::starts_here))]
-fn begins_here(way: &WayBack<'_>, uses: &[PlacedUse], sought: Sought, i: usize) -> bool
-    requires { (i < length uses.now) × AllPlaced (nodes_back way.now) uses.now }
-    ensures { result ≡ begins_here way.now uses.now sought i }
-{
-    opens_node(uses, i)
-        && sought.is_met_by(uses[i])
-        && way
-            .graph
-            .is_alive_at(way.declaration, usize::from(uses[i].node))
+// A search back from a local's uses by node: the way that it goes, and where it begins.
+#[derive(Clone, Copy)]
+pub struct SearchBack<'a> {
+    pub way: WayBack<'a>,
+    pub uses: &'a [PlacedUse],
+    ghost placed: { AllPlaced (nodes_back way) uses.now },
 }
 
-// The nodes that the search begins at pushed on the empty stack.
-fn push_begins(way: &WayBack<'_>, uses: &[PlacedUse], sought: Sought, search: &mut Search<'_>)
-    requires unmarked { Unmarked search.old.stamp (nodes_back way.now) search.old.marks.now search.old.stack.now × (search.old.top ≡ 0) }
-    requires placed { AllPlaced (nodes_back way.now) uses.now }
-    ensures same { SameColumns search.old search.new × (search.new.stamp ≡ search.old.stamp) }
-    ensures pushed { state_of search.new ≡ stamp_all search.old.stamp (all_begins way.now uses.now sought) (state_of search.old) }
-{
-    for (i, used) in uses.iter().enumerate() {
-        if begins_here(way, uses, sought, i) {
-            search.insert(usize::from(used.node));
+impl SearchBack<'_> {
+    // Whether the search begins at the node of place i: the node's first use decides.
+    #[tactic(auto, using(std::proofs::lemmas::Bool::Decides::nat_tests), unfolding(crate::specs::Backwards::starts_here))]
+    fn begins_here(&self, sought: Sought, i: usize) -> bool
+        requires { i < length self.now.uses.now }
+        ensures { result ≡ begins_here self.now.way self.now.uses.now sought i }
+    {
+        opens_node(self.uses, i)
+            && sought.is_met_by(self.uses[i])
+            && self
+                .way
+                .graph
+                .is_alive_at(self.way.declaration, usize::from(self.uses[i].node))
+    }
+
+    // The nodes that the search begins at pushed on the empty stack.
+    fn push_begins(&self, sought: Sought, search: &mut Search<'_>)
+        requires { Unmarked search.old.stamp (nodes_back self.now.way) search.old.marks.now search.old.stack.now × (search.old.top ≡ 0) }
+        ensures same { SameColumns search.old search.new × (search.new.stamp ≡ search.old.stamp) }
+        ensures pushed { state_of search.new ≡ stamp_all search.old.stamp (all_begins self.now.way self.now.uses.now sought) (state_of search.old) }
+    {
+        for (i, used) in self.uses.iter().enumerate() {
+            if self.begins_here(sought, i) {
+                search.insert(usize::from(used.node));
+            }
         }
     }
-}
 
-// The nodes that a path which meets a use of the sort begins at, marked.
-fn search_back(way: &WayBack<'_>, uses: &[PlacedUse], sought: Sought, search: &mut Search<'_>)
-    requires unmarked { Unmarked search.old.stamp (nodes_back way.now) search.old.marks.now search.old.stack.now × (search.old.top ≡ 0) }
-    requires placed { AllPlaced (nodes_back way.now) uses.now × Chained (nodes_back way.now) way.now.chain.now × (search.old.stamp ≡ way.now.stamp) }
-    ensures same { SameColumns search.old search.new }
-    ensures finds { Finds way.now uses.now sought search.new.marks.now }
-    ensures stamped { Stamped search.old.stamp search.new.marks.now }
-{
-    push_begins(way, uses, sought, search);
-    while let Some(u) = search.pop() {
-        way.push_predecessors(search, u);
+    // The nodes that a path which meets a use of the sort begins at, marked.
+    fn mark(&self, sought: Sought, search: &mut Search<'_>)
+        requires unmarked { Unmarked search.old.stamp (nodes_back self.now.way) search.old.marks.now search.old.stack.now × (search.old.top ≡ 0) }
+        requires chained { Chained (nodes_back self.now.way) self.now.way.chain.now × (search.old.stamp ≡ self.now.way.stamp) }
+        ensures same { SameColumns search.old search.new }
+        ensures finds { Finds self.now.way self.now.uses.now sought search.new.marks.now }
+        ensures stamped { Stamped search.old.stamp search.new.marks.now }
+    {
+        self.push_begins(sought, search);
+        while let Some(u) = search.pop() {
+            self.way.push_predecessors(search, u);
+        }
     }
 }
 
@@ -99,29 +109,30 @@ pub struct NextUses<'a> {
 
 impl NextUses<'_> {
     // What the paths meet: the stamp in `reads` for the nodes that a path to a read begins at, and in `writes` for those of a pure write.
-    pub fn mark(&mut self, way: &WayBack<'_>, uses: &[PlacedUse])
-        requires placed { AllPlaced (nodes_back way.now) uses.now × Rising uses.now }
-        requires chained { Chained (nodes_back way.now) way.now.chain.now × Used way.now.stamp uses.now (length uses.now) way.now.used.now }
-        requires unmarked { BothUnmarked way.now.stamp (nodes_back way.now) self.old.reads.now self.old.writes.now self.old.stack.now }
+    pub fn mark(&mut self, back: &SearchBack<'_>)
+        requires rising { Rising back.now.uses.now }
+        requires chained { Chained (nodes_back back.now.way) back.now.way.chain.now × Used back.now.way.stamp back.now.uses.now (length back.now.uses.now) back.now.way.used.now }
+        requires unmarked { BothUnmarked back.now.way.stamp (nodes_back back.now.way) self.old.reads.now self.old.writes.now self.old.stack.now }
         ensures same { SameMarks self.old self.new }
-        ensures marks_ahead { MarksAhead way.now.stamp (nodes_back way.now) (declared way.now.declaration) way.now.graph.start.now way.now.chain.now uses.now self.new.reads.now self.new.writes.now }
-        ensures stamped { Stamped way.now.stamp self.new.reads.now × Stamped way.now.stamp self.new.writes.now }
+        ensures marks_ahead { MarksAhead back.now.way.stamp (nodes_back back.now.way) (declared back.now.way.declaration) back.now.way.graph.start.now back.now.way.chain.now back.now.uses.now self.new.reads.now self.new.writes.now }
+        ensures stamped { Stamped back.now.way.stamp self.new.reads.now × Stamped back.now.way.stamp self.new.writes.now }
     {
         let mut search = Search {
             marks: self.reads,
             stack: self.stack,
             top: 0,
-            stamp: way.stamp,
+            stamp: back.way.stamp,
         };
-        search_back(way, uses, Sought::Read, &mut search);
+        back.mark(Sought::Read, &mut search);
         let mut search = Search {
             marks: self.writes,
             stack: self.stack,
             top: 0,
-            stamp: way.stamp,
+            stamp: back.way.stamp,
         };
-        search_back(way, uses, Sought::PureWrite, &mut search);
+        back.mark(Sought::PureWrite, &mut search);
     }
+
     // What is ahead, by the marks that the stamp made.
     pub fn ahead<'m>(&'m self, graph: FlowGraph<'m>, stamp: u16) -> AheadMarks<'m>
         requires { (nodes_of graph ≤ length self.now.reads.now) × (nodes_of graph ≤ length self.now.writes.now) }

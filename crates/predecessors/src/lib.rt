@@ -9,7 +9,7 @@ use live_steps::{FlowGraph, LocalDeclaration};
 use search::Search;
 
 // What a node keeps of the chains: the last edge to it, and the edges that its own first and second edge follow in their chains.
-// Node u's first edge has the code u + u + 1, its second u + u + 2, and 0 is no edge.
+// Node u's first edge has the code u + u + 1, its second u + u + 2. 0 is no edge: an Option in its place would make the fixed memory of the chains twice as large.
 #[derive(Clone, Copy)]
 pub struct Links {
     pub last: u16,

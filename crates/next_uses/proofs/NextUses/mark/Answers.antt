@@ -14,10 +14,10 @@ use Rattle.next_uses.proofs.NextUses.mark.Goals as goal
 use Rattle.next_uses.proofs.NextUses.mark.Goals.{Start}
 
 -- what a search for a sort leaves are the flags of the specification
-found : (c : Start) (sought : Sought) (f s : List ℕ) → length f ≡ nodes_back c.args.way.now → length s ≡ nodes_back c.args.way.now → back_flags c.args.way.now.graph.start.now (declared c.args.way.now.declaration) c.args.uses.now sought c.args.way.now.stamp c.args.way.now.used.now f s (nodes_back c.args.way.now) ≡ meets (chart (nodes_back c.args.way.now) f s c.args.way.now.graph.start.now) (declared c.args.way.now.declaration) (uses_in c.args.uses.now) (sort_of sought)
+found : (c : Start) (sought : Sought) (f s : List ℕ) → length f ≡ nodes_back c.args.back.now.way → length s ≡ nodes_back c.args.back.now.way → back_flags c.args.back.now.way.graph.start.now (declared c.args.back.now.way.declaration) c.args.back.now.uses.now sought c.args.back.now.way.stamp c.args.back.now.way.used.now f s (nodes_back c.args.back.now.way) ≡ meets (chart (nodes_back c.args.back.now.way) f s c.args.back.now.way.graph.start.now) (declared c.args.back.now.way.declaration) (uses_in c.args.back.now.uses.now) (sort_of sought)
 found c sought f s e j =
-    let w = c.args.way.now in
-    meets_are (nodes_back w) f s w.graph.start.now (omega arith) (omega arith) (declared w.declaration) c.args.uses.now c.requires.placed.0 w.stamp w.used.now c.requires.chained.1 sought c.requires.placed.1
+    let w = c.args.back.now.way in
+    meets_are (nodes_back w) f s w.graph.start.now (omega arith) (omega arith) (declared w.declaration) c.args.back.now.uses.now c.args.back.now.placed w.stamp w.used.now c.requires.chained.1 sought c.requires.rising
 
 -- the column that a search was lent holds what it left
 left : (stamp n : ℕ) (marks column fs : List ℕ) → flags_of stamp n marks ≡ fs → column ≡ marks → flags_of stamp n column ≡ fs
@@ -27,8 +27,8 @@ pub returns-clause-marks_ahead : goal.returns-clause-marks_ahead
 unfolding ahead
 returns-clause-marks_ahead c =
     let d = (goal.at.returns-clause-marks_ahead c).Start in
-    let n = nodes_back c.args.way.now in
+    let n = nodes_back c.args.back.now.way in
     λ f s e j l. record {
-      reads_are = left c.args.way.now.stamp n _ _ _ (c.search_back.ensures.finds f s l ∙ found d Read f s e j) (search rules);
-      writes_are = left c.args.way.now.stamp n _ _ _ (c.search_back-2.ensures.finds f s l ∙ found d PureWrite f s e j) (search rules);
+      reads_are = left c.args.back.now.way.stamp n _ _ _ (c.mark.ensures.finds f s l ∙ found d Read f s e j) (search rules);
+      writes_are = left c.args.back.now.way.stamp n _ _ _ (c.mark-2.ensures.finds f s l ∙ found d PureWrite f s e j) (search rules);
     }

@@ -1,4 +1,4 @@
--- `next_uses::push_begins` meets its contract. The loop's invariant: the nodes that the places passed begin at are pushed.
+-- `next_uses::SearchBack::push_begins` meets its contract. The loop's invariant: the nodes that the places passed begin at are pushed.
 -- Assumes nothing.
 use Rattle.std.proofs.Common.{◌<◌, true, false, refl, sym, ◌∙◌, arith}
 use Rattle.search.specs.Running.{state_of}
@@ -8,31 +8,31 @@ use Rattle.live_steps.specs.Walk.{declared}
 use Rattle.predecessors.specs.Ways.{nodes_back}
 use Rattle.uses_by_node.proofs.Places.{node_at}
 use Rattle.next_uses.proofs.Turns.{starts_turn, starts_ready}
-use Rattle.next_uses.proofs.push_begins.Goals as goal
-use Rattle.next_uses.proofs.push_begins.Goals.{In-loop-i, then-begins_here, else-begins_here}
+use Rattle.next_uses.proofs.SearchBack.push_begins.Goals as goal
+use Rattle.next_uses.proofs.SearchBack.push_begins.Goals.{In-loop-i, then-begins_here, else-begins_here}
 
 -- the node of the place
-below : (c : In-loop-i) → node_at c.args.uses.now c.loop-i.i < nodes_back c.args.way.now
-below c = c.requires.placed _ no_use c.loop-i-test.true
+below : (c : In-loop-i) → node_at c.args.self.now.uses.now c.loop-i.i < nodes_back c.args.self.now.way
+below c = c.args.self.now.placed _ no_use c.loop-i-test.true
 
 pub loop-i-init : goal.loop-i-init
 loop-i-init c =
-    let u = c.requires.unmarked in
+    let u = c.requires in
     let s = c.args.search.now in
-    record { same = record { marks_name = refl; stack_name = refl; marks_len = refl; stack_len = refl }; same_stamp = refl; ready = rw u.1 (ready_empty s.stamp (nodes_back c.args.way.now) s.marks.now s.stack.now u.0.marks_hold u.0.stack_holds); pushed = refl }
+    record { same = record { marks_name = refl; stack_name = refl; marks_len = refl; stack_len = refl }; same_stamp = refl; ready = rw u.1 (ready_empty s.stamp (nodes_back c.args.self.now.way) s.marks.now s.stack.now u.0.marks_hold u.0.stack_holds); pushed = refl }
 
 pub insert-requires-clause-top_in_bounds : goal.insert-requires-clause-top_in_bounds
 insert-requires-clause-top_in_bounds c = λ q.
     let h = below (goal.at.insert-requires-clause-top_in_bounds c).In-loop-i in
-    omega (arith, push_room c.loop-i.search.stamp (nodes_back c.args.way.now) (node_at c.args.uses.now c.loop-i.i) h c.loop-i.invariant.ready (rw c.from.ensures at q), c.loop-i.invariant.ready.fits.stack_long)
+    omega (arith, push_room c.loop-i.search.stamp (nodes_back c.args.self.now.way) (node_at c.args.self.now.uses.now c.loop-i.i) h c.loop-i.invariant.ready (rw c.from.ensures at q), c.loop-i.invariant.ready.fits.stack_long)
 
 pub loop-i-preserved : goal.loop-i-preserved
 loop-i-preserved c =
     let d = (goal.at.loop-i-preserved c).In-loop-i in
     let was = c.loop-i.invariant in
-    let n = nodes_back c.args.way.now in
-    let start = c.args.way.now.graph.start.now in
-    let l = declared c.args.way.now.declaration in
+    let n = nodes_back c.args.self.now.way in
+    let start = c.args.self.now.way.graph.start.now in
+    let l = declared c.args.self.now.way.declaration in
     let s = state_of c.loop-i.search in
     elim c.if-begins_here.branch [
       | then-begins_here w ↦
@@ -43,8 +43,8 @@ loop-i-preserved c =
           rw w.search-is (record {
             same = record { marks_name = same.marks_name ∙ was.same.marks_name; stack_name = same.stack_name ∙ was.same.stack_name; marks_len = same.marks_len ∙ was.same.marks_len; stack_len = same.stack_len ∙ was.same.stack_len };
             same_stamp = w.insert.ensures.same.1 ∙ was.same_stamp;
-            ready = rw w.insert.ensures.same.1 (starts_ready start l c.args.uses.now c.args.sought c.loop-i.search.stamp c.loop-i.i true (sym r) (state_of c.args.search.now) s new p n (below d) was.ready);
-            pushed = starts_turn start l c.args.uses.now c.args.sought c.args.search.now.stamp c.loop-i.i true (sym r) (state_of c.args.search.now) s new (rw (sym was.same_stamp) p) was.pushed;
+            ready = rw w.insert.ensures.same.1 (starts_ready start l c.args.self.now.uses.now c.args.sought c.loop-i.search.stamp c.loop-i.i true (sym r) (state_of c.args.search.now) s new p n (below d) was.ready);
+            pushed = starts_turn start l c.args.self.now.uses.now c.args.sought c.args.search.now.stamp c.loop-i.i true (sym r) (state_of c.args.search.now) s new (rw (sym was.same_stamp) p) was.pushed;
           })
       | else-begins_here w ↦
           let r = sym c.begins_here.ensures ∙ w.if-begins_here.false in
@@ -52,6 +52,6 @@ loop-i-preserved c =
             same = was.same;
             same_stamp = was.same_stamp;
             ready = was.ready;
-            pushed = starts_turn start l c.args.uses.now c.args.sought c.args.search.now.stamp c.loop-i.i false (sym r) (state_of c.args.search.now) s s refl was.pushed;
+            pushed = starts_turn start l c.args.self.now.uses.now c.args.sought c.args.search.now.stamp c.loop-i.i false (sym r) (state_of c.args.search.now) s s refl was.pushed;
           })
     ]
