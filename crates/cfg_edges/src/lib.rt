@@ -31,11 +31,9 @@ pub fn connect(edges: &mut [u64], from: Option<usize>, to: usize)
 pub fn label_node(labels: &[u64], name: u64) -> Option<usize>
     ensures { result ≡ label_node name (label_list (length labels.now) labels.now) }
 {
-    let mut k = labels.len();
-    while 0 < k {
-        k -= 1;
+    for k in (0..labels.len()).rev() {
         let w = labels[k];
-        if name == w % HALF {
+        if w % HALF == name {
             return Some((w / HALF) as usize);
         }
     }
