@@ -9,24 +9,29 @@ use Rattle.search.proofs.Stamps.{unmarked_on}
 use Rattle.flow.specs.Locals.{Finding, locals}
 use Rattle.flow.specs.Findings.{uses_of, unassigned_of, overwritten_of, of_each, findings}
 use Rattle.flow.specs.Judge.{words_of}
-use Rattle.locals.specs.Columns.{Pass, uses_by_node}
-use Rattle.locals.specs.Entries.{Added}
+use Rattle.use_words.specs.declared.PlacedUse.{PlacedUse}
+use Rattle.live_steps.specs.Walk.{nodes_of}
+use Rattle.predecessors.specs.declared.Links.{Links}
+use Rattle.locals.specs.declared.PassTables.{PassTables}
+use Rattle.locals.specs.declared.FindingList.{FindingList}
+use Rattle.locals.specs.Columns.{Pass, PassOf, uses_by_node}
+use Rattle.locals.specs.Entries.{AddsTo}
 use Rattle.locals.proofs.Entries.{added_more}
 use Rattle.overwritten.specs.Pass.{Lent}
 use Rattle.both_lists.specs.Passes.{Pair}
 
 -- a stack may change, if it stays as long
-pub lent_on : {n : ℕ} {chain used reads writes stack stack' : List ℕ} → Lent n chain used reads writes stack → length stack' ≡ length stack → Lent n chain used reads writes stack'
+pub lent_on : {n : ℕ} {chain : List Links} {used reads writes stack stack' : List ℕ} → Lent n chain used reads writes stack → length stack' ≡ length stack → Lent n chain used reads writes stack'
 lent_on l e =
     let u = l.unmarked in
     record { blank = l.blank; unmarked = record { used_new = unmarked_on u.used_new e; reads_new = unmarked_on u.reads_new e; writes_new = unmarked_on u.writes_new e } }
 
-module _ {S U : List ℕ} {n names : ℕ} {first second start node_of_name name_end facts starts byLocal by_node : List ℕ} (p : Pair S U n names first second start node_of_name name_end facts starts byLocal by_node) where
-  pub in_use_order : Pass (uses_of S U) S U n names first second start node_of_name name_end facts starts byLocal
-  in_use_order = record { charted = p.charted; named = p.named; table = p.tables.in_use_order }
+module _ {S U : List ℕ} {p : PassTables} {by_node : List PlacedUse} (q : Pair S U p by_node) where
+  pub in_use_order : PassOf (uses_of S U) p S U
+  in_use_order = record { charted = q.charted; named = q.named; table = q.tables.in_use_order }
 
-  pub in_node_order : Pass (uses_by_node S U n) S U n names first second start node_of_name name_end facts starts by_node
-  in_node_order = record { charted = p.charted; named = p.named; table = p.tables.in_node_order }
+  pub in_node_order : Pass (uses_by_node S U (nodes_of p.graph)) S U (nodes_of p.graph) (length p.facts.now) p.graph.first.now p.graph.second.now p.graph.start.now p.names.node.now p.names.scope_end.now p.facts.now p.uses.starts.now by_node
+  in_node_order = record { charted = q.charted; named = q.named; table = q.tables.in_node_order }
 
 -- what both list, one after the other
 module _ (S U : List ℕ) {names : ℕ} (e : length (locals S) ≡ names) where
@@ -40,5 +45,5 @@ module _ (S U : List ℕ) {names : ℕ} (e : length (locals S) ≡ names) where
   unfolding findings
   both_words = sym (map-append (λ f. f.word) unassigned overwritten) ∙ ap (λ (k : ℕ). words_of (of_each (unassigned_of S U) k ++ of_each (overwritten_of S U) k)) (sym e)
 
-  pub both_listed : {count r : ℕ} {old mid new : List ℕ} → count ≤ length old → Added (words_of unassigned) 0 old count mid → Added (words_of overwritten) count mid r new → Added (words_of (findings S U)) 0 old r new
-  both_listed h a b = rw (← both_words) (added_more a (omega (arith, a.counted)) b)
+  pub both_listed : (old mid new : FindingList) → mid.count ≤ length old.words.now → AddsTo (words_of unassigned) old mid → AddsTo (words_of overwritten) mid new → AddsTo (words_of (findings S U)) old new
+  both_listed old mid new h a b = (rw (← both_words) (added_more a.0 (omega (arith, a.0.counted)) b.0), b.1 ∙ a.1)

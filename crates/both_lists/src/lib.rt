@@ -2,72 +2,71 @@
 #![tactic(auto)]
 
 ghost use Rattle.std.specs.Prelude.{◌+◌, ◌≤◌, length};
+ghost use Rattle.live_steps.specs.Walk.{nodes_of};
 ghost use Rattle.locals.specs.Entries.{Room};
 ghost use Rattle.both_lists.specs.Passes.{AnyPair, Finds, Walks};
 
+use locals::{FindingList, PassTables, UseTable};
+use next_uses::NextUses;
 use overwritten::list_overwritten;
+use predecessors::Links;
+use search::Search;
 use unassigned::list_unassigned;
+use use_words::PlacedUse;
 
-// The findings of a pair by its tables: unassigned ones first, then overwritten values, and the mark figures. The result is the number of findings.
+// Memory for the walks of both passes: marks of nodes, a stack of them, and the chains of predecessors.
+#[derive(Drop)]
+pub struct GraphWalk<'a> {
+    pub visited: &'a mut [u16],
+    pub stack: &'a mut [u16],
+    pub chain: &'a mut [Links],
+    pub used: &'a mut [u16],
+    pub reads: &'a mut [u16],
+    pub writes: &'a mut [u16],
+}
+
+// The findings of a pair by its tables, with the uses by node beside those in use order: unassigned ones first, then overwritten values, and the mark figures.
 pub fn list_findings(
-    first: &[u64],
-    second: &[u64],
-    start: &[u64],
-    name_node: &[u64],
-    name_end: &[u64],
-    facts: &[u16],
-    starts: &[u16],
-    by_local: &[u64],
-    by_node: &[u64],
-    visited: &mut [u16],
-    stack: &mut [u16],
-    chain: &mut [u64],
-    used: &mut [u16],
-    reads: &mut [u16],
-    writes: &mut [u16],
-    finding_word: &mut [u64],
+    pass: &PassTables<'_>,
+    by_node: &[PlacedUse],
+    walk: GraphWalk<'_>,
+    findings: &mut FindingList<'_>,
     mark: &mut [u64],
-    n: usize,
-    names: usize,
-) -> usize
-    requires any_pair { AnyPair n names first second start name_node name_end facts starts by_local by_node }
-    requires walks { Walks n visited.old stack.old chain.old used.old reads.old writes.old }
-    requires room { Room (names + (names + 1024)) 0 finding_word.old × (names ≤ length mark.old) }
-    ensures { Finds n names first.now second.now start.now name_node.now name_end.now facts.now starts.now by_local.now by_node.now finding_word mark result }
+)
+    requires any_pair { AnyPair pass.now by_node.now }
+    requires walks { Walks (nodes_of pass.now.graph) walk }
+    requires room { Room (length pass.now.facts.now + (length pass.now.facts.now + 1024)) findings.old.count findings.old.words.now × (length pass.now.facts.now ≤ length mark.old) }
+    ensures { Finds pass.now by_node.now findings.old findings.new mark.old mark.new }
 {
-    let count = list_unassigned(
-        first,
-        second,
-        start,
-        name_node,
-        name_end,
-        facts,
-        starts,
-        by_local,
+    let GraphWalk {
         visited,
         stack,
-        finding_word,
-        mark,
-        n,
-        names,
-    );
-    list_overwritten(
-        first,
-        second,
-        start,
-        name_node,
-        name_end,
-        facts,
-        starts,
-        by_node,
         chain,
         used,
         reads,
         writes,
+    } = walk;
+    let mut search = Search {
+        marks: visited,
         stack,
-        finding_word,
-        n,
-        names,
-        count,
-    )
+        top: 0,
+        stamp: 0,
+    };
+    list_unassigned(pass, &mut search, findings, mark);
+    let uses = UseTable {
+        starts: pass.uses.starts,
+        uses: by_node,
+    };
+    let mut marks = NextUses {
+        reads,
+        writes,
+        stack: search.stack,
+    };
+    list_overwritten(
+        &PassTables { uses, ..*pass },
+        chain,
+        used,
+        &mut marks,
+        findings,
+    );
 }

@@ -41,6 +41,15 @@ pub struct PlacedUse {
     pub in_closure: bool,
 }
 
+// What the cells of a column of uses hold at first.
+pub const NO_USE: PlacedUse = PlacedUse {
+    number: 0,
+    node: 0,
+    local: 0,
+    kind: UseKind::Read,
+    in_closure: false,
+};
+
 impl PlacedUse {
     // The use with this number, at this node, whose word in the use sheet is `word`.
     #[tactic(auto, unfolding(crate::specs::Words::use_of))]
