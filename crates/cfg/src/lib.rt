@@ -1,4 +1,5 @@
-// The builders of a sheet's graph: a block holds statements, and a statement holds blocks.
+// The builders of a sheet's graph: a block holds statements, and a statement holds blocks. They are functions, since methods would have to
+// stand in the crate of the builder's steps.
 #![tactic(auto)]
 
 ghost use Rattle.std.specs.Prelude.{◌≡◌, true, false, ◌+◌, ◌≤◌, ◌<◌, length, get_or};
@@ -232,7 +233,7 @@ fn start_nodes(edges: &mut [u64])
     edges[..exit::START_NODES].fill(NO_SUCCESSORS);
 }
 
-// The graph of a sheet's kinds, whatever the columns held before.
+// The graph of a sheet's kinds, whatever the columns held before. These are lent one by one, as a chart's are in the calls for C.
 pub fn of_block(
     kinds: &[u64],
     edges: &mut [u64],
