@@ -10,10 +10,6 @@ use native.Mathlib.Decide.{ℕ_discrete}
 use lib.ListN.{length, drop, get_or, length-append, length-drop}
 use lib.Dec.{eqb, leb, eqb-suc-zero}
 use borrow.Author.Tests.{ne_eqb, eq-eqb, le-leb, lt-leb, eqb-true, leb-true}
-use Rattle.std.specs.List.{cons_option}
-use Rattle.std.specs.Option.{is_some}
-use Rattle.std.specs.Iterator.{YieldsFirst, MakesProgress, item_count}
-use Rattle.std.proofs.Common.{Option, Some, None}
 use Rattle.search.proofs.Bools.{and_both}
 use Rattle.flow.specs.Sheet.{Item, kind, kind_of, argument_of, zip}
 use Rattle.flow.specs.Kinds.{kinds, closes, opens}
@@ -290,26 +286,19 @@ pub in_end : {ws ks : List ℕ} {k : ℕ} (d : ℕ) → ws ≡ k ∷ ks → ends
 unfolding labels_in
 in_end d h e = rw (h, e)
 
--- the label that the item is comes first, if it is one
-pub in_more : {ws ks : List ℕ} {k n : ℕ} (d : ℕ) (o : Option ℕ) → ws ≡ k ∷ ks → ends_at (kind_of k) d ≡ false → n ≡ depth_after (kind_of k) d → cons_option o [] ≡ labels_here k d → labels_in ws d ≡ cons_option o (labels_in ks n)
+-- a label of the block comes first,
+pub in_label : {ws ks : List ℕ} {k : ℕ} (d : ℕ) → ws ≡ k ∷ ks → d ≡ 0 → ends_block (kind_of k) ≡ false → is_label k ≡ true → labels_in ws d ≡ argument_of k ∷ labels_in ks d
+unfolding labels_in depth_after
+in_label {k = k} d h z e l =
+    let here = here_named k d z l in
+    let kind = label_kind k l in
+    rw (h, sym (ends_here (kind_of k) d z) ∙ e, here, kind)
+
+-- and any other item is passed
+pub in_passed : {ws ks : List ℕ} {k n : ℕ} (d : ℕ) → ws ≡ k ∷ ks → (d ≡ 0 → (ends_block (kind_of k) ≡ false) × (is_label k ≡ false)) → n ≡ depth_after (kind_of k) d → labels_in ws d ≡ labels_in ks n
 unfolding labels_in
-in_more {ks = ks} {n = n} d o h e m q = rw (h, e, ← m, ← q) (go o)
-  where
-    go : (o : Option ℕ) → cons_option o [] ++ labels_in ks n ≡ cons_option o (labels_in ks n)
-    go None = refl
-    go (Some x) = refl
-
-pub first_found : (o : Option ℕ) {b : Bool} {xs : List ℕ} (ys : List ℕ) → b ≡ is_some o → b ≡ true → xs ≡ cons_option o ys → YieldsFirst (λ (l : List ℕ). l) xs o ys
-first_found None ys e t q = absurd (false≢true (sym e ∙ t))
-first_found (Some x) ys e t q = q
-
-pub first_goes : (o : Option ℕ) {b : Bool} {xs : List ℕ} (ys : List ℕ) {can : List ℕ → Type 0} → ((l : List ℕ) → can l) → b ≡ is_some o → b ≡ true → xs ≡ cons_option o ys → MakesProgress can (item_count (λ (l : List ℕ). l)) xs o ys
-first_goes None ys a e t q = absurd (false≢true (sym e ∙ t))
-first_goes (Some x) ys a e t q = record { on = λ f. (a ys, tt, omega (arith, ap length q)); keeps = a ys; rests = λ f. tt }
-
-pub none_found : (o : Option ℕ) {b : Bool} {xs ys : List ℕ} → b ≡ is_some o → b ≡ false → xs ≡ cons_option o ys → ys ≡ xs
-none_found None e t q = sym q
-none_found (Some x) e t q = absurd (true≢false (sym e ∙ t))
+in_passed {k = k} zero h q m = let e = sym (ends_here (kind_of k) 0 refl) ∙ (q refl).0 in let l = here_other k 0 (q refl).1 in rw (h, e, l, m)
+in_passed {k = k} (suc d) h q m = let e = ends_deep (kind_of k) (suc d) (λ z. omega arith) in let l = here_deep k (suc d) (λ z. omega arith) in rw (h, e, l, m)
 
 pub depth_most : {n : ℕ} (k d : ℕ) → n ≡ depth_after k d → n ≤ d + 1
 unfolding depth_after

@@ -1,10 +1,9 @@
 // The labels that stand directly in a block, as an iterator: what the graph's builders and the label check share.
 #![tactic(auto)]
 
-ghost use Rattle.std.specs.Prelude.{◌≡◌, List, [], ℕ, ◌+◌, ◌-◌, ◌<◌, ◌^◌, length, drop};
-ghost use Rattle.std.specs.List.{cons_option};
+ghost use Rattle.std.specs.Prelude.{◌≡◌, List, ℕ, ◌+◌, ◌-◌, ◌<◌, ◌^◌, length, drop};
 ghost use Rattle.std.specs.Iterator.{YieldsFirst, item_count};
-ghost use Rattle.blocks.specs.Open.{ends_at, depth_after, labels_here, labels_in, labels_at};
+ghost use Rattle.blocks.specs.Open.{ends_at, depth_after, labels_in, labels_at};
 
 use kinds::{ends_block, is_closer, is_label, is_opener};
 use std::marker::Model;
@@ -33,16 +32,6 @@ pub fn depth_after(kind: u64, depth: usize) -> usize
         return depth.saturating_sub(1);
     }
     depth
-}
-
-// The name of the label that an item is, where it stands directly in the block.
-fn label_here(word: u64, depth: usize) -> Option<u64>
-    ensures { cons_option result [] ≡ labels_here word depth }
-{
-    if depth == 0 && is_label(word) {
-        return Some(word / ARGUMENT);
-    }
-    None
 }
 
 // The names of the labels that stand directly in a block, in order: what a scan has still to find there.
@@ -82,15 +71,17 @@ impl<'a> Iterator for BlockLabels<'a> {
     fn next(&mut self) -> Option<u64> {
         while let Some((&word, rest)) = self.kinds.split_first() {
             let kind = word % ARGUMENT;
-            if ends_at(kind, self.depth) {
-                return None;
-            }
-            let here = label_here(word, self.depth);
-            self.depth = depth_after(kind, self.depth);
             self.kinds = rest;
-            if here.is_some() {
-                return here;
+            if self.depth == 0 {
+                if ends_block(kind) {
+                    self.kinds = &[];
+                    return None;
+                }
+                if is_label(word) {
+                    return Some(word / ARGUMENT);
+                }
             }
+            self.depth = depth_after(kind, self.depth);
         }
         None
     }
