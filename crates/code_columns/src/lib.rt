@@ -53,9 +53,7 @@ pub fn split_codes(
     ensures start_after { start.new ≡ painted kinds.now spans.now (take codes code_node.old) (replicate n 0) ++ drop n start.old }
 {
     clear(start, n);
-    let mut k = 0;
-    while k < codes {
+    for k in 0..codes {
         split_code(kinds, spans, code_node, code_span, start, k);
-        k += 1;
     }
 }
