@@ -3,10 +3,12 @@
 use Prim.Native.Nat.{◌<◌}
 use mathlib.Core.Path.{◌≡◌, refl, ◌∙◌}
 use native.Mathlib.Omega.{arith}
-use lib.ListN.{length}
+use lib.ListN.{length, drop, length-append, length-drop}
+use lib.Seq.{length-take-le}
+use Rattle.std.proofs.Common.{rules}
 use Rattle.cfg_steps.specs.Columns.{painted}
 use Rattle.node_columns.proofs.Written.{none, still, turn}
-use Rattle.code_columns.proofs.Starts.{paint_more, paint_all}
+use Rattle.code_columns.proofs.Starts.{paint_more, paint_all, zeroed}
 use Rattle.code_columns.proofs.split_codes.Goals as goal
 
 pub loop-k-init : goal.loop-k-init
@@ -26,7 +28,7 @@ loop-k-preserved c =
       nodes = turn c.loop-k.invariant.nodes c.loop-k.invariant.nodes h h c.split_code.ensures.code_node_after;
       code_spans = turn c.loop-k.invariant.nodes c.loop-k.invariant.code_spans h (omega arith) c.split_code.ensures.code_span_after;
       long = c.split_code.auto.start ∙ c.loop-k.invariant.long;
-      starts = paint_more c.args.kinds.now c.args.spans.now c.loop-k.k c.args.code_node.now c.clear.new.s h (still c.loop-k.invariant.nodes) c.loop-k.invariant.starts c.split_code.ensures.start_after;
+      starts = paint_more c.args.kinds.now c.args.spans.now c.loop-k.k c.args.code_node.now _ h (still c.loop-k.invariant.nodes) c.loop-k.invariant.starts c.split_code.ensures.start_after;
     }
 
 pub shape_of-code_node : goal.shape_of-code_node
@@ -36,9 +38,9 @@ pub shape_of-code_span : goal.shape_of-code_span
 shape_of-code_span c = c.loop-k.invariant.code_spans.long
 
 pub shape_of-start : goal.shape_of-start
-shape_of-start c = c.loop-k.invariant.long ∙ c.clear.auto.s
+shape_of-start c = c.loop-k.invariant.long ∙ omega (arith, c.fill.ensures.len, length-append c.fill.new.self (drop c.args.n c.args.start.now), length-drop c.args.n c.args.start.now, length-take-le c.args.n c.args.start.now c.requires.codes_in_bounds.2)
 
 pub returns : goal.returns
 returns c =
     let e : c.loop-k.k ≡ c.args.codes = omega arith in
-    record { code_node_after = rw (← e) c.loop-k.invariant.nodes.cells; code_span_after = rw (← e) c.loop-k.invariant.code_spans.cells; start_after = paint_all c.args.kinds.now c.args.spans.now c.args.code_node.now c.args.start.now c.args.n c.requires.codes_in_bounds.0 (λ k q. (c.requires.by_index k q).node) e c.clear.ensures c.loop-k.invariant.starts }
+    record { code_node_after = rw (← e) c.loop-k.invariant.nodes.cells; code_span_after = rw (← e) c.loop-k.invariant.code_spans.cells; start_after = paint_all c.args.kinds.now c.args.spans.now c.args.code_node.now c.args.start.now c.args.n c.requires.codes_in_bounds.0 (λ k q. (c.requires.by_index k q).node) e (zeroed c.args.n c.args.start.now c.requires.codes_in_bounds.2 (c.fill.ensures.after (λ y q. search rules))) c.loop-k.invariant.starts }

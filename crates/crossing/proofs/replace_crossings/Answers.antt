@@ -23,10 +23,10 @@ pub loop-u-init : goal.loop-u-init
 loop-u-init c = none_yet _ _
 
 pub crossed_word-requires : goal.crossed_word-requires
-crossed_word-requires c = record { admitted_scopes = c.requires.admitted_scopes; scopes_noted = (all_noted (goal.at.crossed_word-requires c).After-note_scopes, c.loop-u-test.true, c.requires.use_words_in_bounds.1 _ c.loop-u-test.true) }
+crossed_word-requires c = record { admitted_scopes = c.requires.admitted_scopes; scopes_noted = (all_noted (goal.at.crossed_word-requires c).After-note_scopes, omega arith, c.requires.use_words_in_bounds.1 _ (omega arith)) }
 
 pub loop-u-preserved : goal.loop-u-preserved
-loop-u-preserved c = replaced_one _ _ c.loop-u.invariant c.loop-u-test.true (omega arith) (ap (set c.loop-u.words c.loop-u.u) c.crossed_word.ensures)
+loop-u-preserved c = replaced_one _ _ c.loop-u.invariant (omega arith) (omega arith) (ap (set c.loop-u.words c.loop-u.u) c.crossed_word.ensures)
 
 pub shape_of-words : goal.shape_of-words
 shape_of-words c = c.loop-u.invariant.long
