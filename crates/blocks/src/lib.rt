@@ -3,25 +3,14 @@
 
 ghost use Rattle.std.specs.Prelude.{◌≡◌, List, ℕ, ◌+◌, ◌-◌, ◌<◌, ◌^◌, length, drop};
 ghost use Rattle.std.specs.Iterator.{YieldsFirst, item_count};
-ghost use Rattle.blocks.specs.Open.{ends_at, depth_after, labels_in, labels_at};
+ghost use Rattle.blocks.specs.Open.{depth_after, labels_in, labels_at};
 
 use kinds::{ends_block, is_closer, is_label, is_opener};
 use std::marker::Model;
 use words::ARGUMENT;
 
-// Whether an item of a kind ends the block that a scan started in.
-#[tactic(auto, using(crate::proofs::Scan::ends_deep, crate::proofs::Scan::ends_here))]
-pub fn ends_at(kind: u64, depth: usize) -> bool
-    ensures { result ≡ ends_at kind depth }
-{
-    if depth != 0 {
-        return false;
-    }
-    ends_block(kind)
-}
-
 // How deep a scan is past an item of a kind.
-pub fn depth_after(kind: u64, depth: usize) -> usize
+fn depth_after(kind: u64, depth: usize) -> usize
     requires { depth + 1 < 2 ^ 64 }
     ensures { result ≡ depth_after kind depth }
 {
