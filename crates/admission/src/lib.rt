@@ -32,7 +32,7 @@ fn item_verdict(sheet: &[u64]) -> Result<(), Refusal>
     if bad_nesting(items) {
         return Err(Refusal::BadNesting);
     }
-    if off_the_line(outer, items.words, items.spans) {
+    if off_the_line(outer, items) {
         return Err(Refusal::OffTheLine);
     }
     if bad_name(items) {

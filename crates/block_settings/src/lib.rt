@@ -5,6 +5,8 @@
 ghost use Rattle.std.specs.Prelude.{◌≡◌};
 ghost use Rattle.block_settings.specs.Settings.{scope_settings, loop_settings};
 
+use loop_nodes::LoopTargets;
+
 #[derive(Clone, Copy)]
 pub struct BlockSettings {
     // How many labels are in force.
@@ -24,11 +26,11 @@ impl BlockSettings {
     }
 
     // Inside a loop: where BREAK and CONTINUE go.
-    pub fn enter_loop(mut self, break_target: usize, continue_target: usize) -> BlockSettings
-        ensures { result ≡ loop_settings break_target continue_target self }
+    pub fn enter_loop(mut self, targets: LoopTargets) -> BlockSettings
+        ensures { result ≡ loop_settings targets.break_target targets.continue_target self }
     {
-        self.break_target = break_target;
-        self.continue_target = continue_target;
+        self.break_target = targets.break_target;
+        self.continue_target = targets.continue_target;
         self
     }
 

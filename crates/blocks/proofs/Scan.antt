@@ -1,19 +1,15 @@
 -- The scan for the labels that stand directly in a block.
 -- Assumes nothing.
-use mathlib.Core.Path.{◌≡◌, refl, sym, ap, ◌∙◌, subst}
-use mathlib.Core.List.{List, [], ◌∷◌, ◌++◌, append_assoc, append-nil}
+use mathlib.Core.Path.{◌≡◌, refl, sym, ap, ◌∙◌}
+use mathlib.Core.List.{List, [], ◌∷◌, ◌++◌}
 use mathlib.Core.Bool.{Bool, true, false, cond, ◌&&◌, not, true≢false, false≢true}
 use Prim.Native.Nat.{ℕ, zero, suc, ◌+◌, ◌-◌, ◌≤◌, ◌<◌}
 use native.Mathlib.Numerals.{add-one, sub-one}
 use native.Mathlib.Omega.{arith}
 use native.Mathlib.Decide.{ℕ_discrete}
-use lib.ListN.{length, drop, get_or, length-append, length-drop}
+use lib.ListN.{length, drop, get_or, length-drop}
 use lib.Dec.{eqb, leb, eqb-suc-zero}
 use borrow.Author.Tests.{ne_eqb, eq-eqb, le-leb, lt-leb, eqb-true, leb-true}
-use Rattle.std.specs.List.{cons_option}
-use Rattle.std.specs.Option.{is_some}
-use Rattle.std.specs.Iterator.{YieldsFirst, MakesProgress, item_count}
-use Rattle.std.proofs.Common.{Option, Some, None}
 use Rattle.search.proofs.Bools.{and_both}
 use Rattle.flow.specs.Sheet.{Item, kind, kind_of, argument_of, zip}
 use Rattle.flow.specs.Kinds.{kinds, closes, opens}
@@ -21,8 +17,8 @@ use Rattle.flow.specs.Tree.{Stmt, Arms, Frame, Open, simple, do_block, while_loo
 use Rattle.flow.specs.Locals.{only_if}
 use Rattle.kinds.specs.Ends.{ends_block}
 use Rattle.kinds.specs.Label.{is_label}
-use Rattle.blocks.specs.Open.{item_at, open_at, labels_at, frame_at, to_come, labels_here, Ender, ends_at, depth_after, labels_in}
-use Rattle.blocks.proofs.Parse.{drop_both, read_at, read_end, read_close, read_do, read_while, read_repeat, read_for, read_if, read_elseif, read_else, read_simple}
+use Rattle.blocks.specs.Open.{open_at, labels_at, frame_at, to_come, labels_here, Ender, ends_at, depth_after, labels_in}
+use Rattle.blocks.proofs.Parse.{drop_both, read_close, read_do, read_while, read_repeat, read_for, read_if, read_elseif, read_else, read_simple}
 open kinds use {LABEL}
 
 -- ---- frames
@@ -203,59 +199,6 @@ pub depth_same : (k d : ℕ) → opens k ≡ false → closes k ≡ false → d 
 unfolding depth_after
 depth_same k d e f = rw (e, f)
 
--- a turn goes one deeper at most
-pub depth_step : (k d j : ℕ) {n : ℕ} → n ≡ depth_after k d → d ≤ j → n ≤ j + 1
-unfolding depth_after
-depth_step k d j e h = rw e (go (opens k) (closes k))
-  where
-    go : (t u : Bool) → cond t (d + 1) (cond u (d - 1) d) ≤ j + 1
-    go true u = omega arith
-    go false true = omega arith
-    go false false = omega arith
-
--- ---- a scan on its way
-
--- of the labels of the block that starts at an item some are found, and P tells what became of a loop's state by them; the rest are still to come at item j, d blocks out
-pub record Scanning (P : List ℕ → Type 0) (ks ss : List ℕ) (from d j : ℕ) : Type 0 where
-  pub found : List ℕ
-  pub entered : P found
-  pub rest : found ++ to_come d (open_at ks ss j) ≡ labels_at ks ss from
-
-pub scan_start : {P : List ℕ → Type 0} {ks ss : List ℕ} {from : ℕ} → P [] → Scanning P ks ss from 0 from
-scan_start p = record { found = []; entered = p; rest = refl }
-
-module _ {ks ss : List ℕ} (e : length ss ≡ length ks) {P : List ℕ → Type 0} {from d j : ℕ} (s : Scanning P ks ss from d j) where
-  item : j < length ks → to_come d (open_at ks ss j) ≡ to_come d (read (item_at ks ss j) (open_at ks ss (j + 1)))
-  item h = ap (to_come d) (read_at ks ss e j h)
-
-  rest_more : j < length ks → ends_at (kind_of (get_or ks j 0)) d ≡ false → (s.found ++ labels_here (get_or ks j 0) d) ++ to_come (depth_after (kind_of (get_or ks j 0)) d) (open_at ks ss (j + 1)) ≡ labels_at ks ss from
-  rest_more h q = append_assoc s.found (labels_here (get_or ks j 0) d) _ ∙ ap (λ (z : List ℕ). s.found ++ z) (sym (item h ∙ scan_on (item_at ks ss j) (open_at ks ss (j + 1)) d q)) ∙ s.rest
-
-  -- a turn: the label that the item is, or none
-  pub scan_more : j < length ks → ends_at (kind_of (get_or ks j 0)) d ≡ false → {Q : List ℕ → Type 0} → ((as' : List ℕ) → P as' → Q (as' ++ labels_here (get_or ks j 0) d)) → Scanning Q ks ss from (depth_after (kind_of (get_or ks j 0)) d) (j + 1)
-  scan_more h q n = record { found = s.found ++ labels_here (get_or ks j 0) d; entered = n s.found s.entered; rest = rest_more h q }
-
-  -- all are found: none is left, the block ends, or the sheet does
-  pub scan_none : to_come d (open_at ks ss j) ≡ [] → P (labels_at ks ss from)
-  scan_none q = subst P (sym (append-nil s.found) ∙ ap (λ (z : List ℕ). s.found ++ z) (sym q) ∙ s.rest) s.entered
-
-  pub scan_ended : j < length ks → ends_at (kind_of (get_or ks j 0)) d ≡ true → P (labels_at ks ss from)
-  scan_ended h q = scan_none (item h ∙ scan_end (item_at ks ss j) (open_at ks ss (j + 1)) d q)
-
-  pub scan_over : length ks ≤ j → P (labels_at ks ss from)
-  unfolding labels_of
-  scan_over h = scan_none (ap (to_come d) (read_end ks ss e j h) ∙ none_left d)
-    where
-      none_left : (d : ℕ) → to_come d (record { top = nothing_read; below = [] }) ≡ []
-      none_left zero = refl
-      none_left (suc d) = refl
-
-  -- n counts m and what is found: with room for all behind m there is room for what the item is behind n
-  pub scan_room : j < length ks → ends_at (kind_of (get_or ks j 0)) d ≡ false → (m : ℕ) {n most : ℕ} → n ≡ m + length s.found → m + length (labels_at ks ss from) ≤ most → n + length (labels_here (get_or ks j 0) d) ≤ most
-  scan_room h q m c room =
-      let all = ap length (rest_more h q) in
-      omega (arith, c, room, all, length-append (s.found ++ labels_here (get_or ks j 0) d) (to_come (depth_after (kind_of (get_or ks j 0)) d) (open_at ks ss (j + 1))), length-append s.found (labels_here (get_or ks j 0) d))
-
 -- ---- the labels that a scan has left
 
 in_parse : (ks ss : List ℕ) → length ss ≡ length ks → (d : ℕ) → labels_in ks d ≡ to_come d (parse (zip ks ss))
@@ -290,26 +233,19 @@ pub in_end : {ws ks : List ℕ} {k : ℕ} (d : ℕ) → ws ≡ k ∷ ks → ends
 unfolding labels_in
 in_end d h e = rw (h, e)
 
--- the label that the item is comes first, if it is one
-pub in_more : {ws ks : List ℕ} {k n : ℕ} (d : ℕ) (o : Option ℕ) → ws ≡ k ∷ ks → ends_at (kind_of k) d ≡ false → n ≡ depth_after (kind_of k) d → cons_option o [] ≡ labels_here k d → labels_in ws d ≡ cons_option o (labels_in ks n)
+-- a label of the block comes first,
+pub in_label : {ws ks : List ℕ} {k : ℕ} (d : ℕ) → ws ≡ k ∷ ks → d ≡ 0 → ends_block (kind_of k) ≡ false → is_label k ≡ true → labels_in ws d ≡ argument_of k ∷ labels_in ks d
+unfolding labels_in depth_after
+in_label {k = k} d h z e l =
+    let here = here_named k d z l in
+    let kind = label_kind k l in
+    rw (h, sym (ends_here (kind_of k) d z) ∙ e, here, kind)
+
+-- and any other item is passed
+pub in_passed : {ws ks : List ℕ} {k n : ℕ} (d : ℕ) → ws ≡ k ∷ ks → (d ≡ 0 → (ends_block (kind_of k) ≡ false) × (is_label k ≡ false)) → n ≡ depth_after (kind_of k) d → labels_in ws d ≡ labels_in ks n
 unfolding labels_in
-in_more {ks = ks} {n = n} d o h e m q = rw (h, e, ← m, ← q) (go o)
-  where
-    go : (o : Option ℕ) → cons_option o [] ++ labels_in ks n ≡ cons_option o (labels_in ks n)
-    go None = refl
-    go (Some x) = refl
-
-pub first_found : (o : Option ℕ) {b : Bool} {xs : List ℕ} (ys : List ℕ) → b ≡ is_some o → b ≡ true → xs ≡ cons_option o ys → YieldsFirst (λ (l : List ℕ). l) xs o ys
-first_found None ys e t q = absurd (false≢true (sym e ∙ t))
-first_found (Some x) ys e t q = q
-
-pub first_goes : (o : Option ℕ) {b : Bool} {xs : List ℕ} (ys : List ℕ) {can : List ℕ → Type 0} → ((l : List ℕ) → can l) → b ≡ is_some o → b ≡ true → xs ≡ cons_option o ys → MakesProgress can (item_count (λ (l : List ℕ). l)) xs o ys
-first_goes None ys a e t q = absurd (false≢true (sym e ∙ t))
-first_goes (Some x) ys a e t q = record { on = λ f. (a ys, tt, omega (arith, ap length q)); keeps = a ys; rests = λ f. tt }
-
-pub none_found : (o : Option ℕ) {b : Bool} {xs ys : List ℕ} → b ≡ is_some o → b ≡ false → xs ≡ cons_option o ys → ys ≡ xs
-none_found None e t q = sym q
-none_found (Some x) e t q = absurd (true≢false (sym e ∙ t))
+in_passed {k = k} zero h q m = let e = sym (ends_here (kind_of k) 0 refl) ∙ (q refl).0 in let l = here_other k 0 (q refl).1 in rw (h, e, l, m)
+in_passed {k = k} (suc d) h q m = let e = ends_deep (kind_of k) (suc d) (λ z. omega arith) in let l = here_deep k (suc d) (λ z. omega arith) in rw (h, e, l, m)
 
 pub depth_most : {n : ℕ} (k d : ℕ) → n ≡ depth_after k d → n ≤ d + 1
 unfolding depth_after

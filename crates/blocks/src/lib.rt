@@ -1,28 +1,16 @@
 // The labels that stand directly in a block, as an iterator: what the graph's builders and the label check share.
 #![tactic(auto)]
 
-ghost use Rattle.std.specs.Prelude.{◌≡◌, List, [], ℕ, ◌+◌, ◌-◌, ◌<◌, ◌^◌, length, drop};
-ghost use Rattle.std.specs.List.{cons_option};
+ghost use Rattle.std.specs.Prelude.{◌≡◌, List, ℕ, ◌+◌, ◌-◌, ◌<◌, ◌^◌, length, drop};
 ghost use Rattle.std.specs.Iterator.{YieldsFirst, item_count};
-ghost use Rattle.blocks.specs.Open.{ends_at, depth_after, labels_here, labels_in, labels_at};
+ghost use Rattle.blocks.specs.Open.{depth_after, labels_in, labels_at};
 
 use kinds::{ends_block, is_closer, is_label, is_opener};
 use std::marker::Model;
 use words::ARGUMENT;
 
-// Whether an item of a kind ends the block that a scan started in.
-#[tactic(auto, using(crate::proofs::Scan::ends_deep, crate::proofs::Scan::ends_here))]
-pub fn ends_at(kind: u64, depth: usize) -> bool
-    ensures { result ≡ ends_at kind depth }
-{
-    if depth != 0 {
-        return false;
-    }
-    ends_block(kind)
-}
-
 // How deep a scan is past an item of a kind.
-pub fn depth_after(kind: u64, depth: usize) -> usize
+fn depth_after(kind: u64, depth: usize) -> usize
     requires { depth + 1 < 2 ^ 64 }
     ensures { result ≡ depth_after kind depth }
 {
@@ -33,16 +21,6 @@ pub fn depth_after(kind: u64, depth: usize) -> usize
         return depth.saturating_sub(1);
     }
     depth
-}
-
-// The name of the label that an item is, where it stands directly in the block.
-fn label_here(word: u64, depth: usize) -> Option<u64>
-    ensures { cons_option result [] ≡ labels_here word depth }
-{
-    if depth == 0 && is_label(word) {
-        return Some(word / ARGUMENT);
-    }
-    None
 }
 
 // The names of the labels that stand directly in a block, in order: what a scan has still to find there.
@@ -82,15 +60,17 @@ impl<'a> Iterator for BlockLabels<'a> {
     fn next(&mut self) -> Option<u64> {
         while let Some((&word, rest)) = self.kinds.split_first() {
             let kind = word % ARGUMENT;
-            if ends_at(kind, self.depth) {
-                return None;
-            }
-            let here = label_here(word, self.depth);
-            self.depth = depth_after(kind, self.depth);
             self.kinds = rest;
-            if here.is_some() {
-                return here;
+            if self.depth == 0 {
+                if ends_block(kind) {
+                    self.kinds = &[];
+                    return None;
+                }
+                if is_label(word) {
+                    return Some(word / ARGUMENT);
+                }
             }
+            self.depth = depth_after(kind, self.depth);
         }
         None
     }

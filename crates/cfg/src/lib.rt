@@ -1,4 +1,5 @@
-// The builders of a sheet's graph: a block holds statements, and a statement holds blocks.
+// The builders of a sheet's graph: a block holds statements, and a statement holds blocks. They are functions, since methods would have to
+// stand in the crate of the builder's steps.
 #![tactic(auto)]
 
 ghost use Rattle.std.specs.Prelude.{◌≡◌, true, false, ◌+◌, ◌≤◌, ◌<◌, length, get_or};
@@ -13,7 +14,7 @@ use cfg_steps::GraphBuilder;
 use flow::Counts;
 use if_builder::IfBuilder;
 use kinds::{Kind, literal_truth};
-use loop_nodes::repeat_targets;
+use loop_nodes::{LoopTargets, repeat_targets};
 use words::{ARGUMENT, NO_SUCCESSORS, SCOPE_END, exit};
 
 // The place past the item that ends a block, if there is one.
@@ -61,18 +62,18 @@ fn scoped_block(b: &mut GraphBuilder<'_>, scope_end: u64)
     b.settings = b.settings.return_to(outer);
 }
 
-// A loop's body: BREAK goes to break_target, CONTINUE and the body's end to continue_target.
+// A loop's body: BREAK goes to its break target, CONTINUE and the body's end to its continue target.
 #[cycle(arm_arms_block_for_loop_if_stmt_loop_body_repeat_loop_scoped_block_stmt_while_loop)]
-fn loop_body(b: &mut GraphBuilder<'_>, scope_end: u64, break_target: usize, continue_target: usize)
+fn loop_body(b: &mut GraphBuilder<'_>, scope_end: u64, targets: LoopTargets)
     requires sane { Sane b.old.kinds.now × Good (place b.old) (columns b.old) × (b.old.item ≤ length b.old.kinds.now) × BlockRoom b.old.kinds.now (place b.old) × (scope_end < 4294967296) }
-    requires break_target_lt_nodes { (break_target < b.old.node_count) × (continue_target < b.old.node_count) }
+    requires break_target_lt_nodes { (targets.break_target < b.old.node_count) × (targets.continue_target < b.old.node_count) }
     ensures kept { Kept b.old b.new }
-    ensures built { ForSpans b.old.kinds.now (λ ks ss. Looped ks ss scope_end break_target continue_target (place b.old) (columns b.old) (place b.new) (columns b.new)) }
+    ensures built { ForSpans b.old.kinds.now (λ ks ss. Looped ks ss scope_end targets.break_target targets.continue_target (place b.old) (columns b.old) (place b.new) (columns b.new)) }
 {
     let outer = b.settings;
-    b.settings = outer.enter_loop(break_target, continue_target);
+    b.settings = outer.enter_loop(targets);
     scoped_block(b, scope_end);
-    b.close_into(continue_target);
+    b.close_into(targets.continue_target);
     b.settings = b.settings.return_to(outer);
 }
 
@@ -87,7 +88,11 @@ fn while_loop(b: &mut GraphBuilder<'_>, i: usize)
     let truth = literal_truth(argument % SCOPE_END);
     let head = b.node_count;
     b.while_head(i, truth);
-    loop_body(b, argument / SCOPE_END, head + 1, head);
+    let targets = LoopTargets {
+        break_target: head + 1,
+        continue_target: head,
+    };
+    loop_body(b, argument / SCOPE_END, targets);
     b.item = past(b.item, b.kinds.len());
     b.loop_end(head, truth);
 }
@@ -102,14 +107,8 @@ fn repeat_loop(b: &mut GraphBuilder<'_>, i: usize)
     let argument = b.kinds[i] / ARGUMENT;
     let truth = literal_truth(argument % SCOPE_END);
     let body = b.node_count;
-    let targets = repeat_targets(body);
     b.repeat_head();
-    loop_body(
-        b,
-        argument / SCOPE_END,
-        targets.break_target,
-        targets.continue_target,
-    );
+    loop_body(b, argument / SCOPE_END, repeat_targets(body));
     let end = b.item;
     b.item = past(end, b.kinds.len());
     b.repeat_end(end, body, truth);
@@ -125,7 +124,11 @@ fn for_loop(b: &mut GraphBuilder<'_>, i: usize)
     let scope_end = b.kinds[i] / ARGUMENT / SCOPE_END;
     let head = b.node_count + 1;
     b.for_head(i);
-    loop_body(b, scope_end, head + 1, head);
+    let targets = LoopTargets {
+        break_target: head + 1,
+        continue_target: head,
+    };
+    loop_body(b, scope_end, targets);
     b.item = past(b.item, b.kinds.len());
     b.loop_end(head, None);
 }
@@ -230,7 +233,7 @@ fn start_nodes(edges: &mut [u64])
     edges[..exit::START_NODES].fill(NO_SUCCESSORS);
 }
 
-// The graph of a sheet's kinds, whatever the columns held before.
+// The graph of a sheet's kinds, whatever the columns held before. These are lent one by one, as a chart's are in the calls for C.
 pub fn of_block(
     kinds: &[u64],
     edges: &mut [u64],

@@ -11,6 +11,10 @@ use Rattle.cfg_edges.specs.Halves.{lo}
 use Rattle.cfg_steps.specs.Columns.{painted}
 use Rattle.cfg_steps.proofs.Ops.{painted_append, painted_left}
 
+-- the first n cells set to 0
+pub zeroed : (n : ℕ) (old : List ℕ) {xs : List ℕ} → n ≤ length old → xs ≡ replicate (length (take n old)) 0 → xs ++ drop n old ≡ replicate n 0 ++ drop n old
+zeroed n old h e = rw (e, length-take-le n old h)
+
 module _ (ks ss : List ℕ) where
   -- one word more
   pub paint_more : (k : ℕ) (ws ps : List ℕ) {w : ℕ} {col new : List ℕ} → k < length ws → w ≡ get_or ws k 0 → col ≡ painted ks ss (take k ws) ps

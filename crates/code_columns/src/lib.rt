@@ -7,7 +7,6 @@ ghost use Rattle.cfg_steps.specs.Columns.{painted};
 ghost use Rattle.code_columns.specs.Words.{CodeWithin};
 
 use kinds::has_start;
-use search::clear;
 use words::HALF;
 
 // The word of code k: its node stays in the column, its item gives the span, and the node may start there.
@@ -52,10 +51,8 @@ pub fn split_codes(
     ensures code_span_after { code_span.new ≡ map (λ c. get_or spans.now (hi c) 0) (take codes code_node.old) ++ drop codes code_span.old }
     ensures start_after { start.new ≡ painted kinds.now spans.now (take codes code_node.old) (replicate n 0) ++ drop n start.old }
 {
-    clear(start, n);
-    let mut k = 0;
-    while k < codes {
+    start[..n].fill(0);
+    for k in 0..codes {
         split_code(kinds, spans, code_node, code_span, start, k);
-        k += 1;
     }
 }

@@ -15,21 +15,11 @@ pub fn miscounted(words: &[u64], head: usize) -> bool
     requires { (1 ≤ head) × (head ≤ 2) }
     ensures { result ≡ miscount head words.now }
 {
-    if words.len() < head {
-        return true;
-    }
-    let n = words[0];
-    if n > ITEMS {
-        return true;
-    }
-    words.len() != 2 * n as usize + head
+    words.len() < head || words[0] > ITEMS || words.len() != 2 * words[0] as usize + head
 }
 
 pub fn either_miscounted(sheet: &[u64], uses: &[u64]) -> bool
     ensures { result ≡ (miscount 2 sheet.now || miscount 1 uses.now) }
 {
-    if miscounted(sheet, 2) {
-        return true;
-    }
-    miscounted(uses, 1)
+    miscounted(sheet, 2) || miscounted(uses, 1)
 }

@@ -8,7 +8,7 @@ ghost use Rattle.flow.specs.Scopes.{FUNCTION, crosses, crosses_at, with_crossing
 ghost use Rattle.flow.specs.Admitted.{AdmittedScopes};
 ghost use Rattle.crossing.specs.Tables.{is_over, Note, Noted, Jumping, ScopesNoted};
 
-use scope_parts::{parent_words, scope_kinds, scope_numbers};
+use scope_parts::Scopes;
 use words::limit::SCOPES;
 use words::{CROSSING, USE_KIND, scope_kind};
 
@@ -58,11 +58,8 @@ fn note_scopes(kinds: &[u64], parents: &[u64], notes: &mut [u64])
     requires { (length kinds.now ≡ length parents.now) × (length kinds.now ≤ 512) × (length kinds.now ≤ length notes.old) × Lower parents.now }
     ensures { Noted kinds.now parents.now (length kinds.now) (left notes) }
 {
-    let mut s = 0;
-    while s < kinds.len() {
-        let note = note_of(kinds, parents, notes, s);
-        notes[s] = note;
-        s += 1;
+    for s in 0..kinds.len() {
+        notes[s] = note_of(kinds, parents, notes, s);
     }
 }
 
@@ -130,11 +127,10 @@ fn crossed_word(
     requires scopes_noted { ScopesNoted scopes.now notes.now × (u < uses) × (local_of word < names) }
     ensures { result ≡ with_crossing (crosses_at names scopes.now u word) word }
 {
-    let numbers = scope_numbers(scopes);
-    let name = numbers[(word % USE_KIND) as usize];
-    let scope = numbers[names + u];
-    let parents = parent_words(scopes);
-    let crosses = crosses_function_boundary(parents, notes, name, scope);
+    let parts = Scopes::of(scopes);
+    let name = parts.numbers[(word % USE_KIND) as usize];
+    let scope = parts.numbers[names + u];
+    let crosses = crosses_function_boundary(parts.parents, notes, name, scope);
     with_crossing(word, crosses)
 }
 
@@ -145,11 +141,10 @@ pub fn replace_crossings(scopes: &[u64], use_words: &[u64], words: &mut [u64], n
     ensures { left words ≡ crossed_from names scopes.now 0 use_words.now ++ drop (length use_words.now) (held words) }
 {
     let mut notes = [0u64; SCOPES];
-    note_scopes(scope_kinds(scopes), parent_words(scopes), &mut notes);
+    let parts = Scopes::of(scopes);
+    note_scopes(parts.kinds, parts.parents, &mut notes);
     let uses = use_words.len();
-    let mut u = 0;
-    while u < uses {
+    for u in 0..uses {
         words[u] = crossed_word(scopes, &notes, names, uses, u, use_words[u]);
-        u += 1;
     }
 }

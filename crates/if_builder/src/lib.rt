@@ -3,7 +3,7 @@
 
 ghost use Rattle.std.specs.Prelude.{◌≡◌, false};
 
-// Its last test, and whether that test goes on to the join past all arms.
+// Its last test, and whether that test goes on to the join past all arms. Not an Option: an ELSEIF comes from the test past an ELSE, too.
 #[derive(Clone, Copy)]
 pub struct IfBuilder {
     pub test: usize,

@@ -1,4 +1,3 @@
 pub mod Admission
 pub mod Fine
-pub mod Numbers
 pub mod Walks

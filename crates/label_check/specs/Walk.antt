@@ -1,6 +1,7 @@
 -- The walk of the label check over a sheet's kinds: the blocks that are open at an item, the labels that are in sight there, and what is left to check.
 -- Assumes nothing: these are definitions.
-use Rattle.std.specs.Prelude.{◌≡◌, Bool, true, false, ◌&&◌, List, [], ◌∷◌, ◌++◌, ℕ, ◌+◌, ◌≤◌, length, take}
+use Rattle.std.specs.Prelude.{◌≡◌, Bool, true, false, ◌&&◌, List, [], ◌∷◌, ◌++◌, ℕ, ◌+◌, ◌≤◌, length}
+use Rattle.arrayvec.specs.ArrayVec.{array_vec_len}
 use Rattle.flow.specs.Sheet.{zip}
 use Rattle.flow.specs.Tree.{Block, Open, outer, parse, tree, labels_of}
 use Rattle.flow.specs.Labels.{distinct, block_fine, arms_fine}
@@ -26,15 +27,11 @@ unfoldable pub bases : List (List ℕ) → List ℕ
 bases [] = []
 bases (s ∷ ss) = bases ss ++ (length (flat ss) ∷ [])
 
--- the columns hold the labels of the innermost block and of those around it
-pub record Holds (top : List ℕ) (around : List (List ℕ)) (x : Sight) (l m : List ℕ) : Type 0 where
-  pub labels_long : length l ≡ 1024
-  pub marks_long : length m ≡ 1024
-  pub depth : x.depth ≡ length around
+-- the labels of the innermost block and of those around it
+pub record Holds (top : List ℕ) (around : List (List ℕ)) (x : Sight) : Type 0 where
+  pub labels : x.labels.items ≡ flat around ++ top
+  pub marks : x.marks.items ≡ bases around
   pub base : x.base ≡ length (flat around)
-  pub count : x.count ≡ length (flat around) + length top
-  pub labels : take x.count l ≡ flat around ++ top
-  pub marks : take x.depth m ≡ bases around
 
 -- ---- what is left to check
 
@@ -59,24 +56,25 @@ pub record Checkable (ks : List ℕ) : Type 0 where
   pub closed : (ss : List ℕ) → length ss ≡ length ks → (parse (zip ks ss)).below ≡ []
 
 -- a block starts at item j, and its labels are not in sight yet
-pub record Entering (ks ss : List ℕ) (j : ℕ) (x : Sight) (labels marks : List ℕ) : Type 0 where
+pub record Entering (ks ss : List ℕ) (j : ℕ) (x : Sight) : Type 0 where
   pub around : List (List ℕ)
-  pub holds : Holds [] around x labels marks
+  pub holds : Holds [] around x
   pub opened : length around ≤ j
   pub closed : length (open_at ks ss j).below ≤ length around
-  pub room : x.count + length (labels_at ks ss j) ≤ j + labels_to_come (open_at ks ss j)
+  pub room : array_vec_len x.labels + length (labels_at ks ss j) ≤ j + labels_to_come (open_at ks ss j)
   pub left : whole_fine (tree (zip ks ss)) ≡ (distinct (labels_at ks ss j) && open_fine (open_at ks ss j) (labels_at ks ss j) around)
 
 -- the walk stands at item j, and what is left to check there decides
-pub record Walking (ks ss : List ℕ) (j : ℕ) (x : Sight) (labels marks : List ℕ) : Type 0 where
+pub record Walking (ks ss : List ℕ) (j : ℕ) (x : Sight) : Type 0 where
   pub top : List ℕ
   pub around : List (List ℕ)
-  pub holds : Holds top around x labels marks
+  pub holds : Holds top around x
   pub opened : length around ≤ j
   pub closed : length (open_at ks ss j).below ≤ length around
-  pub room : x.count ≤ j + labels_to_come (open_at ks ss j)
+  pub room : array_vec_len x.labels ≤ j + labels_to_come (open_at ks ss j)
   pub left : whole_fine (tree (zip ks ss)) ≡ open_fine (open_at ks ss j) top around
 
-pub record After (ks ss : List ℕ) (j : ℕ) (x : Sight) (labels marks : List ℕ) : Type 0 where
-  pub fine : x.fine ≡ true → Walking ks ss j x labels marks
-  pub lost : x.fine ≡ false → whole_fine (tree (zip ks ss)) ≡ false
+-- past an item of which fine tells whether it repeats no label of its block and misses none
+pub record After (ks ss : List ℕ) (j : ℕ) (fine : Bool) (x : Sight) : Type 0 where
+  pub walking : fine ≡ true → Walking ks ss j x
+  pub lost : fine ≡ false → whole_fine (tree (zip ks ss)) ≡ false

@@ -1,43 +1,38 @@
 // The label check: no two labels of a name stand directly in a block, and every GOTO finds a label.
 #![tactic(auto)]
 
-ghost use Rattle.std.specs.Prelude.{◌≡◌, true, List, ℕ, ◌+◌, ◌<◌, length};
+ghost use Rattle.std.specs.Prelude.{◌≡◌, List, ℕ, ◌+◌, ◌<◌, length};
 ghost use Rattle.flow.specs.Sheet.{zip};
 ghost use Rattle.flow.specs.Tree.{tree};
 ghost use Rattle.label_sight.specs.Labels.{Unlabelled};
 ghost use Rattle.label_check.specs.Walk.{whole_fine, Checkable, Walking, After};
 
-use kinds::{is_closer, is_opener};
+use kinds::Kind;
 use label_sight::{Sight, labels_end};
 use words::ARGUMENT;
-use words::kind::{ELSE, ELSEIF, GOTO};
-use words::limit::ITEMS;
 
-// What is in sight past item j.
-fn step(
-    s: Sight,
-    kinds: &[u64],
-    labels: &mut [u64; ITEMS],
-    marks: &mut [usize; ITEMS],
-    end: usize,
-    j: usize,
-) -> Sight
-    requires checkable { Checkable kinds.now × Unlabelled kinds.now end × (j < length kinds.now) × (s.fine ≡ true) }
-    requires by_index { (ss : List ℕ) → length ss ≡ length kinds.now → Walking kinds.now ss j s labels.old marks.old }
-    ensures { (ss : List ℕ) → length ss ≡ length kinds.now → After kinds.now ss (j + 1) result labels.new marks.new }
+// What item j makes of the labels in sight. Says whether it repeats no label of its block, and misses none.
+fn step(sight: &mut Sight, kinds: &[u64], end: usize, j: usize) -> bool
+    requires checkable { Checkable kinds.now × Unlabelled kinds.now end × (j < length kinds.now) }
+    requires by_index { (ss : List ℕ) → length ss ≡ length kinds.now → Walking kinds.now ss j sight.old }
+    ensures { (ss : List ℕ) → length ss ≡ length kinds.now → After kinds.now ss (j + 1) result sight.new }
 {
-    let w = kinds[j];
-    let kind = w % ARGUMENT;
-    if is_opener(kind) {
-        return s.open(marks).enter(kinds, labels, end, j + 1);
-    }
-    if is_closer(kind) {
-        return s.close(marks);
-    }
-    match kind {
-        ELSEIF | ELSE => s.next_arm().enter(kinds, labels, end, j + 1),
-        GOTO => s.jump(labels, w / ARGUMENT),
-        _ => s,
+    let word = kinds[j];
+    match Kind::of(word) {
+        Some(Kind::Do | Kind::While | Kind::Repeat | Kind::For | Kind::If) => {
+            sight.open();
+            sight.enter(kinds, end, j + 1)
+        }
+        Some(Kind::ElseIf | Kind::Else) => {
+            sight.next_arm();
+            sight.enter(kinds, end, j + 1)
+        }
+        Some(Kind::End | Kind::Until) => {
+            sight.close();
+            true
+        }
+        Some(Kind::Goto) => sight.sees(word / ARGUMENT),
+        _ => true,
     }
 }
 
@@ -46,23 +41,15 @@ pub fn labels_fine(kinds: &[u64]) -> bool
     requires { Checkable kinds.now }
     ensures { (ss : List ℕ) → length ss ≡ length kinds.now → result ≡ whole_fine (tree (zip kinds.now ss)) }
 {
-    let mut labels = [0u64; ITEMS];
-    let mut marks = [0usize; ITEMS];
     let end = labels_end(kinds);
-    let outermost = Sight {
-        fine: true,
-        count: 0,
-        base: 0,
-        depth: 0,
-    };
-    let mut s = outermost.enter(kinds, &mut labels, end, 0);
-    let mut j = 0;
-    while j < kinds.len() {
-        if !s.fine {
-            break;
-        }
-        s = step(s, kinds, &mut labels, &mut marks, end, j);
-        j += 1;
+    let mut sight = Sight::new();
+    if !sight.enter(kinds, end, 0) {
+        return false;
     }
-    s.fine
+    for j in 0..kinds.len() {
+        if !step(&mut sight, kinds, end, j) {
+            return false;
+        }
+    }
+    true
 }

@@ -1,14 +1,11 @@
 -- Names in lists: which of them stand in a joined list, and when one stands there twice.
 -- Assumes nothing.
-use mathlib.Core.Path.{◌≡◌, refl, sym, ap, ◌∙◌}
+use mathlib.Core.Path.{◌≡◌, refl, sym, ◌∙◌}
 use mathlib.Core.List.{List, [], ◌∷◌, ◌++◌}
-use mathlib.Core.Bool.{Bool, true, false, ◌&&◌, ◌||◌, not, or-true, or-false, and-true, and-false}
-use Prim.Native.Nat.{ℕ, suc, ◌-◌, ◌≤◌, ◌<◌}
-use native.Mathlib.Omega.{arith}
+use mathlib.Core.Bool.{Bool, true, false, ◌&&◌, ◌||◌, not}
+use Prim.Native.Nat.{ℕ}
 use native.Mathlib.Decide.{ℕ_discrete}
 use lib.Dec.{eqb}
-use lib.ListN.{length, get_or, take, drop, length-take, drop_of_length-le}
-use lib.Seq.{take-suc, drop-append-le, length-take-le}
 use borrow.Author.Tests.{eq-eqb, ne_eqb}
 use Rattle.flow.specs.Sheet.{member}
 use Rattle.flow.specs.Labels.{distinct}
@@ -29,29 +26,3 @@ distinct_more (x ∷ xs) a =
     go false true true r = refl
     go false true false r = refl
     go false false q r = refl
-
--- what a search answered, as a test
-pub repeated : (x u : Bool) {f t : Bool} → f ≡ u → f ≡ true → t ≡ false → t ≡ (x && not u)
-repeated x u p q r = r ∙ rw (sym p ∙ q) (sym (and-false x))
-
-pub not_repeated : (x u : Bool) {f t : Bool} → f ≡ u → f ≡ false → t ≡ x → t ≡ (x && not u)
-not_repeated x u p q r = r ∙ rw (sym p ∙ q) (sym (and-true x))
-
--- ---- the search for a name, from the end of a part of a column
-
-module _ (a from k : ℕ) (l : List ℕ) (h : from < k) (q : k ≤ length l) where
-  look_last : member a (drop from (take k l)) ≡ (member a (drop from (take (k - 1) l)) || eqb a (get_or l (k - 1) 0))
-  look_last =
-      let z : k ≡ suc (k - 1) = omega arith in
-      ap (λ (n : ℕ). member a (drop from (take n l))) z
-      ∙ rw (take-suc l (k - 1) 0 (omega arith), drop-append-le from (take (k - 1) l) (get_or l (k - 1) 0 ∷ []) (omega (arith, length-take-le (k - 1) l (omega arith))))
-      (one_of_append a (drop from (take (k - 1) l)) (get_or l (k - 1) 0 ∷ []) ∙ ap (λ (b : Bool). member a (drop from (take (k - 1) l)) || b) (or-false (eqb a (get_or l (k - 1) 0))))
-
-  pub look_found : get_or l (k - 1) 0 ≡ a → member a (drop from (take k l)) ≡ true
-  look_found e = look_last ∙ rw (eq-eqb a (get_or l (k - 1) 0) (sym e)) (or-true (member a (drop from (take (k - 1) l))))
-
-  pub look_past : (get_or l (k - 1) 0 ≡ a → ⊥) → member a (drop from (take k l)) ≡ member a (drop from (take (k - 1) l))
-  look_past e = look_last ∙ rw (ne_eqb a (get_or l (k - 1) 0) (λ p. e (sym p))) (or-false (member a (drop from (take (k - 1) l))))
-
-pub look_none : (a from k : ℕ) (l : List ℕ) → k ≤ from → member a (drop from (take k l)) ≡ false
-look_none a from k l h = rw (drop_of_length-le (take k l) {i = from} (omega (arith, length-take k l)))

@@ -1,10 +1,9 @@
 -- The labels in sight at an item: how many are to come, and what a block entered or left, a label or a GOTO makes of them.
 -- Assumes nothing: these are definitions.
 use Rattle.std.specs.Prelude.{◌≡◌, List, [], ◌∷◌, ◌++◌, ℕ, ◌+◌, ◌-◌, ◌≤◌, length, take, drop, get_or}
-use Rattle.flow.specs.Sheet.{member}
 use Rattle.flow.specs.Refusals.{one}
 use Rattle.flow.specs.Tree.{Frame, Open, labels_of}
-use Rattle.flow.specs.Labels.{distinct}
+use Rattle.arrayvec.specs.ArrayVec.{array_vec_len}
 use Rattle.kinds.specs.Label.{is_label}
 use Rattle.label_sight.specs.declared.Sight.{Sight}
 
@@ -30,29 +29,26 @@ labels_to_come o = length (labels_of o.top.body) + frames_labels o.below
 
 -- ---- in sight
 
+-- at the start: the outermost block, of which no label is found yet
+abbrev pub nothing_seen : Sight
+nothing_seen = record { labels = record { items = [] }; marks = record { items = [] }; base = 0 }
+
 -- a block opened with no label found yet, its next arm likewise, and the block closed
 abbrev pub opened_sight : Sight → Sight
-opened_sight x = record { fine = x.fine; count = x.count; base = x.count; depth = x.depth + 1 }
+opened_sight x = record { labels = x.labels; marks = record { items = x.marks.items ++ (x.base ∷ []) }; base = array_vec_len x.labels }
 
 abbrev pub next_arm : Sight → Sight
-next_arm x = record { fine = x.fine; count = x.base; base = x.base; depth = x.depth }
+next_arm x = record { labels = record { items = take x.base x.labels.items }; marks = x.marks; base = x.base }
 
-abbrev pub closed_sight : Sight → List ℕ → Sight
-closed_sight x marks = record { fine = x.fine; count = x.base; base = get_or marks (x.depth - 1) 0; depth = x.depth - 1 }
-
-abbrev pub jumped : Sight → List ℕ → ℕ → Sight
-jumped x labels name = record { fine = member name (take x.count labels); count = x.count; base = x.base; depth = x.depth }
+abbrev pub closed_sight : Sight → Sight
+closed_sight x = record { labels = record { items = take x.base x.labels.items }; marks = record { items = take (array_vec_len x.marks - 1) x.marks.items }; base = get_or x.marks.items (array_vec_len x.marks - 1) 0 }
 
 -- the labels of the innermost block that are found so far
-abbrev pub in_block : Sight → List ℕ → List ℕ
-in_block x labels = drop x.base (take x.count labels)
+abbrev pub in_block : Sight → List ℕ
+in_block x = drop x.base x.labels.items
 
 -- the names as' are in sight besides, as labels of the innermost block
-pub record Entered (as' : List ℕ) (x : Sight) (l : List ℕ) (r : Sight) (m : List ℕ) : Type 0 where
-  pub long : length m ≡ length l
-  pub depth : r.depth ≡ x.depth
+pub record Entered (as' : List ℕ) (x r : Sight) : Type 0 where
+  pub labels : r.labels.items ≡ x.labels.items ++ as'
+  pub marks : r.marks ≡ x.marks
   pub base : r.base ≡ x.base
-  pub count : r.count ≡ x.count + length as'
-  pub labels : take r.count m ≡ take x.count l ++ as'
-  pub block : in_block r m ≡ in_block x l ++ as'
-  pub fine : x.fine ≡ distinct (in_block x l) → r.fine ≡ distinct (in_block r m)

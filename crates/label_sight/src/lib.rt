@@ -1,154 +1,121 @@
-// The labels in sight at an item of a walk over a sheet, and whether one is repeated or missed so far.
+// The labels in sight at an item of a walk over a sheet.
 #![tactic(auto)]
 
-ghost use Rattle.std.specs.Prelude.{◌≡◌, List, [], ◌∷◌, ℕ, ◌+◌, ◌≤◌, ◌<◌, length, take, drop, set};
+ghost use Rattle.std.specs.Prelude.{◌≡◌, true, not, ◌++◌, [], ◌∷◌, List, ℕ, ◌+◌, ◌≤◌, ◌<◌, length};
+ghost use Rattle.arrayvec.specs.ArrayVec.{array_vec_len};
 ghost use Rattle.flow.specs.Sheet.{member};
-ghost use Rattle.blocks.specs.Open.{labels_at, labels_here};
-ghost use Rattle.label_sight.specs.Labels.{Unlabelled, opened_sight, next_arm, closed_sight, jumped, Entered};
+ghost use Rattle.flow.specs.Labels.{distinct};
+ghost use Rattle.blocks.specs.Open.{labels_at};
+ghost use Rattle.label_sight.specs.Labels.{Unlabelled, nothing_seen, opened_sight, next_arm, closed_sight, in_block, Entered};
 
-use blocks::{depth_after, ends_at};
+use arrayvec::ArrayVec;
+use blocks::block_labels;
 use kinds::is_label;
-use words::ARGUMENT;
 use words::limit::ITEMS;
 
 // Where no label with a name follows any more, so that no scan need go on.
 pub fn labels_end(kinds: &[u64]) -> usize
     ensures { Unlabelled kinds.now result }
 {
-    let mut end = kinds.len();
-    while 0 < end {
-        let last = end - 1;
-        let w = kinds[last];
-        if is_label(w) {
-            return end;
-        }
-        end = last;
+    match kinds.iter().rposition(|&w| is_label(w)) {
+        Some(last) => last + 1,
+        None => 0,
     }
-    end
 }
 
-// Whether a name is among the labels from one place up to another, the latest first.
-fn among(labels: &[u64; ITEMS], from: usize, to: usize, name: u64) -> bool
-    requires { (from ≤ to) × (to ≤ 1024) × (length labels.now ≡ 1024) }
-    ensures { result ≡ member name (drop from (take to labels.now)) }
+// Whether a name is among some labels'.
+fn among(labels: &[u64], name: u64) -> bool
+    ensures { result ≡ member name labels.now }
 {
-    let mut k = to;
-    while from < k {
-        k -= 1;
-        if labels[k] == name {
+    // `contains`, which compares in groups, took half as long again.
+    for &label in labels {
+        if label == name {
             return true;
         }
     }
     false
 }
 
-// What a walk over the items has found, and the labels that are in sight there.
-#[derive(Clone, Copy)]
+// The labels that are in sight at an item.
+#[derive(Drop)]
 pub struct Sight {
-    // Whether no label is repeated so far, and each GOTO found its label.
-    pub fine: bool,
-    // How many labels are in sight, and how many of them stand outside the innermost block.
-    pub count: usize,
+    // Their names, those of the outermost block first.
+    pub labels: ArrayVec<u64, ITEMS>,
+    // How many of them stand outside each open block, the outermost first, save the innermost:
+    pub marks: ArrayVec<usize, ITEMS>,
+    // and how many outside that.
     pub base: usize,
-    // How many blocks are open in the outermost one.
-    pub depth: usize,
 }
 
 impl Sight {
-    // A label more in its block, where it may be a repeat.
-    fn add(mut self, labels: &mut [u64; ITEMS], name: u64) -> Sight
-        requires { (self.base ≤ self.count) × (self.count < 1024) × (length labels.old ≡ 1024) }
-        ensures { Entered (name ∷ []) self labels.old result labels.new }
+    // In the outermost block, before its labels come in sight.
+    pub fn new() -> Self
+        ensures { result ≡ nothing_seen }
     {
-        let base = self.base;
-        let count = self.count;
-        let mut fine = self.fine;
-        if among(labels, base, count, name) {
-            fine = false;
+        Sight {
+            labels: ArrayVec::new(),
+            marks: ArrayVec::new(),
+            base: 0,
         }
-        labels[count] = name;
-        self.fine = fine;
-        self.count = count + 1;
-        self
     }
 
-    // The same, where an item is a named label that stands directly in the block.
-    fn label_here(self, labels: &mut [u64; ITEMS], w: u64, depth: usize) -> Sight
-        requires { (self.base ≤ self.count) × (self.count + length (labels_here w depth) ≤ 1024) × (length labels.old ≡ 1024) }
-        ensures { Entered (labels_here w depth) self labels.old result labels.new }
+    // A label more in its block. Says whether it is the first of its name there.
+    fn add(&mut self, name: u64) -> bool
+        requires { (self.old.base ≤ array_vec_len self.old.labels) × (array_vec_len self.old.labels < 1024) }
+        ensures entered { Entered (name ∷ []) self.old self.new }
+        ensures first { result ≡ not (member name (in_block self.old)) }
     {
-        if depth != 0 {
-            return self;
-        }
-        if !is_label(w) {
-            return self;
-        }
-        self.add(labels, w / ARGUMENT)
+        let first = !among(&self.labels.as_slice()[self.base..], name);
+        self.labels.push(name);
+        first
     }
 
-    // The labels standing directly in the block that starts at an item come in sight.
-    pub fn enter(self, kinds: &[u64], labels: &mut [u64; ITEMS], end: usize, from: usize) -> Sight
-        requires unlabelled { Unlabelled kinds.now end × (length kinds.now ≤ 1024) }
-        requires base_le_count { (self.base ≤ self.count) × (length labels.old ≡ 1024) }
-        requires by_index { (ss : List ℕ) → length ss ≡ length kinds.now → self.count + length (labels_at kinds.now ss from) ≤ 1024 }
-        ensures { (ss : List ℕ) → length ss ≡ length kinds.now → Entered (labels_at kinds.now ss from) self labels.old result labels.new }
+    // The labels standing directly in the block that starts at an item come in sight. Says whether none is a repeat there.
+    pub fn enter(&mut self, kinds: &[u64], end: usize, from: usize) -> bool
+        requires unlabelled { Unlabelled kinds.now end }
+        requires base_le_count { self.old.base ≤ array_vec_len self.old.labels }
+        requires by_index { (ss : List ℕ) → length ss ≡ length kinds.now → array_vec_len self.old.labels + length (labels_at kinds.now ss from) ≤ 1024 }
+        ensures by_index { (ss : List ℕ) → length ss ≡ length kinds.now → Entered (labels_at kinds.now ss from) self.old self.new }
+        ensures once { distinct (in_block self.old) ≡ true → result ≡ distinct (in_block self.new) }
     {
-        let mut s = self;
-        let mut depth = 0;
-        let mut j = from;
-        while j < end {
-            let w = kinds[j];
-            let kind = w % ARGUMENT;
-            if ends_at(kind, depth) {
-                return s;
-            }
-            s = s.label_here(labels, w, depth);
-            depth = depth_after(kind, depth);
-            j += 1;
+        let mut once = true;
+        for name in block_labels(&kinds[..end], from) {
+            once &= self.add(name);
         }
-        s
+        once
     }
 
     // A block opens, with no label in sight yet.
-    pub fn open(mut self, marks: &mut [usize; ITEMS]) -> Sight
-        requires { self.depth < 1024 }
-        ensures { (result ≡ opened_sight self) × (marks.new ≡ set marks.old self.depth self.base) }
+    pub fn open(&mut self)
+        requires { array_vec_len self.old.marks < 1024 }
+        ensures { self.new ≡ opened_sight self.old }
     {
-        let depth = self.depth;
-        marks[depth] = self.base;
-        self.base = self.count;
-        self.depth = depth + 1;
-        self
+        self.marks.push(self.base);
+        self.base = self.labels.len();
     }
 
     // The arm above is left, and its labels go out of sight.
-    pub fn next_arm(mut self) -> Sight
-        ensures { result ≡ next_arm self }
+    pub fn next_arm(&mut self)
+        ensures { self.new ≡ next_arm self.old }
     {
-        self.count = self.base;
-        self
+        self.labels.truncate(self.base);
     }
 
-    // The innermost block is left, and its labels go out of sight.
-    pub fn close(mut self, marks: &[usize; ITEMS]) -> Sight
-        requires { (1 ≤ self.depth) × (self.depth ≤ 1024) }
-        ensures { result ≡ closed_sight self marks.now }
+    // The innermost block is left, and the labels of its last arm go out of sight.
+    pub fn close(&mut self)
+        requires { 1 ≤ array_vec_len self.old.marks }
+        ensures { self.new ≡ closed_sight self.old }
     {
-        let depth = self.depth - 1;
-        let count = self.base;
-        self.count = count;
-        self.base = marks[depth];
-        self.depth = depth;
-        self
+        self.next_arm();
+        if let Some(outside) = self.marks.pop() {
+            self.base = outside;
+        }
     }
 
-    // A GOTO of a name, which has to be in sight.
-    pub fn jump(mut self, labels: &[u64; ITEMS], name: u64) -> Sight
-        requires { (self.count ≤ 1024) × (length labels.now ≡ 1024) }
-        ensures { result ≡ jumped self labels.now name }
+    // Whether a label is in sight, as a GOTO's has to be.
+    pub fn sees(&self, name: u64) -> bool
+        ensures { result ≡ member name self.now.labels.items }
     {
-        let count = self.count;
-        self.fine = among(labels, 0, count, name);
-        self
+        among(self.labels.as_slice(), name)
     }
 }

@@ -21,36 +21,35 @@ const WORDS: usize = 2 * (ITEMS + 1) + 2;
 // What is printed for a no.
 const NO: u64 = 99;
 
-// n PLAIN items, one after the other.
-fn plain_items(sheet: &mut [u64; WORDS], n: usize)
+// The sheet of n PLAIN items, one after the other.
+fn plain_items(room: &mut [u64; WORDS], n: usize) -> &[u64]
     requires { n ≤ 1025 }
 {
+    let sheet = &mut room[..2 * n + 2];
     sheet[0] = n as u64;
     sheet[1] = n as u64;
-    let mut i = 0;
-    while i < n {
+    sheet[2..n + 2].fill(PLAIN);
+    for (i, span) in sheet[n + 2..].iter_mut().enumerate() {
         let start = i as u64;
-        sheet[2 + i] = PLAIN;
-        sheet[2 + n + i] = start + HALF * (start + 1);
-        i += 1;
+        *span = start + HALF * (start + 1);
     }
+    sheet
 }
 
-// A PLAIN item in as many DO as `depth` says.
-fn nested_do(sheet: &mut [u64; WORDS], depth: usize)
+// The sheet of a PLAIN item in as many DO as `depth` says. Only that item has a span of its own.
+fn nested_do(room: &mut [u64; WORDS], depth: usize) -> &[u64]
     requires { depth ≤ 65 }
 {
     let n = 2 * depth + 1;
+    let sheet = &mut room[..2 * n + 2];
     sheet[0] = n as u64;
     sheet[1] = 1;
-    let mut i = 0;
-    while i < depth {
-        sheet[2 + i] = DO;
-        sheet[3 + depth + i] = END;
-        i += 1;
-    }
-    sheet[2 + depth] = PLAIN;
-    sheet[2 + n + depth] = HALF;
+    sheet[2..depth + 2].fill(DO);
+    sheet[depth + 2] = PLAIN;
+    sheet[depth + 3..n + 2].fill(END);
+    sheet[n + 2..].fill(0);
+    sheet[n + depth + 2] = HALF;
+    sheet
 }
 
 // No label stands in these pieces: a no would be printed as a number that no refusal has.
@@ -128,32 +127,10 @@ fn tell(rt: &impl Print, what: &str, sheet: &[u64]) -> io::Result<()> {
     println!(rt; "{what}: chart {chart}, judge {judge}, run {run}, label check {label}")
 }
 
-fn tell_first(rt: &impl Print, what: &str, sheet: &[u64; WORDS], words: usize) -> io::Result<()>
-    requires { words ≤ 2052 }
-{
-    let whole = &sheet[..];
-    tell(rt, what, &whole[0..words])
-}
-
-fn items(rt: &impl Print, what: &str, n: usize) -> io::Result<()>
-    requires { n ≤ 1025 }
-{
-    let mut sheet = [0u64; WORDS];
-    plain_items(&mut sheet, n);
-    tell_first(rt, what, &sheet, 2 * n + 2)
-}
-
-fn nested(rt: &impl Print, what: &str, depth: usize) -> io::Result<()>
-    requires { depth ≤ 65 }
-{
-    let mut sheet = [0u64; WORDS];
-    nested_do(&mut sheet, depth);
-    tell_first(rt, what, &sheet, 4 * depth + 4)
-}
-
 fn main(rt: HostRuntime) -> io::Result<()> {
-    items(&rt, "1024 items", ITEMS)?;
-    items(&rt, "1025 items", ITEMS + 1)?;
-    nested(&rt, "64 nested DO", DEPTH)?;
-    nested(&rt, "65 nested DO", DEPTH + 1)
+    let mut room = [0u64; WORDS];
+    tell(&rt, "1024 items", plain_items(&mut room, ITEMS))?;
+    tell(&rt, "1025 items", plain_items(&mut room, ITEMS + 1))?;
+    tell(&rt, "64 nested DO", nested_do(&mut room, DEPTH))?;
+    tell(&rt, "65 nested DO", nested_do(&mut room, DEPTH + 1))
 }

@@ -1,18 +1,20 @@
 -- The least scope end around: a span ends within all scopes around where it ends within the least. Assumes nothing.
-use Prim.Native.Nat.{ℕ, ◌+◌, ◌-◌, ◌<◌, min}
+use Prim.Native.Nat.{ℕ, zero, suc, ◌-◌, ◌<◌, min}
 use mathlib.Core.Bool.{Bool, true, false, ◌&&◌}
-use mathlib.Core.List.{List, [], ◌∷◌, tail}
-use mathlib.Core.Path.{◌≡◌, refl, sym, ap, ap₂, subst, ◌∙◌}
+use mathlib.Core.List.{List, [], ◌∷◌, map, tail}
+use mathlib.Core.Path.{◌≡◌, refl, sym, ap, ◌∙◌}
 use native.Mathlib.Omega.{arith}
 use lib.Dec.{eqb, leb}
-use lib.ListN.{get_or, set, length-set}
-use borrow.Author.Tests.{le-leb, lt-leb, leb-true, leb-false, eqb-true}
+use lib.ListN.{length, get_or}
+use borrow.Author.Tests.{le-leb, lt-leb, leb-true, leb-false, eqb-true, ne_eqb}
+use Rattle.std.proofs.Common.{reverse}
+use Rattle.std.proofs.lemmas.List.{get_or-reverse, length-reverse, length-map}
 use Rattle.flow.specs.Kinds.{is_code}
 use Rattle.flow.specs.Sheet.{Item, all, kind}
-use Rattle.nesting_tests.specs.Stack.{stack_of}
-use Rattle.line_tests.specs.Turn.{least, lows_of, Scopes}
+use Rattle.line_tests.specs.declared.Scope.{Scope}
+use Rattle.line_tests.specs.Scopes.{least, lows_of, scope_ends, scope_lows, Lowest}
+use Rattle.line_tests.specs.Turn.{end_held_here}
 use Rattle.sweeps.proofs.Bools.{and_true}
-use Rattle.nesting_tests.proofs.Stacks.{push, pop, stack_cons, top}
 
 leb_min : (e s m : ℕ) → (leb e s && leb e m) ≡ leb e (min s m)
 leb_min e s m = go (leb e s) (leb e m) refl refl
@@ -27,38 +29,54 @@ unfolding all
 within_least e s [] = and_true (leb e s)
 within_least e s (t ∷ ts) = ap (λ (b : Bool). leb e s && b) (within_least e t ts) ∙ leb_min e s (least t ts)
 
-module _ (count : ℕ) (ends lows : List ℕ) (some : 0 < count) (s : Scopes count ends lows) where
-  low_is : get_or lows (count - 1) 0 ≡ least (get_or ends (count - 1) 0) (stack_of (count - 1) ends)
-  low_is = sym (top count lows some) ∙ ap (λ (l : List ℕ). get_or l 0 0) (s.lowest ∙ ap lows_of (stack_cons count ends some))
+-- where each low is the least of those from it on, the first alone decides, and so does the second of those behind the first
+first_low : (e : ℕ) (ss ls : List ℕ) → 0 < length ss → ls ≡ lows_of ss → all (leb e) ss ≡ leb e (get_or ls 0 0)
+first_low e [] ls h p = absurd (omega arith)
+first_low e (s ∷ ss) ls h p = rw p (within_least e s ss)
 
-  pub within_low : (e : ℕ) → all (leb e) (stack_of count ends) ≡ leb e (get_or lows (count - 1) 0)
-  within_low e = ap (all (leb e)) (stack_cons count ends some) ∙ within_least e (get_or ends (count - 1) 0) (stack_of (count - 1) ends) ∙ ap (leb e) (sym low_is)
+second_low : (e : ℕ) (ss ls : List ℕ) → 1 < length ss → ls ≡ lows_of ss → all (leb e) (tail ss) ≡ leb e (get_or ls 1 0)
+second_low e [] ls h p = absurd (omega arith)
+second_low e (s ∷ ss) ls h p = rw p (first_low e ss (lows_of ss) (omega arith) refl)
 
-  least_low : (e : ℕ) → least e (stack_of count ends) ≡ min e (get_or lows (count - 1) 0)
-  least_low e = ap (least e) (stack_cons count ends some) ∙ ap (min e) (sym low_is)
+-- places of the list that ends with the innermost
+nth_mapped : (f : Scope → ℕ) (ss : List Scope) (i : ℕ) (d : Scope) → i < length ss → get_or (map f ss) i 0 ≡ f (get_or ss i d)
+nth_mapped f [] i d h = absurd (omega arith)
+nth_mapped f (s ∷ ss) zero d h = refl
+nth_mapped f (s ∷ ss) (suc i) d h = nth_mapped f ss i d (omega arith)
 
-  -- one more, with the least of it and those below beside it
-  pub scopes_push : (e v : ℕ) → count < 65 → v ≡ min e (get_or lows (count - 1) 0) → Scopes (count + 1) (set ends count e) (set lows count v)
-  scopes_push e v h p =
-      record {
-        ends_long = length-set ends count e ∙ s.ends_long;
-        lows_long = length-set lows count v ∙ s.lows_long;
-        lowest =
-            push count v lows (omega (arith, s.lows_long)) ∙ ap₂ {C = List ℕ} ◌∷◌ (p ∙ sym (least_low e)) s.lowest
-            ∙ ap lows_of (sym (push count e ends (omega (arith, s.ends_long))));
-      }
+nth : (f : Scope → ℕ) (ss : List Scope) (i : ℕ) (d : Scope) → i < length ss → get_or (map f (reverse ss)) i 0 ≡ f (get_or ss (length ss - 1 - i) d)
+nth f ss i d h =
+    let l : i < length (reverse ss) = omega (arith, length-reverse ss) in
+    nth_mapped f (reverse ss) i d l ∙ ap f (get_or-reverse ss i d h)
 
-tail_lows : (ss : List ℕ) → tail (lows_of ss) ≡ lows_of (tail ss)
-tail_lows [] = refl
-tail_lows (s ∷ ss) = refl
+pub length_ends : (ss : List Scope) → length (scope_ends ss) ≡ length ss
+length_ends ss = simp (length-map, length-reverse)
 
-pub scopes_pop : (count : ℕ) (ends lows : List ℕ) → Scopes count ends lows → Scopes (count - 1) ends lows
-scopes_pop count ends lows s =
-    record {
-      ends_long = s.ends_long;
-      lows_long = s.lows_long;
-      lowest = sym (pop count lows) ∙ ap tail s.lowest ∙ tail_lows (stack_of count ends) ∙ ap lows_of (pop count ends);
-    }
+module _ (ss : List Scope) (d : Scope) (low : Lowest ss) where
+  pub all_within : (e : ℕ) → 0 < length ss → all (leb e) (scope_ends ss) ≡ leb e (get_or ss (length ss - 1) d).low
+  all_within e h =
+      let z : length ss - 1 - 0 ≡ length ss - 1 = omega arith in
+      first_low e (scope_ends ss) (scope_lows ss) (omega (arith, length_ends ss)) low
+      ∙ ap (leb e) (nth (λ (s : Scope). s.low) ss 0 d h ∙ ap (λ (i : ℕ). (get_or ss i d).low) z)
+
+  pub outer_within : (e : ℕ) → 1 < length ss → all (leb e) (tail (scope_ends ss)) ≡ leb e (get_or ss (length ss - 1 - 1) d).low
+  outer_within e h = second_low e (scope_ends ss) (scope_lows ss) (omega (arith, length_ends ss)) low ∙ ap (leb e) (nth (λ (s : Scope). s.low) ss 1 d h)
+
+pub innermost_end : (ss : List Scope) (d : Scope) → 0 < length ss → get_or (scope_ends ss) 0 0 ≡ (get_or ss (length ss - 1) d).end
+innermost_end ss d h =
+    let z : length ss - 1 - 0 ≡ length ss - 1 = omega arith in
+    nth (λ (s : Scope). s.end) ss 0 d h ∙ ap (λ (i : ℕ). (get_or ss i d).end) z
+
+-- what is asked of code that ends at e, by its kind
+module _ (k e : ℕ) (ss : List Scope) (d : Scope) (low : Lowest ss) where
+  pub arm_held : k ≡ 6 → 1 < length ss → leb e (get_or ss (length ss - 1 - 1) d).low ≡ end_held_here (scope_ends ss) k e
+  arm_held p h = rw (p, outer_within ss d low e h) (sym (and_true _))
+
+  pub until_held : k ≡ 9 → 0 < length ss → (leb e (get_or ss (length ss - 1) d).low && eqb e (get_or ss (length ss - 1) d).end) ≡ end_held_here (scope_ends ss) k e
+  until_held p h = rw (p, all_within ss d low e h, innermost_end ss d h)
+
+  pub other_held : (k ≡ 6 → ⊥) → (k ≡ 9 → ⊥) → 0 < length ss → leb e (get_or ss (length ss - 1) d).low ≡ end_held_here (scope_ends ss) k e
+  other_held p q h = rw (ne_eqb k 6 p, ne_eqb k 9 q, all_within ss d low e h) (sym (and_true _))
 
 -- an UNTIL is code
 pub no_until : (i : Item) → is_code i ≡ false → eqb (kind i) 9 ≡ false
@@ -70,9 +88,3 @@ no_until i h = go (eqb (kind i) 9) refl
         let code : is_code i ≡ true = rw (eqb-true (kind i) 9 e) in
         sym code ∙ h
     go false e = refl
-
--- the innermost put anew
-pub scopes_replace : (count e : ℕ) (ends ends' lows' : List ℕ) → 0 < count → stack_of (count - 1 + 1) ends' ≡ e ∷ stack_of (count - 1) ends → Scopes (count - 1 + 1) ends' lows' → (stack_of count ends' ≡ e ∷ tail (stack_of count ends)) × Scopes count ends' lows'
-scopes_replace count e ends ends' lows' h p s =
-    let z : count - 1 + 1 ≡ count = omega arith in
-    (ap (λ (n : ℕ). stack_of n ends') (sym z) ∙ p ∙ ap {B = List ℕ} (λ l. e ∷ l) (sym (pop count ends)), subst (λ (n : ℕ). Scopes n ends' lows') z s)

@@ -10,10 +10,11 @@ use Rattle.search.proofs.Bools.{and_both}
 use Rattle.flow.specs.Kinds.{opens, closes}
 use Rattle.flow.specs.Refusals.{one, outnumbered, may_stand, open_after, pairs_up, scopes_after}
 use Rattle.flow.specs.Sheet.{Item, kind, member}
-use Rattle.nesting_tests.specs.Stack.{stack_of}
 use Rattle.nesting_tests.proofs.Nesting.{most, deep_next, closer_in, arm_in, turned_length, open_length}
-use Rattle.nesting_tests.proofs.Stacks.{length_stack_of}
+use Rattle.line_tests.specs.declared.Scope.{Scope}
+use Rattle.line_tests.specs.Scopes.{scope_ends}
 use Rattle.line_tests.specs.Turn.{Room}
+use Rattle.line_tests.proofs.Lows.{length_ends}
 
 pub scopes_length : (k e : ℕ) (ss : List ℕ) → Room (length ss) k → length (scopes_after k e ss) ≡ length ss + one (opens k) - one (closes k)
 unfolding scopes_after
@@ -50,10 +51,11 @@ nested_next d i is n =
     }
 
 -- the scopes around are one more than what is open
-pub scopes_next : (i : Item) (is : List Item) (e count r : ℕ) (a b : List ℕ) → 0 < count → Nested (count - 1) (i ∷ is) → stack_of r b ≡ scopes_after (kind i) e (stack_of count a) → (0 < r) × Nested (r - 1) is
-scopes_next i is e count r a b h n p =
+pub scopes_next : (i : Item) (is : List Item) (e : ℕ) (old new : List Scope) → 0 < length old → Nested (length old - 1) (i ∷ is) → scope_ends new ≡ scopes_after (kind i) e (scope_ends old) → (0 < length new) × Nested (length new - 1) is
+scopes_next i is e old new h n p =
+    let count = length old in
     let room = nested_room count i is h n in
-    let l = length_stack_of count a in
-    let z : r ≡ count + one (opens (kind i)) - one (closes (kind i)) = sym (length_stack_of r b) ∙ ap length p ∙ scopes_length (kind i) e (stack_of count a) (subst (λ (m : ℕ). Room m (kind i)) (sym l) room) ∙ ap (λ (m : ℕ). m + one (opens (kind i)) - one (closes (kind i))) l in
-    let y : count - 1 + one (opens (kind i)) - one (closes (kind i)) ≡ r - 1 = omega (arith, z, room.closer) in
+    let l = length_ends old in
+    let z : length new ≡ count + one (opens (kind i)) - one (closes (kind i)) = sym (length_ends new) ∙ ap length p ∙ scopes_length (kind i) e (scope_ends old) (subst (λ (m : ℕ). Room m (kind i)) (sym l) room) ∙ ap (λ (m : ℕ). m + one (opens (kind i)) - one (closes (kind i))) l in
+    let y : count - 1 + one (opens (kind i)) - one (closes (kind i)) ≡ length new - 1 = omega (arith, z, room.closer) in
     (omega (arith, z, room.closer), subst (λ (m : ℕ). Nested m is) y (nested_next (count - 1) i is n))

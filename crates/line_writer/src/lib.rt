@@ -7,7 +7,7 @@ ghost use Rattle.line_writer.specs.Output.{HasRoom, Appends};
 
 use itoa::Buffer;
 
-// Lent bytes, the first `len` of which are printed.
+// Lent bytes, the first `len` of which are printed. No `fmt::Write`: what std promises of a `write!` has no word on when it succeeds, and a listing cannot fail.
 #[derive(Drop)]
 pub struct Output<'a> {
     pub bytes: &'a mut [u8],

@@ -13,7 +13,7 @@ use finding_lines::finding_lines;
 use flow::{Counts, Judgement, Refusal};
 use line_writer::Output;
 
-// Bytes that hold every output, as the specs' `room_for_all` has it.
+// Bytes that hold every output, as the specs' `room_for_all` has it. It stays a clause of each that is lent an output: a type with that fact would want a clause on its reference there instead.
 pub const ROOM: usize = 169140;
 
 // `refused K` alone.

@@ -54,9 +54,7 @@ pub fn split_names(
     ensures name_span_after { name_span.new ≡ map (λ w. get_or spans.now (name_item w) 0) (take names name_node.old) ++ drop names name_span.old }
     ensures name_end_after { name_end.new ≡ map hi (take names name_node.old) ++ drop names name_end.old }
 {
-    let mut k = 0;
-    while k < names {
+    for k in 0..names {
         split_name(spans, name_node, name_span, name_end, k);
-        k += 1;
     }
 }

@@ -1,4 +1,3 @@
-pub mod Stacks
 pub mod Sweeps
 pub mod Nesting
 pub mod Decoded

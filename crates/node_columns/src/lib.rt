@@ -26,10 +26,8 @@ fn split_edges(first: &mut [u64], second: &mut [u64], n: usize)
     ensures first_after { first.new ≡ map lo (take n first.old) ++ drop n first.old }
     ensures second_after { second.new ≡ map hi (take n first.old) ++ drop n second.old }
 {
-    let mut i = 0;
-    while i < n {
+    for i in 0..n {
         split_edge(first, second, i);
-        i += 1;
     }
 }
 

@@ -1,24 +1,33 @@
 // One case of the stored answers, against what the calls and crates/admission answer.
-ghost use Rattle.std.specs.Prelude.{◌≡◌, ◌+◌, ◌≤◌, length, get_or};
+ghost use Rattle.std.specs.Prelude.{◌≡◌, ◌+◌, get_or};
 ghost use Rattle.flow.specs.Answers.{label_told};
 
 use crate::chart_cells::chart_agrees;
 use crate::finding_cells::judge_agrees;
 use crate::runs::runs_agree;
-use crate::stored;
+use crate::stored::{Rest, Stored};
 use column_lengths::{CODES, FINDINGS, LOCALS, NODES};
 use flow::Refusal;
 use numbers::number_of;
+use std::fmt;
 
-// Misshapen: a length goes past the case's end. Unread: the file ends in the case, or the case is
-// longer than the reader's buffer. End: no case is left.
-#[derive(Clone, Copy)]
-pub enum Outcome {
-    Agrees,
+// Why a case does not agree. Misshapen: a length goes past the case's end. Unread: the file ends in the case, or the case is
+// longer than the reader's buffer.
+#[derive(Clone, Copy, PartialEq, Eq)]
+pub enum Fault {
     Differs,
     Misshapen,
     Unread,
-    End,
+}
+
+impl fmt::Display for Fault {
+    fn fmt<W: fmt::Write>(&self, f: &mut fmt::Formatter<W>) -> fmt::Result {
+        f.write_str(match self {
+            Fault::Differs => "differs",
+            Fault::Misshapen => "a length goes past its end",
+            Fault::Unread => "too long, or the file ends in it",
+        })
+    }
 }
 
 // The word that a case holds for the label check: the refusal's number, else its value.
@@ -32,13 +41,20 @@ fn label_word(answer: Result<bool, Refusal>) -> u64
 }
 
 // How many cells each column of a sort has.
-#[derive(Drop)]
-pub struct Cells {
+#[derive(Clone, Copy)]
+struct Cells {
     nodes: usize,
     codes: usize,
     locals: usize,
     findings: usize,
 }
+
+const ENOUGH: Cells = Cells {
+    nodes: NODES,
+    codes: CODES,
+    locals: LOCALS,
+    findings: FINDINGS,
+};
 
 // Whether chart and judge answer these two numbers over columns of so many cells.
 fn both_agree(cells: Cells, sheet: &[u64], uses: &[u64], chart: u64, judge: u64) -> bool {
@@ -52,81 +68,55 @@ fn both_agree(cells: Cells, sheet: &[u64], uses: &[u64], chart: u64, judge: u64)
     charted & judged
 }
 
-fn room(nodes: usize, codes: usize, locals: usize, findings: usize) -> Cells {
-    Cells {
-        nodes: nodes,
-        codes: codes,
-        locals: locals,
-        findings: findings,
-    }
-}
-
 // One cell too few is refusal 1, whatever the sheets. Only judge asks for findings.
 fn verdicts_agree(sheet: &[u64], uses: &[u64], chart: u64, judge: u64) -> bool {
-    let enough = both_agree(
-        room(NODES, CODES, LOCALS, FINDINGS),
-        sheet,
-        uses,
-        chart,
-        judge,
-    );
-    let nodes = both_agree(room(NODES - 1, CODES, LOCALS, FINDINGS), sheet, uses, 1, 1);
-    let codes = both_agree(room(NODES, CODES - 1, LOCALS, FINDINGS), sheet, uses, 1, 1);
-    let locals = both_agree(room(NODES, CODES, LOCALS - 1, FINDINGS), sheet, uses, 1, 1);
-    let findings = both_agree(
-        room(NODES, CODES, LOCALS, FINDINGS - 1),
-        sheet,
-        uses,
-        chart,
-        1,
-    );
-    enough & nodes & codes & locals & findings
+    let few_nodes = Cells {
+        nodes: NODES - 1,
+        ..ENOUGH
+    };
+    let few_codes = Cells {
+        codes: CODES - 1,
+        ..ENOUGH
+    };
+    let few_locals = Cells {
+        locals: LOCALS - 1,
+        ..ENOUGH
+    };
+    let few_findings = Cells {
+        findings: FINDINGS - 1,
+        ..ENOUGH
+    };
+    both_agree(ENOUGH, sheet, uses, chart, judge)
+        && both_agree(few_nodes, sheet, uses, 1, 1)
+        && both_agree(few_codes, sheet, uses, 1, 1)
+        && both_agree(few_locals, sheet, uses, 1, 1)
+        && both_agree(few_findings, sheet, uses, chart, 1)
 }
 
-// Whether the calls answer what is stored of them.
-fn answers_agree(sheet: &[u64], uses: &[u64], words: &[u64]) -> bool {
-    let chart = stored::chart(words);
-    let judge = stored::judge(words, chart);
-    let labelled = label_word(label_call::label_check(sheet)) == stored::word_at(words, 2);
-    let admitted = verdicts_agree(sheet, uses, chart.number, judge.number);
-    let charted = chart_agrees(sheet, chart, words);
-    let ran = runs_agree(sheet, chart, words);
-    let judged = judge_agrees(sheet, uses, judge, words);
-    labelled & admitted & charted & ran & judged
+// Whether chart, run and judge answer what is stored of them, where a word that is missing is not answered.
+fn calls_agree(sheet: &[u64], uses: &[u64], chart: u64, judge: u64, rest: Rest) -> Option<bool> {
+    let (charted, cells) = Stored::read(chart, rest)?;
+    let (judged, all_cells) = Stored::read(judge, rest)?;
+    let agree = chart_agrees(sheet, charted, cells)
+        && runs_agree(sheet, charted, cells)?
+        && judge_agrees(sheet, uses, judged, all_cells)?;
+    Some(agree)
 }
 
-// Where the list whose length stands at `at` ends, or `at` itself if that is past the case's end.
-fn list_end(case: &[u64], at: usize) -> usize
-    requires { at ≤ length case.now }
-    ensures { (at ≤ result) × (result ≤ length case.now) }
-{
-    let n = stored::word_at(case, at);
-    if n >= (case.len() - at) as u64 {
-        return at;
+// Whether the words of a case that follow its length agree.
+pub fn compare(case: &[u64]) -> Result<(), Fault> {
+    let mut rest = Rest::new(case);
+    let sheet = rest.list(1).ok_or(Fault::Misshapen)?;
+    let uses = rest.list(1).ok_or(Fault::Misshapen)?;
+    let chart = rest.word().ok_or(Fault::Misshapen)?;
+    let judge = rest.word().ok_or(Fault::Misshapen)?;
+    let label = rest.word().ok_or(Fault::Misshapen)?;
+    let labelled = label_word(label_call::label_check(sheet)) == label;
+    let admitted = verdicts_agree(sheet, uses, chart, judge);
+    let called = calls_agree(sheet, uses, chart, judge, rest).unwrap_or(false);
+    if labelled && admitted && called {
+        Ok(())
+    } else {
+        Err(Fault::Differs)
     }
-    at + 1 + n as usize
-}
-
-// The outcome for the words of a case that follow its length.
-pub fn compare(case: &[u64]) -> Outcome {
-    let sheet_end = list_end(case, 0);
-    if sheet_end == 0 {
-        return Outcome::Misshapen;
-    }
-    let uses_end = list_end(case, sheet_end);
-    if uses_end == sheet_end {
-        return Outcome::Misshapen;
-    }
-    if case.len() - uses_end < 3 {
-        return Outcome::Misshapen;
-    }
-    let uses_start = sheet_end + 1;
-    if answers_agree(
-        &case[1..sheet_end],
-        &case[uses_start..uses_end],
-        &case[uses_end..],
-    ) {
-        return Outcome::Agrees;
-    }
-    Outcome::Differs
 }

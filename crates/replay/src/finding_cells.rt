@@ -3,60 +3,47 @@ ghost use Rattle.std.specs.Prelude.{◌≡◌, true, [], ◌∷◌};
 ghost use Rattle.flow.specs.Answers.{judge_told};
 ghost use Rattle.replay.specs.Words.{stored_told};
 
-use crate::chart_cells::{OLD, cells_hold, counts_are, finding_end};
-use crate::stored::Stored;
+use crate::chart_cells::{cells_hold, counts_are};
+use crate::stored::{OLD, Rest, Stored};
 use column_lengths::{CODES, FINDINGS, LOCALS, NODES};
 use flow::{Judgement, Refusal};
-use numbers::number_of;
 
 // Whether an answer tells the stored number, and where that is 0 the stored counts and the number of findings.
-fn answer_is(answer: Result<Judgement, Refusal>, stored: Stored) -> bool
-    ensures { result ≡ true → judge_told answer ≡ stored_told stored.number (stored.nodes ∷ stored.codes ∷ stored.names ∷ stored.findings ∷ []) }
+fn answer_is(answer: Result<Judgement, Refusal>, stored: Stored, findings: u64) -> bool
+    ensures { result ≡ true → judge_told answer ≡ stored_told stored.number (stored.nodes ∷ stored.codes ∷ stored.names ∷ findings ∷ []) }
 {
-    if number_of(answer) != stored.number {
-        return false;
-    }
     match answer {
-        Err(_) => true,
+        Err(refusal) => u64::from(refusal) == stored.number,
         Ok(judged) => {
-            counts_are(judged.counts, stored) && judged.findings == stored.findings as usize
+            stored.number == 0
+                && counts_are(judged.counts, stored)
+                && judged.findings as u64 == findings
         }
     }
 }
 
 // The mark figure of a local is at most the node count, and nothing is new behind them.
-fn is_mark(mark: u64, i: usize, stored: Stored) -> bool {
-    if i < stored.names as usize {
-        return mark <= stored.nodes as u64;
-    }
-    mark == OLD
-}
-
-fn marks_hold(mark: [u64; LOCALS], stored: Stored) -> bool {
-    let mut i = 0;
-    while i < LOCALS {
-        if !is_mark(mark[i], i, stored) {
-            return false;
+fn marks_hold(mark: &[u64], stored: Stored) -> bool {
+    mark.iter().enumerate().all(|(i, figure)| {
+        if (i as u64) < stored.names {
+            *figure <= stored.nodes
+        } else {
+            *figure == OLD
         }
-        i += 1;
-    }
-    true
+    })
 }
 
-// The findings' cells are a case's last words.
-fn findings_hold(
-    word: [u64; FINDINGS],
-    span: [u64; FINDINGS],
-    words: &[u64],
-    stored: Stored,
-) -> bool {
-    let n = stored.findings as usize;
-    let span_from = finding_end(word, words, stored.findings_from, n);
-    finding_end(span, words, span_from, n) == words.len()
+// How many findings stand behind the chart's cells and the runs: none beside a refusal.
+fn findings(stored: Stored, rest: &mut Rest) -> Option<u64> {
+    if stored.number != 0 {
+        return Some(0);
+    }
+    rest.list(3)?;
+    rest.word()
 }
 
 // Whether judge answers and writes what is stored: the chart's cells, and the findings'. What is stored has no scope sheet.
-pub fn judge_agrees(sheet: &[u64], uses: &[u64], stored: Stored, words: &[u64]) -> bool {
+pub fn judge_agrees(sheet: &[u64], uses: &[u64], stored: Stored, cells: Rest) -> Option<bool> {
     let scopes = [OLD; 0];
     let mut first = [OLD; NODES];
     let mut second = [OLD; NODES];
@@ -87,12 +74,20 @@ pub fn judge_agrees(sheet: &[u64], uses: &[u64], stored: Stored, words: &[u64]) 
         &mut finding_span,
         &mut mark,
     );
-    let answered = answer_is(answer, stored);
+    let mut rest = cells;
     let written = cells_hold(
-        first, second, start, reachable, code_span, code_node, name_span, name_node, name_end,
-        stored, words,
+        &first, &second, &start, &reachable, &code_span, &code_node, &name_span, &name_node,
+        &name_end, stored, &mut rest,
     );
-    let found = findings_hold(finding_word, finding_span, words, stored);
-    let marked = marks_hold(mark, stored);
-    answered & written & found & marked
+    if !written {
+        return Some(false);
+    }
+    // The findings' cells are a case's last words.
+    let found = findings(stored, &mut rest)?;
+    let agree = answer_is(answer, stored, found)
+        && rest.are_in(&finding_word, found)
+        && rest.are_in(&finding_span, found)
+        && rest.is_empty()
+        && marks_hold(&mark, stored);
+    Some(agree)
 }

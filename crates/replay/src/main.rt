@@ -1,9 +1,7 @@
 // Replays the stored answers of data/ and says how many cases differ.
 #![tactic(auto)]
 
-ghost use Rattle.std.specs.Prelude.{◌≤◌};
-
-use case::Outcome;
+use case::Fault;
 use std::fs::File;
 use std::io;
 
@@ -20,63 +18,29 @@ struct Tally {
     differ: u64,
 }
 
-// An unread case counts as differing too: no case may pass unseen.
-fn differs(outcome: Outcome) -> u64
-    ensures { result ≤ 1 }
-{
-    match outcome {
-        Outcome::Agrees => 0,
-        _ => 1,
-    }
-}
-
-// After an unread case nothing says where the next one starts.
-fn is_last(outcome: Outcome) -> bool {
-    match outcome {
-        Outcome::Unread => true,
-        _ => false,
-    }
-}
-
-fn is_end(outcome: Outcome) -> bool {
-    match outcome {
-        Outcome::End => true,
-        _ => false,
-    }
-}
-
-fn print_case(rt: &impl Print, name: &str, case: u64, what: &str) -> io::Result<()> {
-    println!(rt; "{name} case {case}: {what}")
-}
-
-fn tell(rt: &impl Print, name: &str, case: u64, outcome: Outcome) -> io::Result<()> {
-    match outcome {
-        Outcome::Differs => print_case(rt, name, case, "differs"),
-        Outcome::Misshapen => print_case(rt, name, case, "a length goes past its end"),
-        Outcome::Unread => print_case(rt, name, case, "too long, or the file ends in it"),
-        _ => Ok(()),
-    }
-}
-
+// An unread case counts as differing too: no case may pass unseen. After one nothing says where the next one starts.
 // A proved loop has to end, and nothing says that a file does: the count of cases is the bound.
 fn replay_cases(rt: &impl Print, file: &mut File, name: &str) -> io::Result<Tally> {
-    let mut cases: u64 = 0;
-    let mut differ: u64 = 0;
-    while cases < u64::MAX {
-        let outcome = reader::next(file)?;
-        if is_end(outcome) {
+    let mut tally = Tally {
+        cases: 0,
+        differ: 0,
+    };
+    for case in 1..u64::MAX {
+        let Some(outcome) = reader::next(file)? else {
             break;
-        }
-        cases += 1;
-        if differ < 10 {
-            tell(rt, name, cases, outcome)?;
-        }
-        differ += differs(outcome);
-        if is_last(outcome) {
-            break;
+        };
+        tally.cases = case;
+        if let Err(fault) = outcome {
+            if tally.differ < 10 {
+                println!(rt; "{name} case {case}: {fault}")?;
+            }
+            tally.differ += 1;
+            if fault == Fault::Unread {
+                break;
+            }
         }
     }
-    Ok(Tally { cases, differ })
+    Ok(tally)
 }
 
 // A file that cannot be opened is told on the standard error, and the next one comes.

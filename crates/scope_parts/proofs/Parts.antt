@@ -17,8 +17,10 @@ module _ (C : List ℕ) (c : ScopesCounted C) where
   pub parents_are : take (1 + get_or C 0 0 + get_or C 0 0 - (1 + get_or C 0 0)) (drop (1 + get_or C 0 0) C) ≡ parent_words C
   parents_are = let z : 1 + get_or C 0 0 + get_or C 0 0 - (1 + get_or C 0 0) ≡ get_or C 0 0 = omega arith in ap (λ (n : ℕ). take n (drop (1 + get_or C 0 0) C)) z
 
-  pub numbers_are : take (length C - (1 + 2 * get_or C 0 0)) (drop (1 + 2 * get_or C 0 0) C) ≡ scope_numbers C
-  numbers_are = take_all (length C - (1 + 2 * get_or C 0 0)) (drop (1 + 2 * get_or C 0 0) C) (omega (arith, length-drop (1 + 2 * get_or C 0 0) C))
+  pub numbers_are : take (length C - (1 + get_or C 0 0 + get_or C 0 0)) (drop (1 + get_or C 0 0 + get_or C 0 0) C) ≡ scope_numbers C
+  numbers_are =
+      let z : 1 + get_or C 0 0 + get_or C 0 0 ≡ 1 + 2 * get_or C 0 0 = omega arith in
+      rw z (take_all (length C - (1 + 2 * get_or C 0 0)) (drop (1 + 2 * get_or C 0 0) C) (omega (arith, length-drop (1 + 2 * get_or C 0 0) C)))
 
   pub kinds_long : length (scope_kinds C) ≡ count_word C
   kinds_long = length-take-le (count_word C) (drop 1 C) (omega (arith, length-drop 1 C, c.long))

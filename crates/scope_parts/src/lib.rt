@@ -8,30 +8,29 @@ ghost use Rattle.scope_parts.specs.Parts.{ScopesCounted};
 // Words that stand before the two arrays.
 const SCOPE_HEAD: usize = 1;
 
-// The first array: kinds.
-pub fn scope_kinds(scopes: &[u64]) -> &[u64]
-    requires { ScopesCounted scopes.now }
-    ensures { result.now ≡ scope_kinds scopes.now }
-{
-    let end = SCOPE_HEAD + scopes[0] as usize;
-    &scopes[SCOPE_HEAD..end]
+#[derive(Clone, Copy)]
+pub struct Scopes<'a> {
+    // The first array: kinds,
+    pub kinds: &'a [u64],
+    // the second: parent plus 1, or 0 for none,
+    pub parents: &'a [u64],
+    // and the scope numbers of names, then of uses.
+    pub numbers: &'a [u64],
 }
 
-// The second array: parent plus 1, or 0 for none.
-pub fn parent_words(scopes: &[u64]) -> &[u64]
-    requires { ScopesCounted scopes.now }
-    ensures { result.now ≡ parent_words scopes.now }
-{
-    let start = SCOPE_HEAD + scopes[0] as usize;
-    let end = start + scopes[0] as usize;
-    &scopes[start..end]
-}
-
-// The scope numbers of names, then of uses.
-pub fn scope_numbers(scopes: &[u64]) -> &[u64]
-    requires { ScopesCounted scopes.now }
-    ensures { result.now ≡ scope_numbers scopes.now }
-{
-    let start = SCOPE_HEAD + 2 * scopes[0] as usize;
-    &scopes[start..]
+impl<'a> Scopes<'a> {
+    pub fn of(sheet: &'a [u64]) -> Self
+        requires { ScopesCounted sheet.now }
+        ensures kinds { result.kinds.now ≡ scope_kinds sheet.now }
+        ensures parents { result.parents.now ≡ parent_words sheet.now }
+        ensures numbers { result.numbers.now ≡ scope_numbers sheet.now }
+    {
+        let parents = SCOPE_HEAD + sheet[0] as usize;
+        let numbers = parents + sheet[0] as usize;
+        Scopes {
+            kinds: &sheet[SCOPE_HEAD..parents],
+            parents: &sheet[parents..numbers],
+            numbers: &sheet[numbers..],
+        }
+    }
 }

@@ -5,7 +5,7 @@ ghost use Rattle.std.specs.Prelude.{◌≡◌, ◌≤◌};
 ghost use Rattle.flow.specs.Sheet.{all};
 ghost use Rattle.flow.specs.Scopes.{is_below, parents_lower, scopes_wrong};
 
-use scope_parts::{parent_words, scope_kinds, scope_numbers};
+use scope_parts::Scopes;
 use words::limit::SCOPES;
 use words::scope_kind::LOOP;
 
@@ -13,50 +13,40 @@ use words::scope_kind::LOOP;
 fn all_below(words: &[u64], limit: u64) -> bool
     ensures { result ≡ all (is_below limit) words.now }
 {
-    let mut i = 0;
-    while i < words.len() {
-        if words[i] >= limit {
-            return false;
-        }
-        i += 1;
-    }
-    true
+    words.iter().all(|&word| word < limit)
 }
 
 // Whether each parent is a lower number than its scope, or none: the word, its number plus 1, is at most the scope's.
 fn parents_lower(parents: &[u64]) -> bool
     ensures { result ≡ parents_lower 0 parents.now }
 {
-    let mut s = 0;
-    while s < parents.len() {
-        if parents[s] > s as u64 {
-            return false;
-        }
-        s += 1;
-    }
-    true
+    parents
+        .iter()
+        .enumerate()
+        .all(|(s, &parent)| parent <= s as u64)
 }
 
 // Whether a scope sheet, where one comes, is none for so many names and uses. The count is tested before it is multiplied.
-pub fn bad_scopes(scopes: &[u64], names: u64, uses: u64) -> bool
+pub fn bad_scopes(sheet: &[u64], names: u64, uses: u64) -> bool
     requires { (names ≤ 1024) × (uses ≤ 1024) }
-    ensures { result ≡ scopes_wrong names uses scopes.now }
+    ensures { result ≡ scopes_wrong names uses sheet.now }
 {
-    if scopes.len() == 0 {
+    if sheet.len() == 0 {
         return false;
     }
-    let count = scopes[0];
+    let count = sheet[0];
     if count > SCOPES as u64 {
         return true;
     }
-    if scopes.len() as u64 != 1 + 2 * count + names + uses {
+    if sheet.len() as u64 != 1 + 2 * count + names + uses {
         return true;
     }
-    if !all_below(scope_kinds(scopes), LOOP + 1) {
+    let scopes = Scopes::of(sheet);
+    if !all_below(scopes.kinds, LOOP + 1) {
         return true;
     }
-    if !parents_lower(parent_words(scopes)) {
+    if !parents_lower(scopes.parents) {
         return true;
     }
-    !all_below(scope_numbers(scopes), count)
+    !all_below(scopes.numbers, count)
 }

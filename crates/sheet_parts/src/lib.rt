@@ -54,7 +54,7 @@ impl<'a> Items<'a> {
     }
 }
 
-// The arrays one by one.
+// The arrays one by one, for calls that take one of them alone.
 pub fn kinds(sheet: &[u64]) -> &[u64]
     requires { Counted 2 sheet.now }
     ensures { result.now ≡ kind_words sheet.now }

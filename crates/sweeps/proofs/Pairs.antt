@@ -10,7 +10,7 @@ use lib.ListN.{length, get_or}
 use Rattle.std.proofs.Common.{Iter, Option, Some, None}
 use Rattle.std.proofs.lemmas.List.{length_push}
 use Rattle.std.proofs.lemmas.Slice.Zip.{zip_turn, zip_end}
-use Rattle.sweeps.proofs.Sweep.{Sweep, Swept, item, onward, fails, ends}
+use Rattle.sweeps.proofs.Sweep.{Sweep, Swept, rest, rest_next, item, onward, fails, ends}
 use Rattle.std.specs.Iterator.{Yields}
 use Rattle.std.specs.declared.iter.Zip.{Zip}
 use Rattle.std.proofs.iter.Yields.{fronts}
@@ -45,6 +45,10 @@ turn ws ss xs s t u r a b y p e n =
 
 abbrev pub now_at : Bor ℕ × Bor ℕ → Item
 now_at p = record { word = p.0.now; span = p.1.now }
+
+-- what is to come begins with it
+pub rest_at : {ws ss : List ℕ} {xs : List (Bor ℕ × Bor ℕ)} {p : Bor ℕ × Bor ℕ} → length ws ≡ length ss → Turn ws ss xs p → rest ws ss (length xs) ≡ now_at p ∷ rest ws ss (length xs + 1)
+rest_at {ws} {ss} {xs} {p} e t = rest_next ws ss (length xs) e t.within ∙ ap₂ (λ (a b : ℕ). let i : Item = record { word = a; span = b } in i ∷ rest ws ss (length xs + 1)) (sym t.word) (sym t.span)
 
 module _ {w : Sweep} {ws ss : List ℕ} {s₀ s : w.State} {xs : List (Bor ℕ × Bor ℕ)} {p : Bor ℕ × Bor ℕ} (so_far : Swept w ws ss s₀ (length xs) s) (e : length ws ≡ length ss) (t : Turn ws ss xs p) where
   at_item : item ws ss (length xs) ≡ now_at p

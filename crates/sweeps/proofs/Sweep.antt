@@ -1,9 +1,9 @@
 -- A sweep: each item in turn passes a test, which a state goes into that the items before it left. What a turn of its loop shows, and its end.
 -- Assumes nothing.
-use Prim.Native.Nat.{ℕ, ◌+◌, ◌≤◌, ◌<◌, zero-le}
+use Prim.Native.Nat.{ℕ, ◌+◌, ◌≤◌, ◌<◌}
 use mathlib.Core.Bool.{Bool, true, false, ◌&&◌}
 use mathlib.Core.List.{List, [], ◌∷◌}
-use mathlib.Core.Path.{◌≡◌, refl, sym, ap, ◌∙◌}
+use mathlib.Core.Path.{◌≡◌, sym, ap, ◌∙◌}
 use native.Mathlib.Numerals.{add-one}
 use native.Mathlib.Omega.{arith}
 use lib.ListN.{length, get_or, drop, drop_of_length-le}
@@ -36,9 +36,6 @@ pub record Sweep : Type 1 where
 pub record Swept (w : Sweep) (ks ss : List ℕ) (s₀ : w.State) (i : ℕ) (s : w.State) : Type 0 where
   pub within : i ≤ length ks
   pub left : w.all s (rest ks ss i) ≡ w.all s₀ (zip ks ss)
-
-pub begin : (w : Sweep) (ks ss : List ℕ) (s : w.State) → Swept w ks ss s 0 s
-begin w ks ss s = record { within = zero-le; left = refl }
 
 module _ {w : Sweep} {ks ss : List ℕ} {s₀ : w.State} {i : ℕ} {s : w.State} (so_far : Swept w ks ss s₀ i s) where
   turn : length ks ≡ length ss → i < length ks → w.all s₀ (zip ks ss) ≡ (w.fits s (item ks ss i) && w.all (w.after s (item ks ss i)) (rest ks ss (i + 1)))

@@ -105,7 +105,7 @@ repeat_loop-loop_body-requires t c =
       omega (arith, hd.item),
       (
         (c.requires.0, hd.good, omega (arith, hd.item), at_item c.args.b.now.kinds.now (place c.repeat_head.new.self) (c.args.i + 1) (hd.item ∙ c.requires.2) (λ ss e. omega (arith, repeat_room c.args.b.now.kinds.now ss e c.args.i c.requires.4 (place c.args.b.now) c.requires.6 c.requires.5, hd.nodes)), c.requires.0.scopes _ c.requires.4 (omega arith) (omega arith)),
-        rw c.repeat_targets-targets.ensures (omega (arith, hd.nodes), omega (arith, hd.nodes)),
+        rw c.repeat_targets.ensures (omega (arith, hd.nodes), omega (arith, hd.nodes)),
       ),
     )
 
@@ -125,7 +125,7 @@ repeat_loop-returns-clause-built t c =
     let ca = closed_at c.args.b.now.kinds.now ss e c.loop_body.new.b.item (open_at c.args.b.now.kinds.now ss (c.args.i + 1)) ((rw c.repeat_head.ensures.kept.0 at c.loop_body.ensures.built) ss e).ended (((rw c.repeat_head.ensures.kept.0 at c.loop_body.ensures.built) ss e).shut ∙ ap (λ j. bare (open_at c.args.b.now.kinds.now ss j)) ((c.repeat_head.ensures.built c.args.b.now.kinds.now c.requires.1).item ∙ c.requires.2)) (c.requires.0.tidy ss e _ c.requires.4 (omega arith) (omega arith)) (c.requires.0.closed ss e _ c.requires.4 c.requires.5) in
     let p = rw (c.loop_body.ensures.kept.0, c.repeat_head.ensures.kept.0) at c.past-b.ensures in
     let g = good_item c.past-b.result p.0 (omega (arith, p.1, c.requires.0.few)) ((rw c.repeat_head.ensures.kept.0 at c.loop_body.ensures.built) c.args.b.now.kinds.now refl).moved.good in
-    repeat_opened c.args.b.now.kinds.now ss e c.requires.0.few c.args.i c.requires.4 _ _ _ c.requires.5 c.literal_truth-truth.ensures refl c.requires.2 c.requires.1 (c.requires.0.tidy ss e _ c.requires.4 (omega arith) (omega arith)) (c.repeat_head.ensures.built c.args.b.now.kinds.now c.requires.1) (looped_to c.repeat_targets-targets.ensures ((rw c.repeat_head.ensures.kept.0 at c.loop_body.ensures.built) ss e)) p.2 p.3 p.1 p.0 ca.2 (c.repeat_end.ensures.built c.args.b.now.kinds.now g (close_starts (get_or c.args.b.now.kinds.now c.loop_body.new.b.item 0) ca.1))
+    repeat_opened c.args.b.now.kinds.now ss e c.requires.0.few c.args.i c.requires.4 _ _ _ c.requires.5 c.literal_truth-truth.ensures refl c.requires.2 c.requires.1 (c.requires.0.tidy ss e _ c.requires.4 (omega arith) (omega arith)) (c.repeat_head.ensures.built c.args.b.now.kinds.now c.requires.1) (looped_to c.repeat_targets.ensures ((rw c.repeat_head.ensures.kept.0 at c.loop_body.ensures.built) ss e)) p.2 p.3 p.1 p.0 ca.2 (c.repeat_end.ensures.built c.args.b.now.kinds.now g (close_starts (get_or c.args.b.now.kinds.now c.loop_body.new.b.item 0) ca.1))
 
 -- ---- if_stmt
 
@@ -183,7 +183,7 @@ scoped_block-returns-clause-built t c =
 -- ---- loop_body
 
 pub loop_body-scoped_block-requires : goal.loop_body-scoped_block-requires
-loop_body-scoped_block-requires t c = (omega arith, (c.requires.sane.0, good_loop c.args.break_target c.args.continue_target (ap (λ (st : BlockSettings). within st (place c.args.b.now)) c.enter_loop-b.ensures) c.requires.break_target_lt_nodes.0 c.requires.break_target_lt_nodes.1 c.requires.sane.1, c.requires.sane.2, c.requires.sane.3, c.requires.sane.4))
+loop_body-scoped_block-requires t c = (omega arith, (c.requires.sane.0, good_loop c.args.targets.break_target c.args.targets.continue_target (ap (λ (st : BlockSettings). within st (place c.args.b.now)) c.enter_loop-b.ensures) c.requires.break_target_lt_nodes.0 c.requires.break_target_lt_nodes.1 c.requires.sane.1, c.requires.sane.2, c.requires.sane.3, c.requires.sane.4))
 
 pub loop_body-close_into-requires : goal.loop_body-close_into-requires
 loop_body-close_into-requires t c =
@@ -192,7 +192,7 @@ loop_body-close_into-requires t c =
 
 pub loop_body-returns-clause-built : goal.loop_body-returns-clause-built
 loop_body-returns-clause-built t c =
-    λ ss e. let s = c.scoped_block.ensures.built ss e in looped _ ss c.requires.sane.1 c.args.scope_end c.args.break_target c.args.continue_target _ _ _ _ (scoped_loop _ ss (place c.args.b.now) c.args.scope_end c.args.break_target c.args.continue_target (ap (λ (st : BlockSettings). within st (place c.args.b.now)) c.enter_loop-b.ensures) s) (c.close_into.ensures.built _ s.moved.good) (ap (λ (st : BlockSettings). within st (place c.close_into.new.self)) c.return_to-b.ensures)
+    λ ss e. let s = c.scoped_block.ensures.built ss e in looped _ ss c.requires.sane.1 c.args.scope_end c.args.targets.break_target c.args.targets.continue_target _ _ _ _ (scoped_loop _ ss (place c.args.b.now) c.args.scope_end c.args.targets.break_target c.args.targets.continue_target (ap (λ (st : BlockSettings). within st (place c.args.b.now)) c.enter_loop-b.ensures) s) (c.close_into.ensures.built _ s.moved.good) (ap (λ (st : BlockSettings). within st (place c.close_into.new.self)) c.return_to-b.ensures)
 
 -- ---- block
 

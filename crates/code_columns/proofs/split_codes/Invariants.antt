@@ -1,6 +1,6 @@
 -- `code_columns::split_codes` meets its contract: at the loop's head the first k words are taken apart, and their starts are set.
 -- Assumes nothing.
-use Prim.Native.Nat.{ℕ, ◌≤◌, ◌-◌}
+use Prim.Native.Nat.{ℕ}
 use mathlib.Core.Path.{◌≡◌}
 use mathlib.Core.List.{List}
 use lib.ListN.{length, get_or, take}
@@ -13,8 +13,9 @@ abbrev pub span : List ℕ → ℕ → ℕ
 span ss c = get_or ss (hi c) 0
 
 abbrev pub invariant-loop-k : goal.invariant-loop-k
-invariant-loop-k l = (l.k ≤ l.codes) × Written lo l.k l.initial.code_node l.initial.code_node l.code_node × Written (span l.spans) l.k l.initial.code_node l.initial.code_span l.code_span
-    × (length l.start ≡ length l.initial.start) × (l.start ≡ painted l.kinds l.spans (take l.k l.initial.code_node) l.initial.start)
-
-abbrev pub decreases-loop-k : goal.decreases-loop-k
-decreases-loop-k l = l.codes - l.k
+invariant-loop-k l = record {
+  nodes : Written lo l.k l.initial.code_node l.initial.code_node l.code_node;
+  code_spans : Written (span l.spans) l.k l.initial.code_node l.initial.code_span l.code_span;
+  long : length l.start ≡ length l.initial.start;
+  starts : l.start ≡ painted l.kinds l.spans (take l.k l.initial.code_node) l.initial.start;
+}

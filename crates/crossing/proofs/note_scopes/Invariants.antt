@@ -1,13 +1,9 @@
 -- `crossing::note_scopes` meets its contract: at the loop's head the first s scopes are noted.
 -- Assumes nothing.
-use Prim.Native.Nat.{◌-◌, ◌≤◌}
 use mathlib.Core.Path.{◌≡◌}
 use lib.ListN.{length}
 use Rattle.crossing.specs.Tables.{Noted}
 use Rattle.crossing.proofs.note_scopes.Given as goal
 
 abbrev pub invariant-loop-s : goal.invariant-loop-s
-invariant-loop-s l = (l.s ≤ length l.kinds) × (length l.notes ≡ length l.initial.notes) × Noted l.kinds l.parents l.s l.notes
-
-abbrev pub decreases-loop-s : goal.decreases-loop-s
-decreases-loop-s l = length l.kinds - l.s
+invariant-loop-s l = (length l.notes ≡ length l.initial.notes) × Noted l.kinds l.parents l.s l.notes

@@ -1,12 +1,7 @@
 -- `crossing::replace_crossings` meets its contract: the scopes are noted, and at the loop's head the first u words are replaced.
 -- Assumes nothing.
-use Prim.Native.Nat.{◌-◌, ◌≤◌}
-use lib.ListN.{length}
 use Rattle.crossing.proofs.Word.{Replacing}
 use Rattle.crossing.proofs.replace_crossings.Given as goal
 
 abbrev pub invariant-loop-u : goal.invariant-loop-u
-invariant-loop-u l = (l.u ≤ length l.use_words) × Replacing l.names l.scopes l.u l.use_words l.initial.words l.words
-
-abbrev pub decreases-loop-u : goal.decreases-loop-u
-decreases-loop-u l = length l.use_words - l.u
+invariant-loop-u l = Replacing l.names l.scopes l.u l.use_words l.initial.words l.words

@@ -1,15 +1,15 @@
 -- `label_check::step` meets its contract: the law of the walk for each kind.
 -- Assumes nothing.
-use Prim.Native.Nat.{ℕ, ◌+◌, ◌≤◌}
-use mathlib.Core.Path.{◌≡◌, refl, sym, ap, ◌∙◌}
+use Prim.Native.Nat.{ℕ, ◌+◌, ◌≤◌, ◌<◌}
+use mathlib.Core.Logic.{◌⊎◌}
+use mathlib.Core.Path.{◌≡◌, refl}
 use mathlib.Core.List.{List}
 use native.Mathlib.Omega.{arith}
 use lib.ListN.{length, get_or}
+use Rattle.std.proofs.Common.{rules}
 use Rattle.flow.specs.Sheet.{kind_of}
-use Rattle.label_sight.specs.declared.Sight.{Sight}
 use Rattle.label_check.specs.Walk.{Entering}
-use Rattle.label_check.proofs.Numbers.{opener_number, closer_number, arm_number}
-use Rattle.label_check.proofs.Walks.{enter_asked, entered_after, few_open, few_labels, open_entering, arm_entering, close_open, close_after, jump_after, other_after}
+use Rattle.label_check.proofs.Walks.{enter_room, entered_after, few_open, open_entering, arm_entering, close_open, close_after, jump_after, other_after}
 use Rattle.label_check.proofs.step.Goals as goal
 use Rattle.label_check.proofs.step.Goals.{After-next_arm, After-open}
 
@@ -17,61 +17,54 @@ use Rattle.label_check.proofs.step.Goals.{After-next_arm, After-open}
 pub open-requires : goal.open-requires
 open-requires c = few_open refl (c.requires.by_index c.args.kinds.now refl) c.requires.checkable.2 c.requires.checkable.0
 
-opening : (c : After-open) (ss : List ℕ) → length ss ≡ length c.args.kinds.now → Entering c.args.kinds.now ss (c.args.j + 1) c.«open».result c.args.labels.now c.«open».new.marks
+opening : (c : After-open) (ss : List ℕ) → length ss ≡ length c.args.kinds.now → Entering c.args.kinds.now ss (c.args.j + 1) c.«open».new.self
 opening c ss e =
-    let k = opener_number _ (sym c.is_opener.ensures ∙ c.if-is_opener.true) in
-    open_entering e (c.requires.by_index ss e) c.requires.checkable.2 c.requires.checkable.0 k.0 k.1 c.«open».ensures.0 c.«open».ensures.1
+    let k : (1 ≤ kind_of (get_or c.args.kinds.now c.args.j 0)) × (kind_of (get_or c.args.kinds.now c.args.j 0) ≤ 5) = search rules in
+    open_entering e (c.requires.by_index ss e) c.requires.checkable.2 c.requires.checkable.0 k.0 k.1 c.«open».ensures
 
-pub enter-requires : goal.enter-requires
-enter-requires c =
-    let r = enter_asked c.requires.checkable.0 c.requires.checkable.1 (omega arith) (opening (goal.at.enter-requires c).After-open) in record { unlabelled = r.0; base_le_count = r.1.0; by_index = r.1.1 }
+pub enter-requires-clause-by_index : goal.enter-requires-clause-by_index
+enter-requires-clause-by_index c = enter_room c.requires.checkable.0 (omega arith) (opening (goal.at.enter-requires-clause-by_index c).After-open)
 
-pub returns-then-is_opener : goal.returns-then-is_opener
-returns-then-is_opener c =
-    let d = (goal.at.returns-then-is_opener c).After-open in
-    λ ss e. entered_after (opening d ss e) (ap (λ (y : Sight). y.fine) d.«open».ensures.0 ∙ c.requires.checkable.3) (c.enter.ensures ss e)
+pub returns-in-Some-Do : goal.returns-in-Some-Do
+returns-in-Some-Do c = λ ss e. entered_after (opening (goal.at.returns-in-Some-Do c).After-open ss e) (c.enter.ensures.by_index ss e) c.enter.ensures.once
+
+-- ---- ELSEIF and ELSE
+arming : (c : After-next_arm) (ss : List ℕ) → length ss ≡ length c.args.kinds.now → Entering c.args.kinds.now ss (c.args.j + 1) c.next_arm.new.self
+arming c ss e =
+    let k : (6 ≤ kind_of (get_or c.args.kinds.now c.args.j 0)) × (kind_of (get_or c.args.kinds.now c.args.j 0) ≤ 7) = search rules in
+    arm_entering e (c.requires.by_index ss e) c.requires.checkable.2 k.0 k.1 c.next_arm.ensures
+
+pub enter-requires-in-Some-ElseIf-clause-by_index : goal.enter-requires-in-Some-ElseIf-clause-by_index
+enter-requires-in-Some-ElseIf-clause-by_index c = enter_room c.requires.checkable.0 (omega arith) (arming (goal.at.enter-requires-in-Some-ElseIf-clause-by_index c).After-next_arm)
+
+pub returns-in-Some-ElseIf : goal.returns-in-Some-ElseIf
+returns-in-Some-ElseIf c =
+    λ ss e. entered_after (arming (goal.at.returns-in-Some-ElseIf c).After-next_arm ss e) (c.enter-in-Some-ElseIf.ensures.by_index ss e) c.enter-in-Some-ElseIf.ensures.once
 
 -- ---- a closer
 pub close-requires : goal.close-requires
 close-requires c =
-    let w = c.requires.by_index c.args.kinds.now refl in
-    let k = closer_number _ (sym c.is_closer.ensures ∙ c.if-is_closer.true) in
-    (close_open refl w c.requires.checkable.2 k.0 k.1, omega (arith, few_open refl w c.requires.checkable.2 c.requires.checkable.0))
+    let k : (8 ≤ kind_of (get_or c.args.kinds.now c.args.j 0)) × (kind_of (get_or c.args.kinds.now c.args.j 0) ≤ 9) = search rules in
+    close_open refl (c.requires.by_index c.args.kinds.now refl) c.requires.checkable.2 k.0 k.1
 
-pub returns-then-is_closer : goal.returns-then-is_closer
-returns-then-is_closer c =
-    λ ss e.
-    let k = closer_number _ (sym c.is_closer.ensures ∙ c.if-is_closer.true) in
-    close_after e (c.requires.by_index ss e) c.requires.checkable.2 k.0 k.1 c.requires.checkable.3 c.close.ensures
+pub returns-in-Some-End : goal.returns-in-Some-End
+returns-in-Some-End c =
+    let k : (8 ≤ kind_of (get_or c.args.kinds.now c.args.j 0)) × (kind_of (get_or c.args.kinds.now c.args.j 0) ≤ 9) = search rules in
+    λ ss e. close_after e (c.requires.by_index ss e) c.requires.checkable.2 k.0 k.1 c.close.ensures
 
 -- ---- GOTO
-pub jump-requires : goal.jump-requires
-jump-requires c =
-    let w = c.requires.by_index c.args.kinds.now refl in
-    (few_labels refl w c.requires.checkable.2 c.requires.checkable.0, w.holds.labels_long)
+pub returns-in-Some-Goto : goal.returns-in-Some-Goto
+returns-in-Some-Goto c =
+    let k : kind_of (get_or c.args.kinds.now c.args.j 0) ≡ 13 = search rules in
+    λ ss e. jump_after e (c.requires.by_index ss e) c.requires.checkable.2 (λ n least most q. omega (arith, k)) k c.sees.ensures
 
-pub returns-in-13 : goal.returns-in-13
-returns-in-13 c = λ ss e. jump_after e (c.requires.by_index ss e) c.requires.checkable.2 (λ k least most q. omega arith) c.in-13.is c.jump.ensures
-
--- ---- ELSEIF and ELSE
-arming : (c : After-next_arm) (ss : List ℕ) → length ss ≡ length c.args.kinds.now → Entering c.args.kinds.now ss (c.args.j + 1) c.next_arm.result c.args.labels.now c.args.marks.now
-arming c ss e =
-    arm_entering e (c.requires.by_index ss e) c.requires.checkable.2 (omega arith) (omega arith) c.next_arm.ensures
-
-pub enter-requires-in-6 : goal.enter-requires-in-6
-enter-requires-in-6 c =
-    let r = enter_asked c.requires.checkable.0 c.requires.checkable.1 (omega arith) (arming (goal.at.enter-requires-in-6 c).After-next_arm) in record { unlabelled = r.0; base_le_count = r.1.0; by_index = r.1.1 }
-
-pub returns-in-6 : goal.returns-in-6
-returns-in-6 c = λ ss e. entered_after (arming (goal.at.returns-in-6 c).After-next_arm ss e) (ap (λ (y : Sight). y.fine) c.next_arm.ensures ∙ c.requires.checkable.3) (c.enter-in-6.ensures ss e)
-
--- ---- what has no block, below ELSEIF or past ELSE
+-- ---- what has no block
 pub returns-in_default : goal.returns-in_default
 returns-in_default c =
-    λ ss e.
-    other_after e (c.requires.by_index ss e) c.requires.checkable.2 (λ k least most q. let a : (6 ≤ kind_of (get_or c.args.kinds.now c.args.j 0)) × (kind_of (get_or c.args.kinds.now c.args.j 0) ≤ 7) = arm_number _ (sym c.is_opener.ensures ∙ c.if-is_opener.false) (sym c.is_closer.ensures ∙ c.if-is_closer.false) (omega arith) (omega arith) in omega arith) c.requires.checkable.3 c.in_default.in_default-own.rest.1
+    let k : (10 ≤ kind_of (get_or c.args.kinds.now c.args.j 0)) × (kind_of (get_or c.args.kinds.now c.args.j 0) ≡ 13 → ⊥) = search rules in
+    λ ss e. other_after e (c.requires.by_index ss e) c.requires.checkable.2 (λ n least most q. omega (arith, k.0)) k.1
 
 pub returns-in_default-2 : goal.returns-in_default-2
 returns-in_default-2 c =
-    λ ss e.
-    other_after e (c.requires.by_index ss e) c.requires.checkable.2 (λ k least most q. let a : (6 ≤ kind_of (get_or c.args.kinds.now c.args.j 0)) × (kind_of (get_or c.args.kinds.now c.args.j 0) ≤ 7) = arm_number _ (sym c.is_opener.ensures ∙ c.if-is_opener.false) (sym c.is_closer.ensures ∙ c.if-is_closer.false) (omega arith) (omega arith) in omega arith) c.requires.checkable.3 c.in_default.in_default-own.rest.1
+    let k : (kind_of (get_or c.args.kinds.now c.args.j 0) ≡ 0) ⊎ (19 < kind_of (get_or c.args.kinds.now c.args.j 0)) = search rules in
+    λ ss e. other_after e (c.requires.by_index ss e) c.requires.checkable.2 (λ n least most q. omega (arith, k)) (λ q. omega (arith, k))

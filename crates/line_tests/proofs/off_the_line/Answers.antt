@@ -1,55 +1,53 @@
 -- `line_tests::off_the_line` meets its contract: its loop is the sweep of refusal 6, with the scope ends around on a stack that 4 and 5 bound.
 -- Assumes nothing.
-use Prim.Native.Nat.{◌+◌, ◌-◌, ◌%◌, ◌/◌}
-use mathlib.Core.Bool.{Bool, cond, not}
-use mathlib.Core.List.{[], ◌∷◌}
-use mathlib.Core.Path.{refl, sym, ap, subst, ◌∙◌}
-use native.Mathlib.Omega.{arith}
-use lib.ListN.{get_or}
+use Prim.Native.Nat.{◌+◌, ◌-◌}
+use mathlib.Core.Bool.{not}
+use mathlib.Core.List.{◌∷◌}
+use mathlib.Core.Path.{sym, ap, subst, ◌∙◌}
+use lib.ListN.{length}
+use Rattle.std.proofs.Common.{rules}
+use Rattle.std.proofs.lemmas.List.{length_push}
 use Rattle.flow.specs.Refusals.{in_order, inside_scopes}
-use Rattle.flow.specs.Sheet.{Item, end_of}
+use Rattle.flow.specs.Sheet.{kind, scope_end_of}
 use Rattle.line_tests.specs.Turn.{Room}
 use Rattle.line_tests.proofs.Nested.{Nested, nested_room, scopes_next}
-use Rattle.sweeps.proofs.Sweep.{begin, onward, fails, ends, rest, rest_next, item}
-use Rattle.line_tests.proofs.Sweeps.{lining}
+use Rattle.sweeps.proofs.Pairs.{Turn, turn, now_at, rest_at, onward_at, fails_at, ends_at}
+use Rattle.sweeps.proofs.Sweep.{rest}
 use Rattle.line_tests.proofs.off_the_line.Goals as goal
-use Rattle.line_tests.proofs.off_the_line.Goals.{In-loop-i}
+use Rattle.line_tests.proofs.off_the_line.Goals.{In-Some}
 
-nested_here : (c : In-loop-i) → Nested (c.loop-i.count - 1) (item c.args.kinds.now c.args.spans.now c.loop-i.i ∷ rest c.args.kinds.now c.args.spans.now (c.loop-i.i + 1))
-nested_here c =
-    subst (Nested (c.loop-i.count - 1)) (rest_next c.args.kinds.now c.args.spans.now c.loop-i.i c.requires.kinds_len.0 c.loop-i-test.true) c.loop-i.invariant.2
+turn_here : (c : In-Some) → Turn c.args.items.words.now c.args.items.spans.now c.loop-word.yielded (c.in-Some.word, c.in-Some.span)
+turn_here c = turn c.args.items.words.now c.args.items.spans.now c.loop-word.yielded c.into_iter-word-iterator.result c.loop-word.word-iterator c.next.new.self c.next.result (search rules) (search rules) c.loop-word.yielded_by _ c.in-Some.is c.next.ensures.steps
 
-room_here : (c : In-loop-i) → Room c.loop-i.count (get_or c.args.kinds.now c.loop-i.i 0 % 256)
-room_here c = nested_room c.loop-i.count _ _ c.loop-i.invariant.1 (nested_here c)
+nested_here : (c : In-Some) → Nested (length c.loop-word.scopes.items - 1) (now_at (c.in-Some.word, c.in-Some.span) ∷ rest c.args.items.words.now c.args.items.spans.now (length c.loop-word.yielded + 1))
+nested_here c = subst (Nested (length c.loop-word.scopes.items - 1)) (rest_at c.args.items.paired (turn_here c)) c.loop-word.invariant.nested
 
-pub loop-i-init : goal.loop-i-init
-loop-i-init c = (
-  record { ends_long = refl; lows_long = refl; lowest = refl },
-  omega arith,
-  record { opened = []; counted = refl; pairs = c.requires.spans_value_2; few = c.requires.spans_value },
-  begin lining _ _ (0, c.args.outer ∷ []),
-)
+room_here : (c : In-Some) → Room (length c.loop-word.scopes.items) (kind (now_at (c.in-Some.word, c.in-Some.span)))
+room_here c = nested_room (length c.loop-word.scopes.items) _ _ c.loop-word.invariant.some (nested_here c)
 
-pub item_held-requires : goal.item_held-requires
-item_held-requires c = record { room = room_here (goal.at.item_held-requires c).In-loop-i; scopes = c.loop-i.invariant.0; code_value = c.is_code-code.ensures _ }
+pub item_held-requires-clause-room : goal.item_held-requires-clause-room
+item_held-requires-clause-room c = rw c.as_slice.ensures.value (room_here (goal.at.item_held-requires-clause-room c).In-Some)
 
 pub returns-then-not-item_held : goal.returns-then-not-item_held
-returns-then-not-item_held c = rw (fails c.loop-i.invariant.3 c.requires.kinds_len.0 c.loop-i-test.true (sym c.item_held.ensures ∙ c.if-not-item_held.true))
+returns-then-not-item_held c =
+    let held = rw c.as_slice.ensures.value at c.item_held.ensures in
+    sym (ap not (fails_at c.loop-word.invariant.swept c.args.items.paired (turn_here (goal.at.returns-then-not-item_held c).In-Some) (sym held ∙ c.if-not-item_held.true)))
 
-pub scopes_after-count-requires : goal.scopes_after-count-requires
-scopes_after-count-requires c = record { room = room_here (goal.at.scopes_after-count-requires c).In-loop-i; scopes = c.loop-i.invariant.0 }
+pub scopes_after-requires-clause-room : goal.scopes_after-requires-clause-room
+scopes_after-requires-clause-room c = room_here (goal.at.scopes_after-requires-clause-room c).In-Some
 
-pub loop-i-preserved : goal.loop-i-preserved
-loop-i-preserved c =
-    let it : Item = item c.args.kinds.now c.args.spans.now c.loop-i.i in
-    let next = scopes_next it (rest c.args.kinds.now c.args.spans.now (c.loop-i.i + 1)) (it.word / 256 / 32) c.loop-i.count c.scopes_after-count.result c.loop-i.ends c.scopes_after-count.new.ends c.loop-i.invariant.1 (nested_here (goal.at.loop-i-preserved c).In-loop-i) c.scopes_after-count.ensures.ends_after in (
-      c.scopes_after-count.ensures.scopes_2,
-      next.0,
-      next.1,
-      rw (c.reached_after-reached.ensures ∙ ap (λ (b : Bool). cond b (end_of it.span) c.loop-i.reached) (c.is_code-code.ensures it.span), c.scopes_after-count.ensures.ends_after)
-          (onward c.loop-i.invariant.3 c.requires.kinds_len.0 c.loop-i-test.true (sym c.item_held.ensures ∙ c.if-not-item_held.false)),
-    )
+pub loop-word-preserved : goal.loop-word-preserved
+loop-word-preserved c =
+    let here = (goal.at.loop-word-preserved c).In-Some in
+    let held = rw c.as_slice.ensures.value at c.item_held.ensures in
+    let next = scopes_next (now_at (c.in-Some.word, c.in-Some.span)) (rest c.args.items.words.now c.args.items.spans.now (length c.loop-word.yielded + 1)) (scope_end_of c.in-Some.word.now) c.loop-word.scopes.items c.scopes_after.new.scopes.items c.loop-word.invariant.some (nested_here here) c.scopes_after.ensures.ends in
+    record {
+      lowest = c.scopes_after.ensures.lowest_2;
+      some = next.0;
+      nested = rw (length_push c.loop-word.yielded (c.in-Some.word, c.in-Some.span)) next.1;
+      swept = rw (c.reached_after-reached.ensures, c.scopes_after.ensures.ends) (onward_at c.loop-word.invariant.swept c.args.items.paired (turn_here here) (sym held ∙ c.if-not-item_held.false));
+    }
 
 pub returns : goal.returns
 unfolding in_order inside_scopes
-returns c = ap not (sym (ends c.loop-i.invariant.3 c.loop-i-test.false))
+returns c = sym (ap not (ends_at c.loop-word.yielded c.loop-word.invariant.swept c.args.items.paired c.into_iter-word-iterator.result c.loop-word.word-iterator c.next.new.self c.next.result (search rules) (search rules) c.loop-word.yielded_by c.in-None.is c.next.ensures.steps))

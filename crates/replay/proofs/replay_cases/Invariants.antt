@@ -1,10 +1,7 @@
--- `replay::replay_cases` is safe and ends: no more cases differ than were read.
+-- `replay::replay_cases` is safe: fewer cases differ than the next one's number.
 -- Assumes nothing.
-use Rattle.std.proofs.Common.{◌-◌, ◌≤◌}
+use Rattle.std.proofs.Common.{◌<◌}
 use Rattle.replay.proofs.replay_cases.Given as goal
 
-abbrev pub invariant-loop-cases : goal.invariant-loop-cases
-invariant-loop-cases g l = l.differ ≤ l.cases
-
-abbrev pub decreases-loop-cases : goal.decreases-loop-cases
-decreases-loop-cases g l = 18446744073709551615 - l.cases
+abbrev pub invariant-loop-case : goal.invariant-loop-case
+invariant-loop-case g l = l.tally.differ < l.case-counter

@@ -1,18 +1,14 @@
--- `scope_tests::parents_lower` meets its contract: the parents that are passed are lower.
--- Assumes nothing.
-use mathlib.Core.Path.{refl}
-use native.Mathlib.Omega.{arith}
-use Rattle.scope_tests.proofs.Sweeps.{lower_fails, lower_ends, lower_onward}
+-- `scope_tests::parents_lower` meets its contract: what `all` gives is the definition. Assumes nothing.
+use Prim.Native.Nat.{ℕ}
+use mathlib.Core.Path.{◌∙◌}
+use lib.Dec.{leb}
+use Rattle.std.proofs.Common.{rules, tests}
+use Rattle.std.proofs.lemmas.Iterator.{YieldsList-from_slice}
+use Rattle.std.proofs.lemmas.Iterator.Consumers.{YieldsList-from_enumerate}
+use Rattle.std.proofs.lemmas.Iterator.Search.{all_from_yields_List}
+use Rattle.scope_tests.proofs.Sweeps.{all_are_lower}
 use Rattle.scope_tests.proofs.parents_lower.Goals as goal
 
-pub loop-s-init : goal.loop-s-init
-loop-s-init c = (omega arith, refl)
-
-pub returns-then-parents-s : goal.returns-then-parents-s
-returns-then-parents-s c = lower_fails _ _ c.loop-s-test.true c.if-parents-s.true c.loop-s.invariant.1
-
-pub loop-s-preserved : goal.loop-s-preserved
-loop-s-preserved c = (omega arith, lower_onward _ _ c.loop-s-test.true c.if-parents-s.false c.loop-s.invariant.1)
-
 pub returns : goal.returns
-returns c = lower_ends _ _ c.loop-s-test.false c.loop-s.invariant.1
+returns c =
+    all_from_yields_List (λ (p : ℕ × ℕ). leb p.1 p.0) c.all.new.self _ _ c.all.ensures.ran (YieldsList-from_enumerate {s = c.enumerate.result} (YieldsList-from_slice c.args.parents.now (search rules)) (search rules)) (λ x b q k. search (rules, tests)) ∙ all_are_lower 0 c.args.parents.now

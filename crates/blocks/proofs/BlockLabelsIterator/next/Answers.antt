@@ -1,39 +1,40 @@
 -- `next` of `blocks::BlockLabels` meets its contract: an item that is passed is no label of the block.
 -- Assumes nothing.
 use Prim.Native.Nat.{ℕ}
-use mathlib.Core.Path.{◌≡◌, refl, sym, ◌∙◌}
+use mathlib.Core.Path.{◌≡◌, refl, sym, ap, ◌∙◌}
 use mathlib.Core.List.{List, [], ◌∷◌}
+use mathlib.Core.Bool.{false}
 use native.Mathlib.Omega.{arith}
 use lib.ListN.{length}
-use Rattle.std.specs.List.{cons_option}
+use Rattle.std.proofs.lemmas.Grind.{common_steps}
+use Rattle.flow.specs.Sheet.{kind_of}
+use Rattle.kinds.specs.Ends.{ends_block}
+use Rattle.kinds.specs.Label.{is_label}
 use Rattle.blocks.specs.Open.{labels_in}
-use Rattle.blocks.proofs.Scan.{in_none, in_end, in_more, first_found, first_goes, none_found, depth_most}
+use Rattle.blocks.proofs.Scan.{in_none, in_end, in_label, in_passed, depth_most, ends_here}
 use Rattle.blocks.proofs.BlockLabelsIterator.next.Goals as goal
-use Rattle.blocks.proofs.BlockLabelsIterator.next.Goals.{After-is_some}
 
--- an item more is scanned
-turn : (c : After-is_some) → labels_in c.self.inside.kinds.now c.self.inside.depth ≡ cons_option c.label_here-here.result (labels_in c.in-Some.rest.now c.depth_after-self-inside.result)
-turn c = sym c.loop-word.invariant.left ∙ in_more _ _ c.in-Some.ensures.cases.0 (sym c.ends_at.ensures ∙ c.if-ends_at.false) c.depth_after-self-inside.ensures c.label_here-here.ensures
+pub returns-then-ends_block-clause-steps : goal.returns-then-ends_block-clause-steps
+returns-then-ends_block-clause-steps c =
+    let e = in_end _ c.in-Some.ensures.cases.0 (sym (ends_here _ _ c.if-self-eq0.true) ∙ sym c.ends_block.ensures ∙ c.if-ends_block.true) in
+    (sym c.self.view_is ∙ sym c.loop-word.invariant.left ∙ e, in_none _ refl)
 
-pub returns-then-ends_at-clause-steps : goal.returns-then-ends_at-clause-steps
-returns-then-ends_at-clause-steps c =
-    let e = in_end _ c.in-Some.ensures.cases.0 (sym c.ends_at.ensures ∙ c.if-ends_at.true) in
-    (sym c.self.view_is ∙ sym c.loop-word.invariant.left ∙ e, e)
+pub returns-then-is_label-clause-steps : goal.returns-then-is_label-clause-steps
+returns-then-is_label-clause-steps c =
+    sym c.self.view_is ∙ sym c.loop-word.invariant.left ∙ in_label _ c.in-Some.ensures.cases.0 c.if-self-eq0.true (sym c.ends_block.ensures ∙ c.if-ends_block.false) (sym c.is_label.ensures ∙ c.if-is_label.true)
 
-pub invariant_of-self-then-is_some : goal.invariant_of-self-then-is_some
-invariant_of-self-then-is_some c = omega (arith, c.in-Some.ensures.cases.1, depth_most _ _ c.depth_after-self-inside.ensures)
-
-pub returns-then-is_some-clause-steps : goal.returns-then-is_some-clause-steps
-returns-then-is_some-clause-steps c = first_found c.label_here-here.result _ c.is_some.ensures c.if-is_some.true (sym c.self.view_is ∙ turn (goal.at.returns-then-is_some-clause-steps c).After-is_some)
-
-pub returns-then-is_some-clause-goes : goal.returns-then-is_some-clause-goes
-returns-then-is_some-clause-goes c = first_goes c.label_here-here.result _ (λ l. tt) c.is_some.ensures c.if-is_some.true (sym c.self.view_is ∙ turn (goal.at.returns-then-is_some-clause-goes c).After-is_some)
+pub returns-then-is_label-clause-goes : goal.returns-then-is_label-clause-goes
+returns-then-is_label-clause-goes c =
+    let e = sym c.self.view_is ∙ sym c.loop-word.invariant.left ∙ in_label _ c.in-Some.ensures.cases.0 c.if-self-eq0.true (sym c.ends_block.ensures ∙ c.if-ends_block.false) (sym c.is_label.ensures ∙ c.if-is_label.true) in
+    record { on = λ f. (tt, tt, omega (arith, ap length e)); keeps = tt; rests = λ f. tt }
 
 pub loop-word-preserved : goal.loop-word-preserved
-loop-word-preserved c = record {
-  left = none_found c.label_here-here.result c.is_some.ensures c.if-is_some.false (turn (goal.at.loop-word-preserved c).After-is_some);
-  fits = omega (arith, c.in-Some.ensures.cases.1, depth_most _ _ c.depth_after-self-inside.ensures);
-}
+loop-word-preserved c =
+    let q : c.loop-word.self-inside.depth ≡ 0 → (ends_block (kind_of c.in-Some.field-0-0.now) ≡ false) × (is_label c.in-Some.field-0-0.now ≡ false) = grind (arith, common_steps) in
+    record {
+      left = sym (in_passed _ c.in-Some.ensures.cases.0 q c.depth_after-self-inside.ensures) ∙ c.loop-word.invariant.left;
+      fits = omega (arith, c.in-Some.ensures.cases.1, depth_most _ _ c.depth_after-self-inside.ensures);
+    }
 
 pub returns-clause-steps : goal.returns-clause-steps
 returns-clause-steps c =

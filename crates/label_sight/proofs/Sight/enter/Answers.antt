@@ -1,33 +1,50 @@
--- `label_sight::Sight::enter` meets its contract: the scan finds the labels of the block, in order.
+-- `label_sight::Sight::enter` meets its contract: the labels so far are in sight.
 -- Assumes nothing.
-use mathlib.Core.Path.{refl, sym, ◌∙◌}
+use Prim.Native.Nat.{ℕ, ◌+◌}
+use mathlib.Core.Path.{◌≡◌, refl, sym, ap, subst, ◌∙◌}
+use mathlib.Core.List.{List, [], ◌∷◌, ◌++◌, append_assoc, append-nil}
 use native.Mathlib.Omega.{arith}
-use Rattle.blocks.proofs.Scan.{depth_step, scan_start, scan_more, scan_none, scan_ended, scan_room}
-use Rattle.label_sight.proofs.Named.{none_to_come}
-use Rattle.label_sight.proofs.Scan.{entered_none, entered_trans}
+use lib.ListN.{length, length-append}
+use Rattle.blocks.specs.Open.{labels_at}
+use Rattle.blocks.proofs.Scan.{labels_law}
+use Rattle.label_sight.specs.Labels.{Entered}
+use Rattle.label_sight.proofs.Named.{labels_cut}
+use Rattle.label_sight.proofs.Scan.{entered_none, entered_trans, entered_once, entered_length}
 use Rattle.label_sight.proofs.Sight.enter.Goals as goal
+use Rattle.label_sight.proofs.Sight.enter.Goals.{After-into_iter-name-iterator}
 
-pub loop-j-init : goal.loop-j-init
-loop-j-init c = (omega arith, λ ss e. scan_start (entered_none _ _))
+-- what the iterator gives are the labels of the block
+gives : (c : After-into_iter-name-iterator) (ss : List ℕ) → length ss ≡ length c.args.kinds.now → c.into_iter-name-iterator.result ≡ labels_at c.args.kinds.now ss c.args.from
+gives c ss e =
+    c.into_iter-name-iterator.ensures.into_iter_gives
+    ∙ c.block_labels-name-items.ensures.scan
+    ∙ labels_cut c.args.kinds.now c.args.end c.requires.unlabelled.none c.args.from 0
+    ∙ labels_law c.args.kinds.now ss e c.args.from
 
-pub returns-then-ends_at : goal.returns-then-ends_at
-returns-then-ends_at c = λ ss e. scan_ended e (c.loop-j.invariant.1 ss e) (omega arith) (sym c.ends_at.ensures ∙ c.if-ends_at.true)
+pub loop-name-init : goal.loop-name-init
+loop-name-init c = record { can = tt; finite = tt; left = refl; entered = entered_none c.args.self.now; once = λ d. sym d }
 
-pub label_here-s-requires : goal.label_here-s-requires
-label_here-s-requires c =
+pub add-once-requires : goal.add-once-requires
+add-once-requires c =
     let ks = c.args.kinds.now in
-    let s = c.loop-j.invariant.1 ks refl in
-    let h = s.entered in (
-      omega (arith, h.base, h.count),
-      scan_room refl s (omega arith) (sym c.ends_at.ensures ∙ c.if-ends_at.false) c.args.self.count h.count (c.requires.by_index ks refl),
-      h.long ∙ c.requires.base_le_count.1,
-    )
+    let all = ap length (sym c.loop-name.invariant.left ∙ gives (goal.at.add-once-requires c).After-into_iter-name-iterator ks refl) in
+    let room : length c.loop-name.yielded + length c.loop-name.name-iterator ≡ length (labels_at ks ks c.args.from) = omega (arith, all, length-append c.loop-name.yielded c.loop-name.name-iterator) in
+    let count = entered_length c.loop-name.invariant.entered in
+    (omega (arith, count, c.loop-name.invariant.entered.base), omega (arith, count, room, ap length c.in-Some.ensures.steps, c.requires.by_index ks refl))
 
-pub loop-j-preserved : goal.loop-j-preserved
-loop-j-preserved c = (
-  depth_step _ _ _ c.depth_after-depth.ensures c.loop-j.invariant.0,
-  λ ss e. rw c.depth_after-depth.ensures (scan_more e (c.loop-j.invariant.1 ss e) (omega arith) (sym c.ends_at.ensures ∙ c.if-ends_at.false) (entered_trans c.label_here-s.ensures)),
-)
+pub loop-name-preserved : goal.loop-name-preserved
+loop-name-preserved c =
+    let e = c.loop-name.invariant.entered in
+    record {
+      can = tt;
+      finite = tt;
+      left = c.loop-name.invariant.left ∙ ap (λ (z : List ℕ). c.loop-name.yielded ++ z) c.in-Some.ensures.steps ∙ sym (append_assoc c.loop-name.yielded (c.in-Some.name ∷ []) c.next.new.self);
+      entered = entered_trans e c.add-once.ensures.entered;
+      once = λ d. entered_once (omega (arith, entered_length e, e.base)) c.add-once.ensures.entered (c.loop-name.invariant.once d) c.add-once.ensures.first refl;
+    }
 
-pub returns : goal.returns
-returns c = λ ss e. scan_none e (c.loop-j.invariant.1 ss e) (none_to_come _ ss e _ c.requires.unlabelled.0 _ c.loop-j-test.false c.loop-j.depth)
+pub returns-clause-by_index : goal.returns-clause-by_index
+returns-clause-by_index c =
+    λ ss e.
+    let all = sym (append-nil c.loop-name.yielded) ∙ ap (λ (z : List ℕ). c.loop-name.yielded ++ z) (sym c.in-None.ensures.steps.0) ∙ sym c.loop-name.invariant.left ∙ gives (goal.at.returns-clause-by_index c).After-into_iter-name-iterator ss e in
+    subst (λ (z : List ℕ). Entered z c.args.self.now c.loop-name.self) all c.loop-name.invariant.entered

@@ -1,15 +1,17 @@
--- `label_sight::Sight::enter` meets its contract: the scan finds the labels of the block, in order.
+-- `label_sight::Sight::enter` meets its contract: the labels so far are in sight.
 -- Assumes nothing.
-use Prim.Native.Nat.{ℕ, ◌≤◌, ◌-◌}
 use mathlib.Core.Path.{◌≡◌}
-use mathlib.Core.List.{List}
-use lib.ListN.{length}
-use Rattle.blocks.proofs.Scan.{Scanning}
-use Rattle.label_sight.specs.Labels.{Entered}
+use mathlib.Core.List.{◌++◌}
+use mathlib.Core.Bool.{true}
+use Rattle.flow.specs.Labels.{distinct}
+use Rattle.label_sight.specs.Labels.{in_block, Entered}
 use Rattle.label_sight.proofs.Sight.enter.Given as goal
 
-abbrev pub invariant-loop-j : goal.invariant-loop-j
-invariant-loop-j l = (l.depth ≤ l.j) × ((ss : List ℕ) → length ss ≡ length l.kinds → Scanning (λ as'. Entered as' l.initial.s l.initial.labels l.s l.labels) l.kinds ss l.from l.depth l.j)
-
-abbrev pub decreases-loop-j : goal.decreases-loop-j
-decreases-loop-j l = l.end - l.j
+abbrev pub invariant-loop-name : goal.invariant-loop-name
+invariant-loop-name l = record {
+  can : (goal.iterator-loop-name).can_next l.name-iterator;
+  finite : (goal.iterator-loop-name).is_finite l.name-iterator;
+  left : l.initial.name-iterator ≡ l.yielded ++ l.name-iterator;
+  entered : Entered l.yielded l.initial.self l.self;
+  once : distinct (in_block l.initial.self) ≡ true → l.once ≡ distinct (in_block l.self);
+}
