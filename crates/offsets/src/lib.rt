@@ -33,19 +33,9 @@ fn is_first_past(code_span: &[u64], codes: usize, offset: u64, index: usize) -> 
     requires { (codes ≤ length code_span.now) × Rising codes code_span.now }
     ensures { result ≡ true → FirstPast codes code_span.now offset index }
 {
-    if index < codes {
-        if code_span[index] / HALF <= offset {
-            false
-        } else {
-            if 0 < index {
-                code_span[index - 1] / HALF <= offset
-            } else {
-                true
-            }
-        }
-    } else {
-        false
-    }
+    index < codes
+        && offset < code_span[index] / HALF
+        && (index == 0 || code_span[index - 1] / HALF <= offset)
 }
 
 // The first code that ends past an offset, or the number of codes. Any hint will do: where it is right, or the code behind it is,
@@ -54,20 +44,13 @@ pub fn code_at(code_span: &[u64], codes: usize, offset: u64, hint: usize) -> usi
     requires { (codes ≤ length code_span.now) × Rising codes code_span.now }
     ensures { FirstPast codes code_span.now offset result }
 {
-    if hint < codes {
-        if is_first_past(code_span, codes, offset, hint) {
-            hint
-        } else {
-            let next = hint + 1;
-            if is_first_past(code_span, codes, offset, next) {
-                next
-            } else {
-                partition_point(code_span, codes, offset)
-            }
-        }
-    } else {
-        partition_point(code_span, codes, offset)
+    if is_first_past(code_span, codes, offset, hint) {
+        return hint;
     }
+    if hint < codes && is_first_past(code_span, codes, offset, hint + 1) {
+        return hint + 1;
+    }
+    partition_point(code_span, codes, offset)
 }
 
 // The node that a code has, by its index; past all codes there is none.
