@@ -187,18 +187,6 @@ pub ends_here : (k d : ℕ) → d ≡ 0 → ends_block k ≡ ends_at k d
 unfolding ends_at
 ends_here k d z = rw (eq-eqb d 0 z)
 
-pub depth_open : (k d : ℕ) → opens k ≡ true → d + 1 ≡ depth_after k d
-unfolding depth_after
-depth_open k d e = rw e
-
-pub depth_close : (k d : ℕ) → opens k ≡ false → closes k ≡ true → d - 1 ≡ depth_after k d
-unfolding depth_after
-depth_close k d e f = rw (e, f)
-
-pub depth_same : (k d : ℕ) → opens k ≡ false → closes k ≡ false → d ≡ depth_after k d
-unfolding depth_after
-depth_same k d e f = rw (e, f)
-
 -- ---- the labels that a scan has left
 
 in_parse : (ks ss : List ℕ) → length ss ≡ length ks → (d : ℕ) → labels_in ks d ≡ to_come d (parse (zip ks ss))

@@ -3,24 +3,24 @@
 
 ghost use Rattle.std.specs.Prelude.{◌≡◌, List, ℕ, ◌+◌, ◌-◌, ◌<◌, ◌^◌, length, drop};
 ghost use Rattle.std.specs.Iterator.{YieldsFirst, item_count};
+ghost use Rattle.flow.specs.Sheet.{kind_of};
 ghost use Rattle.blocks.specs.Open.{depth_after, labels_in, labels_at};
 
-use kinds::{ends_block, is_closer, is_label, is_opener};
+use kinds::{Kind, ends_block, is_label};
 use std::marker::Model;
 use words::ARGUMENT;
 
-// How deep a scan is past an item of a kind.
-fn depth_after(kind: u64, depth: usize) -> usize
+// How deep a scan is past an item, by its word.
+#[tactic(auto, using(std::proofs::lemmas::Bool::Decides::nat_tests), unfolding(crate::specs::Open::depth_after))]
+fn depth_after(word: u64, depth: usize) -> usize
     requires { depth + 1 < 2 ^ 64 }
-    ensures { result ≡ depth_after kind depth }
+    ensures { result ≡ depth_after (kind_of word) depth }
 {
-    if is_opener(kind) {
-        return depth + 1;
+    match Kind::of(word) {
+        Some(kind) if kind.is_opener() => depth + 1,
+        Some(kind) if kind.is_closer() => depth.saturating_sub(1),
+        _ => depth,
     }
-    if is_closer(kind) {
-        return depth.saturating_sub(1);
-    }
-    depth
 }
 
 // The names of the labels that stand directly in a block, in order: what a scan has still to find there.
@@ -59,10 +59,9 @@ impl<'a> Iterator for BlockLabels<'a> {
 
     fn next(&mut self) -> Option<u64> {
         while let Some((&word, rest)) = self.kinds.split_first() {
-            let kind = word % ARGUMENT;
             self.kinds = rest;
             if self.depth == 0 {
-                if ends_block(kind) {
+                if ends_block(word) {
                     self.kinds = &[];
                     return None;
                 }
@@ -70,7 +69,7 @@ impl<'a> Iterator for BlockLabels<'a> {
                     return Some(word / ARGUMENT);
                 }
             }
-            self.depth = depth_after(kind, self.depth);
+            self.depth = depth_after(word, self.depth);
         }
         None
     }

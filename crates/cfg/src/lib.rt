@@ -13,7 +13,7 @@ use block_settings::BlockSettings;
 use cfg_steps::GraphBuilder;
 use flow::Counts;
 use if_builder::IfBuilder;
-use kinds::{Kind, literal_truth};
+use kinds::{Kind, ends_block, literal_truth};
 use loop_nodes::{LoopTargets, repeat_targets};
 use words::{ARGUMENT, NO_SUCCESSORS, SCOPE_END, exit};
 
@@ -23,14 +23,6 @@ fn past(at: usize, len: usize) -> usize
     ensures { (at ≤ result) × (result ≤ len) × (at < len → result ≡ at + 1) × (len ≤ at → result ≡ at) }
 {
     if at < len { at + 1 } else { at }
-}
-
-// Whether the block that an item stands behind ends there.
-#[tactic(auto, using(std::proofs::lemmas::Bool::Decides::nat_tests))]
-fn ends_block(word: u64) -> bool
-    ensures { result ≡ ends_block (kind_of word) }
-{
-    Kind::of(word).is_some_and(|kind| kind.ends_block())
 }
 
 // The statements from the builder's item on, up to the item that ends their block.

@@ -11,7 +11,6 @@ ghost use Rattle.kinds.specs.Starts.{has_start};
 ghost use Rattle.kinds.specs.Truths.{may_fail, may_hold};
 
 use words::ARGUMENT;
-use words::kind::{DO, ELSEIF, END, FOR, GOTO, IF, LABEL, LOCAL, PLAIN, UNTIL, WHILE};
 
 // The conditions 0 and 1 are false, those up to 8 true, and no other is known.
 const LAST_FALSE: u64 = 1;
@@ -127,33 +126,12 @@ pub fn has_start(word: u64) -> bool
     !matches!(Kind::of(word), Some(Kind::End | Kind::Until | Kind::Label))
 }
 
-pub fn is_opener(kind: u64) -> bool
-    ensures { result ≡ opens kind }
-{
-    if kind < DO {
-        return false;
-    }
-    kind <= IF
-}
-
-pub fn is_closer(kind: u64) -> bool
-    ensures { result ≡ closes kind }
-{
-    if kind == END {
-        return true;
-    }
-    kind == UNTIL
-}
-
-// Whether the block that an item of this kind stands behind ends there: ELSEIF, ELSE, END, UNTIL.
+// Whether the block that an item stands behind ends there, by its word.
 #[tactic(auto, using(std::proofs::lemmas::Bool::Decides::nat_tests))]
-pub fn ends_block(kind: u64) -> bool
-    ensures { result ≡ ends_block kind }
+pub fn ends_block(word: u64) -> bool
+    ensures { result ≡ ends_block (kind_of word) }
 {
-    if kind < ELSEIF {
-        return false;
-    }
-    kind <= UNTIL
+    Kind::of(word).is_some_and(|kind| kind.ends_block())
 }
 
 // What a condition code is known to be.

@@ -8,12 +8,17 @@ use column_lengths::{CODES, FINDINGS, LOCALS, NODES};
 use flow::Refusal;
 use numbers::number_of;
 use std::io;
-use words::kind::{END, PLAIN};
 use words::limit::{DEPTH, ITEMS};
-use words::{ARGUMENT, HALF, SCOPE_END, kind};
+use words::{ARGUMENT, HALF, SCOPE_END};
 
-// A DO whose scope ends at 1.
-const DO: u64 = kind::DO + ARGUMENT * SCOPE_END;
+// The words of items as a unit's code writes them: a DO, whose scope ends at 1,
+const DO: u64 = 1 + ARGUMENT * SCOPE_END;
+
+// its END,
+const END: u64 = 8;
+
+// and a PLAIN.
+const PLAIN: u64 = 18;
 
 // The words of a sheet with one item too many.
 const WORDS: usize = 2 * (ITEMS + 1) + 2;

@@ -1,18 +1,14 @@
-// The numbers that words are made of, which code names and never spells out: kinds, exits, the fields of a word, what is absent, and the most that a sheet has.
+// The numbers that words are made of, which code names and never spells out: exits, the fields of a word, what is absent, and the most that a sheet has.
 #![tactic(auto)]
 
 pub mod exit;
 pub mod finding;
-pub mod kind;
 pub mod limit;
 pub mod scope_kind;
 pub mod use_kind;
 
-// In a file a word has eight bytes,
+// In a file a word has eight bytes.
 pub const WORD_BYTES: usize = 8;
-
-// and a byte counts 256 of the byte before it.
-pub const BYTE: u64 = 256;
 
 // What the lowest bit of a field counts. A kind word is kind + 256 × argument,
 pub const ARGUMENT: u64 = 256;
@@ -38,8 +34,5 @@ pub const NAME_WITHOUT_NODE: u64 = NAME_ITEM - 1;
 // "Absent successors are stored as 4,294,967,295": as a half of a node's word,
 pub const ABSENT: u64 = HALF - 1;
 
-// as both halves, of a node with no successor yet,
+// and as both halves, of a node with no successor yet.
 pub const NO_SUCCESSORS: u64 = ABSENT + ABSENT * HALF;
-
-// and as the current node, right after a jump.
-pub const NO_NODE: usize = ABSENT as usize;
