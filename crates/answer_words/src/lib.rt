@@ -44,7 +44,10 @@ pub fn chart_word(answer: Result<Counts, Refusal>) -> u64
 {
     match answer {
         Err(refusal) => refusal.into(),
-        Ok(counts) => counts_word(Judgement { counts, findings: 0 }),
+        Ok(counts) => counts_word(Judgement {
+            counts,
+            findings: 0,
+        }),
     }
 }
 

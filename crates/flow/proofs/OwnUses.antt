@@ -1,6 +1,6 @@
 -- The findings of one local are a function of the graph's nodes, its declaration and its own uses: they go by kind, closure and node of a use alone.
 -- Assumes `few` at the end, that the local's number is below 1024, so that its word can be taken apart.
-use Prim.Native.Nat.{ℕ, zero, suc, ◌+◌, ◌*◌, ◌-◌, ◌/◌, ◌%◌, ◌^◌, ◌≤◌, ◌<◌}
+use Prim.Native.Nat.{ℕ, zero, suc, ◌+◌, ◌*◌, ◌/◌, ◌%◌, ◌^◌, ◌≤◌, ◌<◌}
 use mathlib.Core.Path.{◌≡◌, refl, sym, ap, ap₂, ◌∙◌}
 use mathlib.Core.Bool.{Bool, true, false, cond, ◌&&◌, not}
 use mathlib.Core.List.{List, [], ◌∷◌, ◌++◌, tail, map, map-append}

@@ -24,7 +24,12 @@ fn scope_is_bad(sheet: &[u64], uses: &[u64], scopes: &[u64]) -> bool
 }
 
 // Of every call that takes a scope sheet. 9 comes behind 8, which looks at the uses as they are supplied.
-pub fn scoped_verdict(short: bool, sheet: &[u64], uses: &[u64], scopes: &[u64]) -> Result<(), Refusal>
+pub fn scoped_verdict(
+    short: bool,
+    sheet: &[u64],
+    uses: &[u64],
+    scopes: &[u64],
+) -> Result<(), Refusal>
     ensures { result ≡ scoped_verdict short sheet.now uses.now scopes.now }
 {
     pair_verdict(short, sheet, uses)?;

@@ -11,6 +11,6 @@ pub returns-in-Err : goal.returns-in-Err
 returns-in-Err c = rw c.in-Err.is (refused_run _ _ c.into.ensures.0 c.into.ensures.2)
 
 pub returns-in-Ok : goal.returns-in-Ok
-returns-in-Ok c = 
+returns-in-Ok c =
     let yes = yes_bit c.in-Ok.ran.can_run _ c.from.ensures in
     rw c.in-Ok.is (omega (arith, yes), run_fields _ _ (omega (arith, yes)) refl (omega (arith, yes)))
