@@ -3,7 +3,7 @@
 use mathlib.Core.Path.{◌≡◌, sym, ap, ap₂, ◌∙◌}
 use mathlib.Core.Bool.{Bool}
 use mathlib.Core.List.{List}
-use Prim.Native.Nat.{ℕ, ◌≤◌}
+use Prim.Native.Nat.{ℕ}
 use native.Mathlib.Omega.{arith}
 use lib.ListN.{length, take}
 use Rattle.std.specs.Prelude.{Option}
@@ -14,6 +14,7 @@ use Rattle.flow.specs.Reachable.{reachable, node_among, node_at, can_run}
 use Rattle.flow.specs.Admitted.{AdmittedSheet}
 use Rattle.flow.proofs.CodeNodes.{code_node_law}
 use Rattle.offsets.specs.Codes.{Rising, Within}
+use Rattle.offsets.proofs.Offsets.{rising_cut}
 use Rattle.chart.specs.Lent.{Columns, Lent, Charted}
 use Rattle.chart.proofs.Read.{nodes_are, flags_read, spans_read, code_nodes_read, ends_rise}
 
@@ -21,8 +22,8 @@ module _ {S : List ℕ} {r : Counts} {l : Lent} (a : AdmittedSheet S) (h : Chart
   abbrev y : Columns
   y = l.after
 
-  pub node_asks : ((r.codes ≤ length y.codes.span) × (r.codes ≤ length y.codes.node)) × Rising r.codes y.codes.span
-  node_asks = (((spans_read a h).long, (code_nodes_read a h).long), ends_rise a h)
+  pub codes_rise : Rising (length (take r.codes y.codes.span)) (take r.codes y.codes.span)
+  codes_rise = rising_cut r.codes y.codes.span (spans_read a h).long (ends_rise a h)
 
   pub place_is : (o : ℕ) {p : Option ℕ} → p ≡ node_among (take r.codes y.codes.span) (take r.codes y.codes.node) o → p ≡ node_at (graph S) o
   unfolding node_at

@@ -32,7 +32,7 @@ pub fn run_in(
         name_end,
     );
     let codes = counts.codes;
-    let node = offsets::node_at(code_span, code_node, codes, offset as u64);
+    let node = offsets::node_at(&code_span[..codes], &code_node[..codes], offset as u64);
     let can_run = offsets::can_run(reachable, node);
     Ran { node, can_run }
 }

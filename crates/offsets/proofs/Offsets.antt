@@ -7,6 +7,8 @@ use mathlib.Core.List.{List, [], ◌∷◌}
 use native.Mathlib.Omega.{arith}
 use native.Mathlib.Decide.{ℕ_discrete}
 use native.Mathlib.Nat.{le_of_suc-le-suc, not-suc-le-zero}
+use Rattle.std.proofs.lemmas.List.Sorted.{IsPartitionedBy-leb, IsNonDecreasingBy-from_default}
+use Rattle.std.specs.List.Sorted.{IsPartitionedBy}
 use borrow.Author.Tests.{lt-ltb, le-ltb, leb-true}
 use lib.Dec.{eqb, leb}
 use lib.ListN.{length, get_or, take}
@@ -32,6 +34,17 @@ first_after codes spans o i r l p h e =
 pub first_at_start : (codes : ℕ) (spans : List ℕ) (o i : ℕ) → i < codes → o < end_of (get_or spans i 0) → i ≤ 0 → FirstPast codes spans o i
 first_at_start codes spans o i l p h = record { within = omega arith; before = λ k m. absurd (omega arith); past = λ _. p }
 
+-- ends that rise are parted at an offset, as std's search asks
+pub parted : (spans : List ℕ) (o : ℕ) → Rising (length spans) spans → IsPartitionedBy (λ s. leb (end_of s) o) spans
+parted spans o r =
+    IsPartitionedBy-leb end_of spans o (IsNonDecreasingBy-from_default end_of spans 0 (λ i j le lt. elim (ℕ_discrete i j) [ yes p ↦ omega (arith, ap (λ k. end_of (get_or spans k 0)) p) | no q ↦ r i j (omega arith) lt ]))
+
+-- and the ends of the first codes rise where they are cut off
+pub rising_cut : (codes : ℕ) (spans : List ℕ) → codes ≤ length spans → Rising codes spans → Rising (length (take codes spans)) (take codes spans)
+rising_cut codes spans l r i j h k =
+    let long = length-take-le codes spans l in
+    rw (get_or-take codes spans i 0 (omega arith), get_or-take codes spans j 0 (omega arith)) (r i j h (omega arith))
+
 among_at : (spans nodes : List ℕ) (o r : ℕ) → ((i : ℕ) → i < r → end_of (get_or spans i 0) ≤ o) → r < length spans → r < length nodes → o < end_of (get_or spans r 0) → node_among spans nodes o ≡ Some (get_or nodes r 0)
 unfolding node_among
 among_at [] vs o r b l m p = absurd (not-suc-le-zero l)
@@ -40,24 +53,18 @@ among_at (s ∷ ss) (v ∷ vs) o zero b l m p = rw (lt-ltb o (end_of s) p)
 among_at (s ∷ ss) (v ∷ vs) o (suc r) b l m p =
     rw (le-ltb o (end_of s) (b 0 (omega arith))) (among_at ss vs o r (λ i h. b (suc i) (omega arith)) (le_of_suc-le-suc l) (le_of_suc-le-suc m) p)
 
-among_none : (spans nodes : List ℕ) (o : ℕ) → ((i : ℕ) → i < length spans → end_of (get_or spans i 0) ≤ o) → node_among spans nodes o ≡ None
+among_none : (spans nodes : List ℕ) (o : ℕ) → ((i : ℕ) → i < length nodes → end_of (get_or spans i 0) ≤ o) → node_among spans nodes o ≡ None
 unfolding node_among
 among_none [] vs o b = refl
 among_none (s ∷ ss) [] o b = refl
 among_none (s ∷ ss) (v ∷ vs) o b = rw (le-ltb o (end_of s) (b 0 (omega arith))) (among_none ss vs o (λ i h. b (suc i) (omega arith)))
 
-module _ (codes : ℕ) (spans nodes : List ℕ) (o r : ℕ) (l : codes ≤ length spans) (f : FirstPast codes spans o r) where
-  all : length (take codes spans) ≡ codes
-  all = length-take-le codes spans l
+module _ (spans nodes : List ℕ) (o r : ℕ) (l : length nodes ≤ length spans) (f : FirstPast (length spans) spans o r) where
+  pub first_at_law : r < length nodes → Some (get_or nodes r 0) ≡ node_among spans nodes o
+  first_at_law h = sym (among_at spans nodes o r f.before (omega arith) h (f.past (omega arith)))
 
-  pub first_at_law : codes ≤ length nodes → r < codes → Some (get_or nodes r 0) ≡ node_among (take codes spans) (take codes nodes) o
-  first_at_law m h =
-      ap Some (sym (get_or-take codes nodes r 0 h))
-      ∙ sym (among_at (take codes spans) (take codes nodes) o r (λ i j. rw (get_or-take codes spans i 0 (omega arith)) (f.before i j)) (omega (arith, all)) (omega (arith, length-take-le codes nodes m)) (rw (get_or-take codes spans r 0 h) (f.past h)))
-
-  pub first_none : codes ≤ r → None ≡ node_among (take codes spans) (take codes nodes) o
-  first_none h =
-      sym (among_none (take codes spans) (take codes nodes) o (λ i j. rw (get_or-take codes spans i 0 (omega (arith, all))) (f.before i (omega (arith, all)))))
+  pub first_none : length nodes ≤ r → None ≡ node_among spans nodes o
+  first_none h = sym (among_none spans nodes o (λ i j. f.before i (omega arith)))
 
 -- ---- what can run
 

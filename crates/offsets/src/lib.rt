@@ -6,73 +6,55 @@ ghost use Rattle.flow.specs.Graph.{Graph, node_count};
 ghost use Rattle.flow.specs.Reachable.{reachable as reachableFlags, node_among, can_run};
 ghost use Rattle.offsets.specs.Codes.{Rising, FirstPast, Within};
 
-use search::at;
 use words::HALF;
 
-// How many codes end at or before an offset. Since the ends rise, those stand first.
-fn partition_point(code_span: &[u64], codes: usize, offset: u64) -> usize
-    requires { (codes ≤ length code_span.now) × Rising codes code_span.now }
-    ensures { FirstPast codes code_span.now offset result }
+// The first code that ends past an offset, or the number of codes. Since the ends rise, those that end at or before it stand first.
+fn first_past(spans: &[u64], offset: u64) -> usize
+    requires { Rising (length spans.now) spans.now }
+    ensures { FirstPast (length spans.now) spans.now offset result }
 {
-    let mut low = 0;
-    let mut high = codes;
-    while low < high {
-        let middle = low + (high - low) / 2;
-        if code_span[middle] / HALF <= offset {
-            low = middle + 1;
-        } else {
-            high = middle;
-        }
-    }
-    low
+    spans.partition_point(|span| *span / HALF <= offset)
 }
 
-// Whether the code at an index is the first that ends past an offset. Since the ends rise, the code before it tells of all before it.
+// Whether the code at an index is the first that ends past an offset. Where the ends rise, the code before it tells of all before it.
 #[tactic(auto, using(crate::proofs::Offsets::first_after, crate::proofs::Offsets::first_at_start))]
-fn is_first_past(code_span: &[u64], codes: usize, offset: u64, index: usize) -> bool
-    requires { (codes ≤ length code_span.now) × Rising codes code_span.now }
-    ensures { result ≡ true → FirstPast codes code_span.now offset index }
+fn is_first_past(spans: &[u64], offset: u64, index: usize) -> bool
+    ensures { result ≡ true → Rising (length spans.now) spans.now → FirstPast (length spans.now) spans.now offset index }
 {
-    index < codes
-        && offset < code_span[index] / HALF
-        && (index == 0 || code_span[index - 1] / HALF <= offset)
+    index < spans.len()
+        && offset < spans[index] / HALF
+        && (index == 0 || spans[index - 1] / HALF <= offset)
 }
 
 // The first code that ends past an offset, or the number of codes. Any hint will do: where it is right, or the code behind it is,
 // there is no search.
-pub fn code_at(code_span: &[u64], codes: usize, offset: u64, hint: usize) -> usize
-    requires { (codes ≤ length code_span.now) × Rising codes code_span.now }
-    ensures { FirstPast codes code_span.now offset result }
+pub fn code_at(spans: &[u64], offset: u64, hint: usize) -> usize
+    requires { Rising (length spans.now) spans.now }
+    ensures { FirstPast (length spans.now) spans.now offset result }
 {
-    if is_first_past(code_span, codes, offset, hint) {
+    if is_first_past(spans, offset, hint) {
         return hint;
     }
-    if hint < codes && is_first_past(code_span, codes, offset, hint + 1) {
+    if hint < spans.len() && is_first_past(spans, offset, hint + 1) {
         return hint + 1;
     }
-    partition_point(code_span, codes, offset)
+    first_past(spans, offset)
 }
 
 // The node that a code has, by its index; past all codes there is none.
-pub fn node_of_code(code_node: &[u64], codes: usize, index: usize) -> Option<usize>
-    requires { codes ≤ length code_node.now }
-    ensures { (spans : List ℕ) (offset : ℕ) → codes ≤ length spans → FirstPast codes spans offset index → result ≡ node_among (take codes spans) (take codes code_node.now) offset }
+pub fn node_of_code(nodes: &[u64], index: usize) -> Option<usize>
+    ensures { (spans : List ℕ) (offset : ℕ) → length nodes.now ≤ length spans → FirstPast (length spans) spans offset index → result ≡ node_among spans nodes.now offset }
 {
-    if index < codes {
-        Some(at(code_node, index))
-    } else {
-        None
-    }
+    Some(*nodes.get(index)? as usize)
 }
 
 // The node of the first code that ends past an offset, if there is one.
-pub fn node_at(code_span: &[u64], code_node: &[u64], codes: usize, offset: u64) -> Option<usize>
-    requires codes_in_bounds { (codes ≤ length code_span.now) × (codes ≤ length code_node.now) }
-    requires rising { Rising codes code_span.now }
-    ensures { result ≡ node_among (take codes code_span.now) (take codes code_node.now) offset }
+pub fn node_at(spans: &[u64], nodes: &[u64], offset: u64) -> Option<usize>
+    requires codes_in_bounds { length nodes.now ≤ length spans.now }
+    requires rising { Rising (length spans.now) spans.now }
+    ensures { result ≡ node_among spans.now nodes.now offset }
 {
-    let index = partition_point(code_span, codes, offset);
-    node_of_code(code_node, codes, index)
+    node_of_code(nodes, first_past(spans, offset))
 }
 
 // Whether the code at the node that was found can run; where none was found the answer is yes.

@@ -1,12 +1,11 @@
 -- `chart_run::run_in` meets its contract: the place among the chart's codes, and the flag of its node.
 -- Assumes nothing.
 use Rattle.flow.specs.Graph.{graph}
-use Rattle.chart_run.proofs.Running.{node_asks, place_is, place_in, place_long, flags_are, ran}
+use Rattle.chart_run.proofs.Running.{codes_rise, place_is, place_in, place_long, flags_are, ran}
 use Rattle.chart_run.proofs.run_in.Goals as goal
 
-pub node_at-node-requires : goal.node_at-node-requires
-node_at-node-requires c =
-    let r = node_asks c.requires.admitted_sheet c.of_sheet-counts.ensures in record { codes_in_bounds = r.0; rising = r.1 }
+pub node_at-node-requires-clause-rising : goal.node_at-node-requires-clause-rising
+node_at-node-requires-clause-rising c = codes_rise c.requires.admitted_sheet c.of_sheet-counts.ensures
 
 pub can_run-can_run-requires : goal.can_run-can_run-requires
 can_run-can_run-requires c = place_long c.requires.admitted_sheet c.of_sheet-counts.ensures c.args.offset (place_is c.requires.admitted_sheet c.of_sheet-counts.ensures c.args.offset c.node_at-node.ensures)
