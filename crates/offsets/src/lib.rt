@@ -27,7 +27,8 @@ fn is_first_past(spans: &[u64], offset: u64, index: usize) -> bool
 }
 
 // The first code that ends past an offset, or the number of codes. Any hint will do: where it is right, or the code behind it is,
-// there is no search.
+// there is no search. That the ends rise stays a clause: a type of such spans would be made for one call each, in `tables` and in
+// `chart_run`, and be no plainer.
 pub fn code_at(spans: &[u64], offset: u64, hint: usize) -> usize
     requires { Rising (length spans.now) spans.now }
     ensures { FirstPast (length spans.now) spans.now offset result }
