@@ -1,11 +1,11 @@
 -- A chart's columns and a use sheet are what the search for findings asks, and what it finds is what judge leaves.
 -- Assumes nothing.
-use mathlib.Core.Path.{◌≡◌, refl, sym, ap, ap₂, ◌∙◌, subst, subst₃}
+use mathlib.Core.Path.{◌≡◌, refl, sym, ap, ap₂, ◌∙◌, subst}
 use mathlib.Core.List.{List, ◌++◌, map}
 use Prim.Native.Nat.{ℕ, ◌<◌, ◌≤◌}
 use native.Mathlib.Omega.{arith}
 use lib.ListN.{length, get_or, take, drop, length-map}
-use lib.Seq.{take_at}
+use lib.Seq.{take_at, take_all, get_or-take, length-take-le}
 use mathlib.Core.Bool.{false}
 use Rattle.std.specs.Prelude.{Ok}
 use Rattle.flow.specs.declared.Counts.{Counts}
@@ -22,6 +22,12 @@ use Rattle.flow.proofs.Few.{findings_few}
 use Rattle.locals.specs.Entries.{Added}
 use Rattle.unassigned.specs.Pass.{Figures}
 use Rattle.finding_spans.specs.Spans.{span_of, Known}
+use Rattle.live_steps.specs.declared.FlowGraph.{FlowGraph}
+use Rattle.live_steps.specs.Walk.{nodes_of}
+use Rattle.locals.specs.declared.DeclarationTable.{DeclarationTable}
+use Rattle.locals.specs.Columns.{Charted as Held}
+use Rattle.tables.specs.declared.CodeColumns.{CodeColumns}
+use Rattle.tables.specs.declared.UseColumns.{UseColumns}
 use Rattle.local_flow.specs.Sheets.{Sheets}
 use Rattle.chart.specs.Lent.{Columns, Lent, Charted}
 use Rattle.chart.proofs.Read.{Begins, nodes_are, names_are, first_read, second_read, start_read, spans_read, code_nodes_read, ends_rise, code_nodes_in, name_spans_read, name_nodes_read, name_ends_read, shown}
@@ -50,45 +56,86 @@ module _ {S U : List ℕ} {r : Counts} {l : Lent} (v : sheet_verdict false S ≡
   pub sheets : Searchable S U r y.nodes.first y.nodes.second y.nodes.start y.codes.span y.codes.node y.names.span y.names.node y.names.scope_end
   sheets = (
     record {
-      kinds_are = refl;
       beside = a.spans ∙ sym a.kinds;
       few = omega (arith, a.kinds, a.few);
-      columns = record {
-        charted = record {
-          count = sym (nodes_are a h);
-          some = omega (arith, node_count_law S, nodes_are a h);
-          few = h.few;
-          charts = record { firsts = sym (first_read a h).cells; seconds = sym (second_read a h).cells; starts = sym (start_read a h).cells };
-          long = record { firsts = (first_read a h).long; seconds = (second_read a h).long; starts = (start_read a h).long };
-        };
-        code_table = record { spans_long = (spans_read a h).long; nodes_long = (code_nodes_read a h).long; rising = ends_rise a h; within = code_nodes_in a h };
-        named = record {
-          count = refl;
-          few = omega (arith, a.all_names, a.few_names);
-          nodes = sym name_nodes_law.cells;
-          nodes_long = name_nodes_law.long;
-          ends = sym name_ends_law.cells;
-          ends_long = name_ends_law.long;
-          within = name_in;
-        };
-        use_table = record {
-          few = omega (arith, u.uses, u.few);
-          same = u.spans ∙ sym u.uses;
-          named = λ k q. omega (arith, u.known k (omega (arith, u.uses)), u.names);
-        };
-        sources = record { code_spans_law = sym (spans_read a h).cells; code_nodes_law = sym (code_nodes_read a h).cells; words_are = refl; spans_are = refl };
+      charted = record {
+        count = sym (nodes_are a h);
+        some = omega (arith, node_count_law S, nodes_are a h);
+        few = h.few;
+        charts = record { firsts = sym (first_read a h).cells; seconds = sym (second_read a h).cells; starts = sym (start_read a h).cells };
+        long = record { firsts = (first_read a h).long; seconds = (second_read a h).long; starts = (start_read a h).long };
       };
+      named = record {
+        count = refl;
+        few = omega (arith, a.all_names, a.few_names);
+        nodes = sym name_nodes_law.cells;
+        nodes_long = name_nodes_law.long;
+        ends = sym name_ends_law.cells;
+        ends_long = name_ends_law.long;
+        within = name_in;
+      };
+      spans_long = (spans_read a h).long;
+      nodes_long = (code_nodes_read a h).long;
+      rising = ends_rise a h;
+      within = code_nodes_in a h;
+      code_spans_law = sym (spans_read a h).cells;
+      code_nodes_law = sym (code_nodes_read a h).cells;
+      few_uses = omega (arith, u.uses, u.few);
+      as_many = u.spans ∙ sym u.uses;
+      names_known = λ k q. omega (arith, u.known k (omega (arith, u.uses)), u.names);
     },
     sym name_spans_law.cells,
     name_spans_law.long,
   )
 
--- ---- the parts as the code takes them
+-- ---- the parts as the code takes them, cut to their length
 
-pub in_parts : {S U : List ℕ} (c : Counts) (ns : List ℕ) {f s t cs cn nn ne ks ws ps : List ℕ} → ks ≡ kind_words S → ws ≡ use_words U → ps ≡ use_spans U
-    → Searchable S U c f s t cs cn ns nn ne → Sheets S U c.nodes c.codes ks f s t cs cn nn ne ws ps
-in_parts {S} {U} c ns {f} {s} {t} {cs} {cn} {nn} {ne} a b d q =
-    subst₃ (λ (k w p : List ℕ). Sheets S U c.nodes c.codes k f s t cs cn nn ne w p) (sym a) (sym b) (sym d) q.0
+module _ {S U : List ℕ} {c : Counts} (ns : List ℕ) {f s t cs cn nn ne : List ℕ} (q : Searchable S U c f s t cs cn ns nn ne) where
+  module _ (g : FlowGraph) (ef : g.first.now ≡ take c.nodes f) (es : g.second.now ≡ take c.nodes s) (et : g.start.now ≡ take c.nodes t) where
+    nodes_cut : nodes_of g ≡ c.nodes
+    nodes_cut = ap length ef ∙ length-take-le c.nodes f q.0.charted.long.firsts
+
+    -- a column that holds the nodes alone
+    column : {l : List ℕ} (old x : List ℕ) → l ≡ take c.nodes old → x ≡ take c.nodes old → length x ≤ nodes_of g → l ≡ take (nodes_of g) x
+    column old x a e h = a ∙ sym e ∙ sym (take_all (nodes_of g) x h)
+
+    charted_cut : Held S (nodes_of g) g.first.now g.second.now g.start.now
+    charted_cut =
+        let p = q.0.charted in
+        record {
+          count = p.count ∙ sym nodes_cut;
+          some = omega (arith, nodes_cut, p.some);
+          few = omega (arith, nodes_cut, p.few);
+          charts = record {
+            firsts = column f g.first.now p.charts.firsts ef (omega arith);
+            seconds = column s g.second.now p.charts.seconds es (omega (arith, g.as_long));
+            starts = column t g.start.now p.charts.starts et (omega (arith, g.as_long));
+          };
+          long = record { firsts = omega arith; seconds = omega (arith, g.as_long); starts = omega (arith, g.as_long) };
+        }
+
+    pub in_parts : (codes : CodeColumns) → codes.spans.now ≡ take c.codes cs → codes.nodes.now ≡ take c.codes cn → (names : DeclarationTable) → names.node.now ≡ nn → names.scope_end.now ≡ ne
+        → (uses : UseColumns) → uses.words.now ≡ use_words U → uses.spans.now ≡ use_spans U → {ks : List ℕ} → ks ≡ kind_words S → Sheets S U ks g codes names uses
+    in_parts codes eo en names em ee uses ew eu ek =
+        let p = q.0 in
+        let long : length codes.spans.now ≡ c.codes = ap length eo ∙ length-take-le c.codes cs p.spans_long in
+        let beside : length codes.nodes.now ≡ c.codes = ap length en ∙ length-take-le c.codes cn p.nodes_long in
+        record {
+          kinds_are = ek;
+          beside = p.beside;
+          few = rw ek p.few;
+          columns = record {
+            charted = charted_cut;
+            named = rw (nodes_cut, em, ee) p.named;
+            code_table = record {
+              nodes_long = omega arith;
+              rising = rw (long, eo) (λ i j h l. rw (get_or-take c.codes cs i 0 (omega arith), get_or-take c.codes cs j 0 l) (p.rising i j h l));
+              within = rw (long, en, nodes_cut) (λ i l. rw (get_or-take c.codes cn i 0 l) (p.within i l));
+            };
+            use_table = record { few = rw ew p.few_uses; same = rw (ew, eu) p.as_many; named = rw ew p.names_known };
+            sources = record { code_spans_law = rw eo p.code_spans_law; code_nodes_law = rw (long, en) (p.code_nodes_law ∙ sym (take_all c.codes (take c.codes cn) (omega (arith, length-take-le c.codes cn p.nodes_long)))); words_are = ew; spans_are = eu };
+          };
+        }
 
 -- ---- what is left
 
@@ -104,21 +151,23 @@ module _ {S U : List ℕ} (a : AdmittedSheet S) (u : AdmittedUses S U) (c : Coun
   all : r ≡ length (words_of (findings S U))
   all = omega (arith, d.counted)
 
-  -- the spans can be looked up
-  pub known : {uses : List ℕ} → uses ≡ use_spans U → Known r (length uses) (length name_span) words'
-  known e = rw e (words_known a u name_span t.1 t.2 words all (from_first d))
+  front : take r words' ≡ words_of (findings S U)
+  front = ap (take r) (from_first d) ∙ take_at (words_of (findings S U)) (drop r words) r (sym all)
 
-  pub found : {uses spans spans' marks marks' : List ℕ} → uses ≡ use_spans U → spans' ≡ map (span_of uses name_span) (take r words') ++ drop r spans → Figures S U (length (locals S)) marks marks'
+  -- the spans can be looked up
+  pub known : {uses : List ℕ} → uses ≡ use_spans U → Known (length uses) (length name_span) (take r words')
+  known e = rw (e, front) (words_known a u name_span t.1 t.2)
+
+  pub found : {uses spans spans' marks marks' : List ℕ} → uses ≡ use_spans U → spans' ≡ map (span_of uses name_span) (take r words') ++ drop (length (take r words')) spans → Figures S U (length (locals S)) marks marks'
       → FindingsWritten S U r (record { before = record { word = words; span = spans; mark = marks }; after = record { word = words'; span = spans'; mark = marks' } })
   found {uses} {spans} {spans'} e s k =
       let ws : List ℕ = words_of (findings S U) in
       let some : length ws ≡ length (spans_of (findings S U)) = length-map (findings S U) (λ f. f.word) ∙ sym (length-map (findings S U) (λ f. f.span)) in
-      let front : take r words' ≡ ws = ap (take r) (from_first d) ∙ take_at ws (drop r words) r (sym all) in
       record {
         count = all ∙ length-map (findings S U) (λ f. f.word);
         words = from_first d ∙ ap (λ (j : ℕ). ws ++ drop j words) all;
-        spans = s ∙ ap (λ (x : List ℕ). map (span_of uses name_span) x ++ drop r spans) front ∙ ap (λ (x : List ℕ). map (span_of x name_span) ws ++ drop r spans) e
-            ∙ ap₂ (λ x j. x ++ drop j spans) (spans_by_words a u name_span t.1 t.2) (all ∙ some);
+        spans = s ∙ ap (λ (x : List ℕ). map (span_of uses name_span) x ++ drop (length x) spans) front ∙ ap (λ (x : List ℕ). map (span_of x name_span) ws ++ drop (length ws) spans) e
+            ∙ ap₂ (λ x j. x ++ drop j spans) (spans_by_words a u name_span t.1 t.2) some;
         marks = k;
       }
 

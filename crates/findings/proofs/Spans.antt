@@ -1,12 +1,12 @@
 -- A finding's word tells its span: what stands beside it in demand 3 is what its use number, or its local, has.
 -- Assumes nothing.
 use Prim.Native.Nat.{ℕ, suc, ◌+◌, ◌/◌, ◌%◌, ◌<◌, ◌≤◌}
-use mathlib.Core.Path.{◌≡◌, refl, sym, ap, ap₂, subst, ◌∙◌}
+use mathlib.Core.Path.{◌≡◌, refl, sym, ap, ap₂, ◌∙◌}
 use mathlib.Core.Logic.{inl, inr}
-use mathlib.Core.List.{List, [], ◌∷◌, ◌++◌, map}
+use mathlib.Core.List.{List, [], ◌∷◌, map}
 use native.Mathlib.Omega.{arith}
 use borrow.Author.Tests.{eq-eqb, ne_eqb}
-use lib.ListN.{length, get_or, take, drop, length-map, length-append, get_or-append, get_or-map}
+use lib.ListN.{length, get_or, take, length-map, get_or-map}
 use lib.Seq.{get_or-take}
 use Rattle.flow.specs.Sheet.{use_words, use_spans}
 use Rattle.flow.specs.Graph.{graph}
@@ -71,13 +71,8 @@ module _ {S U : List ℕ} (a : AdmittedSheet S) (u : AdmittedUses S U) (column :
   each_told i h = told _ _ ((demand3 S U few (λ k l. u.kinds k (omega (arith, u.uses)))).nothing_else i h)
 
   -- each word is of a use or of a name
-  pub words_known : (old : List ℕ) {new : List ℕ} {r : ℕ} → r ≡ length (words_of (findings S U)) → new ≡ words_of (findings S U) ++ drop r old → Known r (length (use_spans U)) (length column) new
-  words_known old {new} {r} c e =
-      let ws : List ℕ = words_of (findings S U) in
-      record {
-        long = omega (arith, c, ap length e, length-append ws (drop r old));
-        each = λ i h. subst (Names (length (use_spans U)) (length column)) (sym (ap (λ (x : List ℕ). get_or x i 0) e ∙ get_or-append ws (drop r old) 0 i (omega (arith, c)))) (each_told i (omega (arith, c))).0;
-      }
+  pub words_known : Known (length (use_spans U)) (length column) (words_of (findings S U))
+  words_known i h = (each_told i h).0
 
   pub spans_by_words : map (span_of (use_spans U) column) (words_of (findings S U)) ≡ spans_of (findings S U)
   spans_by_words =

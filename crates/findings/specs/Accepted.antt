@@ -3,14 +3,13 @@
 use Rattle.std.specs.Prelude.{◌≡◌, List, ℕ, ◌≤◌, length, take}
 use Rattle.flow.specs.declared.Counts.{Counts}
 use Rattle.flow.specs.declared.Judgement.{Judgement}
-use Rattle.flow.specs.Sheet.{kind_words, use_words, use_spans}
 use Rattle.flow.specs.Graph.{graph}
 use Rattle.flow.specs.Reachable.{counts_of}
 use Rattle.flow.specs.Locals.{locals}
 use Rattle.flow.specs.Findings.{findings}
 use Rattle.flow.specs.Judge.{words_of, spans_of}
 use Rattle.unassigned.specs.Pass.{Figures}
-use Rattle.local_flow.specs.Sheets.{Sheets}
+use Rattle.findings.specs.Searched.{Searched}
 use Rattle.search.specs.Lent.{Column, held, left}
 use Rattle.chart.specs.Lent.{overlay, Lent, chart_of, Shown}
 
@@ -31,7 +30,7 @@ Long f = (3072 ≤ length f.word) × (3072 ≤ length f.span) × (1024 ≤ lengt
 -- a chart's columns, as the search for findings in two sheets takes them, and the spans of names
 abbrev pub Searchable : List ℕ → List ℕ → Counts → List ℕ → List ℕ → List ℕ → List ℕ → List ℕ → List ℕ → List ℕ → List ℕ → Type 0
 Searchable S U c first second start code_span code_node name_span node_of_name name_end =
-    Sheets S U c.nodes c.codes (kind_words S) first second start code_span code_node node_of_name name_end (use_words U) (use_spans U)
+    Searched S U c first second start code_span code_node node_of_name name_end
     × ((graph S).names.span ≡ take (length (locals S)) name_span) × (length (locals S) ≤ length name_span)
 
 -- r findings over what stood in their columns, and the mark figures

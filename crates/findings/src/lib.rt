@@ -7,6 +7,9 @@ ghost use Rattle.search.specs.Lent.{held};
 ghost use Rattle.findings.specs.Accepted.{findings_lent, Long, Searchable, FindingsWritten};
 
 use flow::Counts;
+use live_steps::FlowGraph;
+use locals::DeclarationTable;
+use tables::{CodeColumns, UseColumns};
 
 // The findings of a sheet whose graph stands in the columns, with these uses, and a mark figure for each local. The result is the number of findings.
 pub fn find_all(
@@ -32,22 +35,24 @@ pub fn find_all(
     ensures { FindingsWritten sheet.now (use_sheet use_words.now use_spans.now) result (findings_lent finding_word finding_span mark) }
 {
     let kinds = sheet_parts::kinds(sheet);
-    let found = local_flow::compute(
-        kinds,
-        first,
-        second,
-        start,
-        code_span,
-        code_node,
-        name_node,
-        name_end,
-        use_words,
-        use_spans,
-        finding_word,
-        mark,
-        counts.nodes,
-        counts.codes,
-    );
-    finding_spans::write_spans(use_spans, name_span, finding_word, finding_span, found);
+    let graph = FlowGraph {
+        first: &first[..counts.nodes],
+        second: &second[..counts.nodes],
+        start: &start[..counts.nodes],
+    };
+    let codes = CodeColumns {
+        spans: &code_span[..counts.codes],
+        nodes: &code_node[..counts.codes],
+    };
+    let names = DeclarationTable {
+        node: &name_node[..],
+        scope_end: &name_end[..],
+    };
+    let uses = UseColumns {
+        words: &use_words[..],
+        spans: &use_spans[..],
+    };
+    let found = local_flow::compute(kinds, graph, codes, names, uses, finding_word, mark);
+    finding_spans::write_spans(use_spans, name_span, &finding_word[..found], finding_span);
     found
 }

@@ -1,28 +1,29 @@
 -- What the columns of a chart and of a use sheet stand for, before the facts of the names are known.
 -- Assumes nothing: these are definitions.
 use Rattle.std.specs.Prelude.{ℕ, ◌≤◌, ◌≡◌, List, length}
-use Rattle.std.specs.Borrow.{Bor}
-use Rattle.search.specs.Lent.{Column, held, left}
 use Rattle.flow.specs.Sheet.{kind_words, span_words}
 use Rattle.flow.specs.Locals.{locals}
 use Rattle.flow.specs.Findings.{findings}
 use Rattle.flow.specs.Judge.{words_of}
-use Rattle.locals.specs.Entries.{Adds}
+use Rattle.live_steps.specs.declared.FlowGraph.{FlowGraph}
+use Rattle.locals.specs.declared.DeclarationTable.{DeclarationTable}
+use Rattle.locals.specs.Entries.{Added}
+use Rattle.tables.specs.declared.CodeColumns.{CodeColumns}
+use Rattle.tables.specs.declared.UseColumns.{UseColumns}
 use Rattle.unassigned.specs.Pass.{Figures}
 use Rattle.sized_flow.specs.Given.{PairColumns}
 
 -- with the items' words, which the facts are found in
-pub record Sheets (S U : List ℕ) (n codes : ℕ) (kinds first second start code_span code_node node_of_name name_end words spans : List ℕ) : Type 0 where
+pub record Sheets (S U : List ℕ) (kinds : List ℕ) (g : FlowGraph) (codes : CodeColumns) (names : DeclarationTable) (uses : UseColumns) : Type 0 where
   pub kinds_are : kinds ≡ kind_words S
   pub beside : length (span_words S) ≡ length (kind_words S)
   pub few : length kinds ≤ 1024
-  pub columns : PairColumns S U n codes (length (locals S)) first second start code_span code_node node_of_name name_end words spans
+  pub columns : PairColumns S U (length (locals S)) g names codes uses
 
-abbrev pub AnySheets : (n codes : ℕ) (kinds first second start code_span code_node node_of_name name_end words spans : Bor (List ℕ)) → Type 0
-AnySheets n codes kinds first second start code_span code_node node_of_name name_end words spans =
-    (S : List ℕ) × (U : List ℕ) × Sheets S U n codes kinds.now first.now second.now start.now code_span.now code_node.now node_of_name.now name_end.now words.now spans.now
+abbrev pub AnySheets : List ℕ → FlowGraph → CodeColumns → DeclarationTable → UseColumns → Type 0
+AnySheets kinds g codes names uses = (S : List ℕ) × (U : List ℕ) × Sheets S U kinds g codes names uses
 
-abbrev pub Finds : (n codes : ℕ) (kinds first second start code_span code_node node_of_name name_end words spans : List ℕ) (finding_word mark : Column) (r : ℕ) → Type 0
-Finds n codes kinds first second start code_span code_node node_of_name name_end words spans finding_word mark r =
-    (S U : List ℕ) → Sheets S U n codes kinds first second start code_span code_node node_of_name name_end words spans
-    → Adds (words_of (findings S U)) 0 finding_word r × Figures S U (length (locals S)) (held mark) (left mark)
+-- the findings' words were written, r of them, and a mark figure for each local
+abbrev pub Finds : List ℕ → FlowGraph → CodeColumns → DeclarationTable → UseColumns → (old new mark mark' : List ℕ) (r : ℕ) → Type 0
+Finds kinds g codes names uses old new mark mark' r =
+    (S U : List ℕ) → Sheets S U kinds g codes names uses → Added (words_of (findings S U)) 0 old r new × Figures S U (length (locals S)) mark mark'

@@ -1,79 +1,74 @@
 // The findings of all locals, from the columns of a chart and a use sheet (local_flow.rs).
 #![tactic(auto)]
 
-ghost use Rattle.std.specs.Prelude.{◌≤◌, length};
+ghost use Rattle.std.specs.Prelude.{◌≡◌, ◌+◌, ◌≤◌, length};
 ghost use Rattle.locals.specs.Entries.{Room};
+ghost use Rattle.sized_flow.specs.Given.{AnyGiven, FindsGiven};
 ghost use Rattle.local_flow.specs.Sheets.{AnySheets, Finds};
 
-use facts::any_tracked;
+use facts::{NameFacts, any_tracked};
+use live_steps::FlowGraph;
+use locals::{DeclarationTable, FindingList};
 use name_facts::find_names;
-use search::clear;
-use sized_flow::{compute_large, compute_small};
-use small_sheets::is_small;
-use words::limit::ITEMS;
+use sized_flow::compute as compute_sized;
+use small_sheets::{SMALL, is_small};
+use tables::{CodeColumns, UseColumns};
+use words::limit::{ITEMS, NODES};
+
+const SMALL_STARTS: usize = SMALL + 1;
+
+const STARTS: usize = NODES + 1;
+
+// The findings of a pair with the facts of its names, in as much memory as it needs.
+fn find(
+    graph: FlowGraph<'_>,
+    names: DeclarationTable<'_>,
+    codes: CodeColumns<'_>,
+    sheet: UseColumns<'_>,
+    facts: &mut [NameFacts],
+    findings: &mut FindingList<'_>,
+    mark: &mut [u64],
+)
+    requires any_given { AnyGiven graph names codes sheet facts.old }
+    requires room { Room 3072 findings.old.count findings.old.words.now × (1024 ≤ length mark.old) }
+    ensures same { findings.new.words.ghost_name ≡ findings.old.words.ghost_name }
+    ensures finds { FindsGiven graph.entry names.entry codes.entry sheet.entry facts.old findings.old findings.new mark.old mark.new }
+{
+    if is_small(graph.first.len(), facts.len(), sheet.words.len()) {
+        compute_sized::<SMALL, SMALL, SMALL_STARTS>(
+            graph, names, codes, sheet, facts, findings, mark,
+        );
+    } else {
+        compute_sized::<ITEMS, NODES, STARTS>(graph, names, codes, sheet, facts, findings, mark);
+    }
+}
 
 // The words of the findings of a sheet with its uses, in their order, and a mark figure for each local. The result is the number of findings.
 // The facts of the names come before the other tables: by them it is told whether any table is needed, and how much memory they take.
 pub fn compute(
     kinds: &[u64],
-    first: &[u64],
-    second: &[u64],
-    start: &[u64],
-    code_span: &[u64],
-    code_node: &[u64],
-    name_node: &[u64],
-    name_end: &[u64],
-    use_word: &[u64],
-    use_span: &[u64],
+    graph: FlowGraph<'_>,
+    codes: CodeColumns<'_>,
+    names: DeclarationTable<'_>,
+    sheet: UseColumns<'_>,
     finding_word: &mut [u64],
     mark: &mut [u64],
-    n: usize,
-    codes: usize,
 ) -> usize
-    requires any_sheets { AnySheets n codes kinds first second start code_span code_node name_node name_end use_word use_span }
+    requires any_sheets { AnySheets kinds.now graph codes names sheet }
     requires room { Room 3072 0 finding_word.old × (1024 ≤ length mark.old) }
-    ensures { Finds n codes kinds.now first.now second.now start.now code_span.now code_node.now name_node.now name_end.now use_word.now use_span.now finding_word mark result }
+    ensures { Finds kinds.now graph.entry codes.entry names.entry sheet.entry finding_word.old finding_word.new mark.old mark.new result }
 {
-    let mut facts = [0u16; ITEMS];
-    let names = find_names(kinds, &mut facts);
-    if !any_tracked(&facts, names) {
-        clear(mark, names);
+    let mut facts = [NameFacts::default(); ITEMS];
+    let count = find_names(kinds, &mut facts);
+    let facts = &mut facts[..count];
+    if !any_tracked(facts) {
+        mark[..count].fill(0);
         return 0;
     }
-    if is_small(n, names, use_word.len()) {
-        return compute_small(
-            first,
-            second,
-            start,
-            code_span,
-            code_node,
-            name_node,
-            name_end,
-            use_word,
-            use_span,
-            &mut facts,
-            finding_word,
-            mark,
-            n,
-            codes,
-            names,
-        );
-    }
-    compute_large(
-        first,
-        second,
-        start,
-        code_span,
-        code_node,
-        name_node,
-        name_end,
-        use_word,
-        use_span,
-        &mut facts,
-        finding_word,
-        mark,
-        n,
-        codes,
-        names,
-    )
+    let mut findings = FindingList {
+        words: finding_word,
+        count: 0,
+    };
+    find(graph, names, codes, sheet, facts, &mut findings, mark);
+    findings.count
 }
