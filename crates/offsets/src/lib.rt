@@ -43,6 +43,7 @@ pub fn code_at(spans: &[u64], offset: u64, hint: usize) -> usize
 }
 
 // The node that a code has, by its index; past all codes there is none.
+#[tactic(auto, using(crate::proofs::Offsets::first_at_law, crate::proofs::Offsets::first_none))]
 pub fn node_of_code(nodes: &[u64], index: usize) -> Option<usize>
     ensures { (spans : List ℕ) (offset : ℕ) → length nodes.now ≤ length spans → FirstPast (length spans) spans offset index → result ≡ node_among spans nodes.now offset }
 {

@@ -1,16 +1,9 @@
 -- `offsets::can_run` meets its contract: the flag of the node that was found.
 -- Assumes nothing.
 use mathlib.Core.Path.{sym, ap, ◌∙◌}
-use native.Mathlib.Omega.{arith}
 use Rattle.flow.specs.Reachable.{can_run}
 use Rattle.offsets.proofs.Offsets.{flag_runs}
 use Rattle.offsets.proofs.can_run.Goals as goal
-
-pub offset_bounds-reachable-v : goal.offset_bounds-reachable-v
-offset_bounds-reachable-v c = omega (arith, c.requires c.in-Some.v c.in-Some.is)
-
-pub bounds-reachable-v : goal.bounds-reachable-v
-bounds-reachable-v c = c.requires c.in-Some.v c.in-Some.is
 
 pub returns-in-Some : goal.returns-in-Some
 returns-in-Some c = λ g e w. flag_runs g c.args.reachable.now c.in-Some.v e (w c.in-Some.v c.in-Some.is) ∙ ap (can_run g) (sym c.in-Some.is)
