@@ -1,11 +1,14 @@
 -- Names in lists: which of them stand in a joined list, and when one stands there twice.
 -- Assumes nothing.
-use mathlib.Core.Path.{◌≡◌, refl, sym, ◌∙◌}
+use mathlib.Core.Path.{◌≡◌, refl, sym, ap, ◌∙◌}
 use mathlib.Core.List.{List, [], ◌∷◌, ◌++◌}
-use mathlib.Core.Bool.{Bool, true, false, ◌&&◌, ◌||◌, not}
-use Prim.Native.Nat.{ℕ}
+use mathlib.Core.Bool.{Bool, true, false, ◌&&◌, ◌||◌, not, or-true, or-false}
+use Prim.Native.Nat.{ℕ, suc, ◌-◌, ◌≤◌, ◌<◌}
+use native.Mathlib.Omega.{arith}
 use native.Mathlib.Decide.{ℕ_discrete}
 use lib.Dec.{eqb}
+use lib.ListN.{length, get_or, take}
+use lib.Seq.{take-suc}
 use borrow.Author.Tests.{eq-eqb, ne_eqb}
 use Rattle.flow.specs.Sheet.{member}
 use Rattle.flow.specs.Labels.{distinct}
@@ -26,3 +29,19 @@ distinct_more (x ∷ xs) a =
     go false true true r = refl
     go false true false r = refl
     go false false q r = refl
+
+-- ---- the search for a name, from the end of a list
+
+module _ (a k : ℕ) (l : List ℕ) (h : 0 < k) (q : k ≤ length l) where
+  look_last : member a (take k l) ≡ (member a (take (k - 1) l) || eqb a (get_or l (k - 1) 0))
+  look_last =
+      let z : k ≡ suc (k - 1) = omega arith in
+      ap (λ (n : ℕ). member a (take n l)) z
+      ∙ rw (take-suc l (k - 1) 0 (omega arith))
+      (one_of_append a (take (k - 1) l) (get_or l (k - 1) 0 ∷ []) ∙ ap (λ (b : Bool). member a (take (k - 1) l) || b) (or-false (eqb a (get_or l (k - 1) 0))))
+
+  pub look_found : get_or l (k - 1) 0 ≡ a → member a (take k l) ≡ true
+  look_found e = look_last ∙ rw (eq-eqb a (get_or l (k - 1) 0) (sym e)) (or-true (member a (take (k - 1) l)))
+
+  pub look_past : (get_or l (k - 1) 0 ≡ a → ⊥) → member a (take k l) ≡ member a (take (k - 1) l)
+  look_past e = look_last ∙ rw (ne_eqb a (get_or l (k - 1) 0) (λ p. e (sym p))) (or-false (member a (take (k - 1) l)))

@@ -2,6 +2,7 @@
 -- Assumes nothing.
 use Prim.Native.Nat.{ℕ, ◌+◌}
 use mathlib.Core.Path.{◌≡◌, refl, sym, ap, subst, ◌∙◌}
+use mathlib.Core.Bool.{and-true, and-false}
 use mathlib.Core.List.{List, [], ◌∷◌, ◌++◌, append_assoc, append-nil}
 use native.Mathlib.Omega.{arith}
 use lib.ListN.{length, length-append}
@@ -24,13 +25,24 @@ gives c ss e =
 pub loop-name-init : goal.loop-name-init
 loop-name-init c = record { can = tt; finite = tt; left = refl; entered = entered_none c.args.self.now; once = λ d. sym d }
 
-pub add-once-requires : goal.add-once-requires
-add-once-requires c =
+pub add-requires : goal.add-requires
+add-requires c =
     let ks = c.args.kinds.now in
-    let all = ap length (sym c.loop-name.invariant.left ∙ gives (goal.at.add-once-requires c).After-into_iter-name-iterator ks refl) in
+    let all = ap length (sym c.loop-name.invariant.left ∙ gives (goal.at.add-requires c).After-into_iter-name-iterator ks refl) in
     let room : length c.loop-name.yielded + length c.loop-name.name-iterator ≡ length (labels_at ks ks c.args.from) = omega (arith, all, length-append c.loop-name.yielded c.loop-name.name-iterator) in
     let count = entered_length c.loop-name.invariant.entered in
     (omega (arith, count, c.loop-name.invariant.entered.base), omega (arith, count, room, ap length c.in-Some.ensures.steps, c.requires.by_index ks refl))
+
+pub loop-name-preserved-then-not-add : goal.loop-name-preserved-then-not-add
+loop-name-preserved-then-not-add c =
+    let e = c.loop-name.invariant.entered in
+    record {
+      can = tt;
+      finite = tt;
+      left = c.loop-name.invariant.left ∙ ap (λ (z : List ℕ). c.loop-name.yielded ++ z) c.in-Some.ensures.steps ∙ sym (append_assoc c.loop-name.yielded (c.in-Some.name ∷ []) c.next.new.self);
+      entered = entered_trans e c.add.ensures.entered;
+      once = λ d. entered_once (omega (arith, entered_length e, e.base)) c.add.ensures.entered (c.loop-name.invariant.once d) c.add.ensures.first (rw c.if-not-add.true (sym (and-false c.loop-name.once)));
+    }
 
 pub loop-name-preserved : goal.loop-name-preserved
 loop-name-preserved c =
@@ -39,8 +51,8 @@ loop-name-preserved c =
       can = tt;
       finite = tt;
       left = c.loop-name.invariant.left ∙ ap (λ (z : List ℕ). c.loop-name.yielded ++ z) c.in-Some.ensures.steps ∙ sym (append_assoc c.loop-name.yielded (c.in-Some.name ∷ []) c.next.new.self);
-      entered = entered_trans e c.add-once.ensures.entered;
-      once = λ d. entered_once (omega (arith, entered_length e, e.base)) c.add-once.ensures.entered (c.loop-name.invariant.once d) c.add-once.ensures.first refl;
+      entered = entered_trans e c.add.ensures.entered;
+      once = λ d. entered_once (omega (arith, entered_length e, e.base)) c.add.ensures.entered (c.loop-name.invariant.once d) c.add.ensures.first (rw c.if-not-add.false (sym (and-true c.loop-name.once)));
     }
 
 pub returns-clause-by_index : goal.returns-clause-by_index
