@@ -25,9 +25,9 @@ fn finding_line(output: &mut Output, word: u64, span: u64)
     let end = span / HALF;
     if word % LOCAL == 0 {
         let read = (word / HALF).saturating_sub(1);
-        output.line("unassigned", &[local, read, start, end]);
+        output.line(b"unassigned", &[local, read, start, end]);
     } else {
-        output.line("overwritten", &[local, start, end]);
+        output.line(b"overwritten", &[local, start, end]);
     }
 }
 

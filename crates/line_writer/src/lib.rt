@@ -24,14 +24,14 @@ impl<'a> Output<'a> {
         Output { bytes, len: 0 }
     }
 
-    fn push_str(&mut self, text: &str)
+    fn push(&mut self, text: &[u8])
         requires { HasRoom text.now self.old }
         ensures same { self.new.bytes.ghost_name ≡ self.old.bytes.ghost_name }
         ensures appended { Appends text.now self.old self.new }
     {
         let end = self.len + text.len();
         let bytes = &mut *self.bytes;
-        bytes[self.len..end].copy_from_slice(text.as_bytes());
+        bytes[self.len..end].copy_from_slice(text);
         self.len = end;
     }
 
@@ -42,20 +42,20 @@ impl<'a> Output<'a> {
         ensures appended { Appends (32 ∷ Listing.decimal n) self.old self.new }
     {
         let mut digits = Buffer::new();
-        self.push_str(" ");
-        self.push_str(digits.format(n));
+        self.push(b" ");
+        self.push(digits.format(n).as_bytes());
     }
 
     // A line: its word and its numbers.
-    pub fn line(&mut self, word: &str, values: &[u64])
+    pub fn line(&mut self, word: &[u8], values: &[u64])
         requires { HasRoom (word.now ++ Listing.numbers values.now) self.old }
         ensures same { self.new.bytes.ghost_name ≡ self.old.bytes.ghost_name }
         ensures appended { Appends (word.now ++ Listing.numbers values.now) self.old self.new }
     {
-        self.push_str(word);
+        self.push(word);
         for n in values {
             self.push_number(*n);
         }
-        self.push_str("\n");
+        self.push(b"\n");
     }
 }

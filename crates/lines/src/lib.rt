@@ -22,7 +22,7 @@ pub fn refused(output: &mut [u8], refusal: Refusal) -> usize
     ensures { Printed (Listing.refused (Refusals.number refusal)) output.old output.new result }
 {
     let mut output = Output::new(output);
-    output.line("refused", &[refusal.into()]);
+    output.line(b"refused", &[refusal.into()]);
     output.len
 }
 
@@ -42,14 +42,14 @@ fn report(
 {
     let mut output = Output::new(output);
     output.line(
-        "graph",
+        b"graph",
         &[
             counts.nodes as u64,
             counts.codes as u64,
             counts.names as u64,
         ],
     );
-    output.line("exits", &reachable[..5]);
+    output.line(b"exits", &reachable[..5]);
     finding_lines(&mut output, words, spans);
     output.len
 }

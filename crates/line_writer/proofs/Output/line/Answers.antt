@@ -21,13 +21,13 @@ no_numbers : (ns : List ℕ) (i : ℕ) → length ns ≤ i → numbers (drop i n
 unfolding numbers
 no_numbers ns i h = rw (drop_of_length-le ns h)
 
-pub push_str-requires : goal.push_str-requires
-push_str-requires c = first_room c.args.word.now (numbers c.args.values.now) c.requires
+pub push-requires : goal.push-requires
+push-requires c = first_room c.args.word.now (numbers c.args.values.now) c.requires
 
 pub loop-n-init : goal.loop-n-init
 loop-n-init c = record {
   same = search rules;
-  left = next c.args.word.now (numbers c.args.values.now) (begin c.requires) c.push_str.ensures.appended;
+  left = next c.args.word.now (numbers c.args.values.now) (begin c.requires) c.push.ensures.appended;
 }
 
 -- ---- within a turn
@@ -47,8 +47,8 @@ loop-n-preserved c = record {
 end_left : (c : After-loop-n) → Left (c.args.word.now ++ numbers c.args.values.now) (10 ∷ []) c.args.self.now c.loop-n.self
 end_left c = rw (no_numbers c.args.values.now c.loop-n.n-index c.loop-n-test.false) at c.loop-n.invariant.left
 
-pub push_str-requires-2 : goal.push_str-requires-2
-push_str-requires-2 c = (end_left (goal.at.push_str-requires-2 c).After-loop-n).room
+pub push-requires-2 : goal.push-requires-2
+push-requires-2 c = (end_left (goal.at.push-requires-2 c).After-loop-n).room
 
 pub returns-clause-appended : goal.returns-clause-appended
-returns-clause-appended c = (end_left (goal.at.returns-clause-appended c).After-loop-n).whole c.push_str-2.new.self c.push_str-2.ensures.appended
+returns-clause-appended c = (end_left (goal.at.returns-clause-appended c).After-loop-n).whole c.push-2.new.self c.push-2.ensures.appended
