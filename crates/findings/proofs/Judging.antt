@@ -47,7 +47,7 @@ module _ {S U : List ℕ} {r : Counts} {l : Lent} (v : sheet_verdict false S ≡
   name_in : (ℓ : ℕ) → ℓ < length (locals S) → get_or y.names.node ℓ 0 < r.nodes
   name_in ℓ q = rw (name_nodes_law.cell ℓ q, nodes_are a h) (name_node S v ℓ (omega (arith, a.name_nodes, a.all_names)))
 
-  pub sheets : Searchable S U r y.nodes.first y.nodes.second y.nodes.start y.codes.span y.codes.node y.names.span y.names.node y.names.scope_end
+  pub sheets : Searchable S U r y
   sheets = (
     record {
       kinds_are = refl;
@@ -85,10 +85,10 @@ module _ {S U : List ℕ} {r : Counts} {l : Lent} (v : sheet_verdict false S ≡
 
 -- ---- the parts as the code takes them
 
-pub in_parts : {S U : List ℕ} (c : Counts) (ns : List ℕ) {f s t cs cn nn ne ks ws ps : List ℕ} → ks ≡ kind_words S → ws ≡ use_words U → ps ≡ use_spans U
-    → Searchable S U c f s t cs cn ns nn ne → Sheets S U c.nodes c.codes ks f s t cs cn nn ne ws ps
-in_parts {S} {U} c ns {f} {s} {t} {cs} {cn} {nn} {ne} a b d q =
-    subst₃ (λ (k w p : List ℕ). Sheets S U c.nodes c.codes k f s t cs cn nn ne w p) (sym a) (sym b) (sym d) q.0
+pub in_parts : {S U : List ℕ} (c : Counts) (x : Columns) {ks ws ps : List ℕ} → ks ≡ kind_words S → ws ≡ use_words U → ps ≡ use_spans U
+    → Searchable S U c x → Sheets S U c.nodes c.codes ks x.nodes.first x.nodes.second x.nodes.start x.codes.span x.codes.node x.names.node x.names.scope_end ws ps
+in_parts {S} {U} c x a b d q =
+    subst₃ (λ (k w p : List ℕ). Sheets S U c.nodes c.codes k x.nodes.first x.nodes.second x.nodes.start x.codes.span x.codes.node x.names.node x.names.scope_end w p) (sym a) (sym b) (sym d) q.0
 
 -- ---- what is left
 
@@ -99,16 +99,16 @@ all_few {S} {U} a u = findings_few S U (omega (arith, a.all_names, a.few_names))
 pub from_first : {xs old new : List ℕ} {r : ℕ} → Added xs 0 old r new → new ≡ xs ++ drop r old
 from_first {xs} {old} d = d.entered ∙ ap (λ (k : ℕ). xs ++ drop k old) (sym d.counted)
 
-module _ {S U : List ℕ} (a : AdmittedSheet S) (u : AdmittedUses S U) (c : Counts) (name_span : List ℕ) {first second start code_span code_node node_of_name name_end : List ℕ} (t : Searchable S U c first second start code_span code_node name_span node_of_name name_end)
+module _ {S U : List ℕ} (a : AdmittedSheet S) (u : AdmittedUses S U) (c : Counts) (x : Columns) (t : Searchable S U c x)
     {r : ℕ} {words words' : List ℕ} (d : Added (words_of (findings S U)) 0 words r words') where
   all : r ≡ length (words_of (findings S U))
   all = omega (arith, d.counted)
 
   -- the spans can be looked up
-  pub known : {uses : List ℕ} → uses ≡ use_spans U → Known r (length uses) (length name_span) words'
-  known e = rw e (words_known a u name_span t.1 t.2 words all (from_first d))
+  pub known : {uses : List ℕ} → uses ≡ use_spans U → Known r (length uses) (length x.names.span) words'
+  known e = rw e (words_known a u x.names.span t.1 t.2 words all (from_first d))
 
-  pub found : {uses spans spans' marks marks' : List ℕ} → uses ≡ use_spans U → spans' ≡ map (span_of uses name_span) (take r words') ++ drop r spans → Figures S U (length (locals S)) marks marks'
+  pub found : {uses spans spans' marks marks' : List ℕ} → uses ≡ use_spans U → spans' ≡ map (span_of uses x.names.span) (take r words') ++ drop r spans → Figures S U (length (locals S)) marks marks'
       → FindingsWritten S U r (record { before = record { word = words; span = spans; mark = marks }; after = record { word = words'; span = spans'; mark = marks' } })
   found {uses} {spans} {spans'} e s k =
       let ws : List ℕ = words_of (findings S U) in
@@ -117,8 +117,8 @@ module _ {S U : List ℕ} (a : AdmittedSheet S) (u : AdmittedUses S U) (c : Coun
       record {
         count = all ∙ length-map (findings S U) (λ f. f.word);
         words = from_first d ∙ ap (λ (j : ℕ). ws ++ drop j words) all;
-        spans = s ∙ ap (λ (x : List ℕ). map (span_of uses name_span) x ++ drop r spans) front ∙ ap (λ (x : List ℕ). map (span_of x name_span) ws ++ drop r spans) e
-            ∙ ap₂ (λ x j. x ++ drop j spans) (spans_by_words a u name_span t.1 t.2) (all ∙ some);
+        spans = s ∙ ap (λ (l : List ℕ). map (span_of uses x.names.span) l ++ drop r spans) front ∙ ap (λ (l : List ℕ). map (span_of l x.names.span) ws ++ drop r spans) e
+            ∙ ap₂ (λ l j. l ++ drop j spans) (spans_by_words a u x.names.span t.1 t.2) (all ∙ some);
         marks = k;
       }
 

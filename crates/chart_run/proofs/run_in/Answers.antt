@@ -6,13 +6,13 @@ use Rattle.chart_run.proofs.run_in.Goals as goal
 
 pub node_at-node-requires : goal.node_at-node-requires
 node_at-node-requires c =
-    let r = node_asks c.requires.admitted_sheet c.of_sheet-counts.ensures in record { codes_in_bounds = r.0; rising = r.1 }
+    let r = node_asks c.requires.admitted_sheet c.of_sheet-counts.ensures.charted in record { codes_in_bounds = r.0; rising = r.1 }
 
 pub can_run-can_run-requires : goal.can_run-can_run-requires
-can_run-can_run-requires c = place_long c.requires.admitted_sheet c.of_sheet-counts.ensures c.args.offset (place_is c.requires.admitted_sheet c.of_sheet-counts.ensures c.args.offset c.node_at-node.ensures)
+can_run-can_run-requires c = place_long c.requires.admitted_sheet c.of_sheet-counts.ensures.charted c.args.offset (place_is c.requires.admitted_sheet c.of_sheet-counts.ensures.charted c.args.offset c.node_at-node.ensures)
 
-pub returns : goal.returns
-returns c =
-    let p = place_is c.requires.admitted_sheet c.of_sheet-counts.ensures c.args.offset c.node_at-node.ensures in
+pub returns-clause-ran : goal.returns-clause-ran
+returns-clause-ran c =
+    let p = place_is c.requires.admitted_sheet c.of_sheet-counts.ensures.charted c.args.offset c.node_at-node.ensures in
     let S = c.args.sheet.now in
-    ran S c.args.offset p (c.can_run-can_run.ensures (graph S) (flags_are c.requires.admitted_sheet c.of_sheet-counts.ensures) (place_in c.requires.admitted_sheet c.of_sheet-counts.ensures c.args.offset p))
+    ran S c.args.offset p (c.can_run-can_run.ensures (graph S) (flags_are c.requires.admitted_sheet c.of_sheet-counts.ensures.charted) (place_in c.requires.admitted_sheet c.of_sheet-counts.ensures.charted c.args.offset p))
