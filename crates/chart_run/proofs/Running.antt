@@ -6,6 +6,7 @@ use mathlib.Core.List.{List}
 use Prim.Native.Nat.{ℕ}
 use native.Mathlib.Omega.{arith}
 use lib.ListN.{length, take}
+use lib.Seq.{length-take-le}
 use Rattle.std.specs.Prelude.{Option}
 use Rattle.flow.specs.declared.Counts.{Counts}
 use Rattle.flow.specs.declared.Ran.{Ran}
@@ -21,6 +22,13 @@ use Rattle.chart.proofs.Read.{nodes_are, flags_read, spans_read, code_nodes_read
 module _ {S : List ℕ} {r : Counts} {l : Lent} (a : AdmittedSheet S) (h : Charted S r l) where
   abbrev y : Columns
   y = l.after
+
+  -- both columns of codes, cut to the codes
+  pub spans_cut : r.codes ≡ length (take r.codes y.codes.span)
+  spans_cut = sym (length-take-le r.codes y.codes.span (spans_read a h).long)
+
+  pub nodes_cut : r.codes ≡ length (take r.codes y.codes.node)
+  nodes_cut = sym (length-take-le r.codes y.codes.node (code_nodes_read a h).long)
 
   pub codes_rise : Rising (length (take r.codes y.codes.span)) (take r.codes y.codes.span)
   codes_rise = rising_cut r.codes y.codes.span (spans_read a h).long (ends_rise a h)

@@ -1,7 +1,8 @@
 // Refusal 1: each call measures the columns that it is lent.
 #![tactic(auto)]
 
-ghost use Rattle.std.specs.Prelude.{◌≡◌, ◌||◌, [], ◌∷◌, ltb};
+ghost use Rattle.std.specs.Prelude.{◌≡◌, ltb};
+ghost use Rattle.std.specs.List.{list_any};
 ghost use Rattle.column_lengths.specs.Lengths.{chart_too_short, judge_too_short};
 
 use words::limit;
@@ -16,44 +17,25 @@ pub const LOCALS: usize = ITEMS;
 
 pub const FINDINGS: usize = 2 * LOCALS + ITEMS;
 
-// Whether a column of so many cells is too short, or others are.
-fn below(cells: usize, least: usize, others: bool) -> bool
-    ensures { result ≡ (ltb cells least || others) }
+// Whether a column of one of these lengths is too short.
+fn any_below(lengths: &[usize], least: usize) -> bool
+    ensures { result ≡ list_any (λ l. ltb l least) lengths.now }
 {
-    if cells < least {
-        return true;
-    }
-    others
+    lengths.iter().any(|cells| *cells < least)
 }
 
-// Whether a column that chart is lent is too short.
-pub fn chart_short(
-    first: usize,
-    second: usize,
-    start: usize,
-    reachable: usize,
-    code_span: usize,
-    code_node: usize,
-    name_span: usize,
-    name_node: usize,
-    name_end: usize,
-) -> bool
-    ensures { result ≡ chart_too_short (first ∷ second ∷ start ∷ reachable ∷ []) (code_span ∷ code_node ∷ []) (name_span ∷ name_node ∷ name_end ∷ []) }
+// Whether a column that chart is lent is too short, by the lengths of those for nodes, codes and names.
+#[tactic(auto, using(crate::proofs::Any::chart_any))]
+pub fn chart_short(nodes: &[usize], codes: &[usize], names: &[usize]) -> bool
+    ensures { result ≡ chart_too_short nodes.now codes.now names.now }
 {
-    let names = below(
-        name_span,
-        LOCALS,
-        below(name_node, LOCALS, below(name_end, LOCALS, false)),
-    );
-    let codes = below(code_span, CODES, below(code_node, CODES, names));
-    let nodes = below(start, NODES, below(reachable, NODES, codes));
-    below(first, NODES, below(second, NODES, nodes))
+    any_below(nodes, NODES) || any_below(codes, CODES) || any_below(names, LOCALS)
 }
 
-// Whether a column that judge is lent is too short, where `chart` says it of chart's.
-pub fn judge_short(finding_word: usize, finding_span: usize, mark: usize, chart: bool) -> bool
-    ensures { result ≡ judge_too_short (finding_word ∷ finding_span ∷ []) (mark ∷ []) chart }
+// Whether a column that judge is lent is too short, where `chart` says it of chart's: those for findings and for mark figures.
+#[tactic(auto, using(crate::proofs::Any::judge_any))]
+pub fn judge_short(findings: &[usize], marks: &[usize], chart: bool) -> bool
+    ensures { result ≡ judge_too_short findings.now marks.now chart }
 {
-    let marks = below(mark, LOCALS, chart);
-    below(finding_word, FINDINGS, below(finding_span, FINDINGS, marks))
+    any_below(findings, FINDINGS) || any_below(marks, LOCALS) || chart
 }

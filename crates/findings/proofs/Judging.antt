@@ -53,7 +53,7 @@ module _ {S U : List ℕ} {r : Counts} {l : Lent} (v : sheet_verdict false S ≡
   name_in : (ℓ : ℕ) → ℓ < length (locals S) → get_or y.names.node ℓ 0 < r.nodes
   name_in ℓ q = rw (name_nodes_law.cell ℓ q, nodes_are a h) (name_node S v ℓ (omega (arith, a.name_nodes, a.all_names)))
 
-  pub sheets : Searchable S U r y.nodes.first y.nodes.second y.nodes.start y.codes.span y.codes.node y.names.span y.names.node y.names.scope_end
+  pub sheets : Searchable S U r y
   sheets = (
     record {
       beside = a.spans ∙ sym a.kinds;
@@ -90,14 +90,14 @@ module _ {S U : List ℕ} {r : Counts} {l : Lent} (v : sheet_verdict false S ≡
 
 -- ---- the parts as the code takes them, cut to their length
 
-module _ {S U : List ℕ} {c : Counts} (ns : List ℕ) {f s t cs cn nn ne : List ℕ} (q : Searchable S U c f s t cs cn ns nn ne) where
-  module _ (g : FlowGraph) (ef : g.first.now ≡ take c.nodes f) (es : g.second.now ≡ take c.nodes s) (et : g.start.now ≡ take c.nodes t) where
+module _ {S U : List ℕ} (c : Counts) (x : Columns) (q : Searchable S U c x) where
+  module _ (g : FlowGraph) (ef : g.first.now ≡ take c.nodes x.nodes.first) (es : g.second.now ≡ take c.nodes x.nodes.second) (et : g.start.now ≡ take c.nodes x.nodes.start) where
     nodes_cut : nodes_of g ≡ c.nodes
-    nodes_cut = ap length ef ∙ length-take-le c.nodes f q.0.charted.long.firsts
+    nodes_cut = ap length ef ∙ length-take-le c.nodes x.nodes.first q.0.charted.long.firsts
 
     -- a column that holds the nodes alone
-    column : {l : List ℕ} (old x : List ℕ) → l ≡ take c.nodes old → x ≡ take c.nodes old → length x ≤ nodes_of g → l ≡ take (nodes_of g) x
-    column old x a e h = a ∙ sym e ∙ sym (take_all (nodes_of g) x h)
+    column : {l : List ℕ} (old cut : List ℕ) → l ≡ take c.nodes old → cut ≡ take c.nodes old → length cut ≤ nodes_of g → l ≡ take (nodes_of g) cut
+    column old cut a e h = a ∙ sym e ∙ sym (take_all (nodes_of g) cut h)
 
     charted_cut : Held S (nodes_of g) g.first.now g.second.now g.start.now
     charted_cut =
@@ -107,19 +107,19 @@ module _ {S U : List ℕ} {c : Counts} (ns : List ℕ) {f s t cs cn nn ne : List
           some = omega (arith, nodes_cut, p.some);
           few = omega (arith, nodes_cut, p.few);
           charts = record {
-            firsts = column f g.first.now p.charts.firsts ef (omega arith);
-            seconds = column s g.second.now p.charts.seconds es (omega (arith, g.as_long));
-            starts = column t g.start.now p.charts.starts et (omega (arith, g.as_long));
+            firsts = column x.nodes.first g.first.now p.charts.firsts ef (omega arith);
+            seconds = column x.nodes.second g.second.now p.charts.seconds es (omega (arith, g.as_long));
+            starts = column x.nodes.start g.start.now p.charts.starts et (omega (arith, g.as_long));
           };
           long = record { firsts = omega arith; seconds = omega (arith, g.as_long); starts = omega (arith, g.as_long) };
         }
 
-    pub in_parts : (codes : CodeColumns) → codes.spans.now ≡ take c.codes cs → codes.nodes.now ≡ take c.codes cn → (names : DeclarationTable) → names.node.now ≡ nn → names.scope_end.now ≡ ne
+    pub in_parts : (codes : CodeColumns) → codes.spans.now ≡ take c.codes x.codes.span → codes.nodes.now ≡ take c.codes x.codes.node → (names : DeclarationTable) → names.node.now ≡ x.names.node → names.scope_end.now ≡ x.names.scope_end
         → (uses : UseColumns) → uses.words.now ≡ use_words U → uses.spans.now ≡ use_spans U → {ks : List ℕ} → ks ≡ kind_words S → Sheets S U ks g codes names uses
     in_parts codes eo en names em ee uses ew eu ek =
         let p = q.0 in
-        let long : length codes.spans.now ≡ c.codes = ap length eo ∙ length-take-le c.codes cs p.spans_long in
-        let beside : length codes.nodes.now ≡ c.codes = ap length en ∙ length-take-le c.codes cn p.nodes_long in
+        let long : length codes.spans.now ≡ c.codes = ap length eo ∙ length-take-le c.codes x.codes.span p.spans_long in
+        let beside : length codes.nodes.now ≡ c.codes = ap length en ∙ length-take-le c.codes x.codes.node p.nodes_long in
         record {
           kinds_are = ek;
           beside = p.beside;
@@ -129,11 +129,11 @@ module _ {S U : List ℕ} {c : Counts} (ns : List ℕ) {f s t cs cn nn ne : List
             named = rw (nodes_cut, em, ee) p.named;
             code_table = record {
               nodes_long = omega arith;
-              rising = rw (long, eo) (λ i j h l. rw (get_or-take c.codes cs i 0 (omega arith), get_or-take c.codes cs j 0 l) (p.rising i j h l));
-              within = rw (long, en, nodes_cut) (λ i l. rw (get_or-take c.codes cn i 0 l) (p.within i l));
+              rising = rw (long, eo) (λ i j h l. rw (get_or-take c.codes x.codes.span i 0 (omega arith), get_or-take c.codes x.codes.span j 0 l) (p.rising i j h l));
+              within = rw (long, en, nodes_cut) (λ i l. rw (get_or-take c.codes x.codes.node i 0 l) (p.within i l));
             };
             use_table = record { few = rw ew p.few_uses; same = rw (ew, eu) p.as_many; named = rw ew p.names_known };
-            sources = record { code_spans_law = rw eo p.code_spans_law; code_nodes_law = rw (long, en) (p.code_nodes_law ∙ sym (take_all c.codes (take c.codes cn) (omega (arith, length-take-le c.codes cn p.nodes_long)))); words_are = ew; spans_are = eu };
+            sources = record { code_spans_law = rw eo p.code_spans_law; code_nodes_law = rw (long, en) (p.code_nodes_law ∙ sym (take_all c.codes (take c.codes x.codes.node) (omega (arith, length-take-le c.codes x.codes.node p.nodes_long)))); words_are = ew; spans_are = eu };
           };
         }
 
@@ -146,7 +146,7 @@ all_few {S} {U} a u = findings_few S U (omega (arith, a.all_names, a.few_names))
 pub from_first : {xs old new : List ℕ} {r : ℕ} → Added xs 0 old r new → new ≡ xs ++ drop r old
 from_first {xs} {old} d = d.entered ∙ ap (λ (k : ℕ). xs ++ drop k old) (sym d.counted)
 
-module _ {S U : List ℕ} (a : AdmittedSheet S) (u : AdmittedUses S U) (c : Counts) (name_span : List ℕ) {first second start code_span code_node node_of_name name_end : List ℕ} (t : Searchable S U c first second start code_span code_node name_span node_of_name name_end)
+module _ {S U : List ℕ} (a : AdmittedSheet S) (u : AdmittedUses S U) (c : Counts) (x : Columns) (t : Searchable S U c x)
     {r : ℕ} {words words' : List ℕ} (d : Added (words_of (findings S U)) 0 words r words') where
   all : r ≡ length (words_of (findings S U))
   all = omega (arith, d.counted)
@@ -155,10 +155,10 @@ module _ {S U : List ℕ} (a : AdmittedSheet S) (u : AdmittedUses S U) (c : Coun
   front = ap (take r) (from_first d) ∙ take_at (words_of (findings S U)) (drop r words) r (sym all)
 
   -- the spans can be looked up
-  pub known : {uses : List ℕ} → uses ≡ use_spans U → Known (length uses) (length name_span) (take r words')
-  known e = rw (e, front) (words_known a u name_span t.1 t.2)
+  pub known : {uses : List ℕ} → uses ≡ use_spans U → Known (length uses) (length x.names.span) (take r words')
+  known e = rw (e, front) (words_known a u x.names.span t.1 t.2)
 
-  pub found : {uses spans spans' marks marks' : List ℕ} → uses ≡ use_spans U → spans' ≡ map (span_of uses name_span) (take r words') ++ drop (length (take r words')) spans → Figures S U (length (locals S)) marks marks'
+  pub found : {uses spans spans' marks marks' : List ℕ} → uses ≡ use_spans U → spans' ≡ map (span_of uses x.names.span) (take r words') ++ drop r spans → Figures S U (length (locals S)) marks marks'
       → FindingsWritten S U r (record { before = record { word = words; span = spans; mark = marks }; after = record { word = words'; span = spans'; mark = marks' } })
   found {uses} {spans} {spans'} e s k =
       let ws : List ℕ = words_of (findings S U) in
@@ -166,8 +166,8 @@ module _ {S U : List ℕ} (a : AdmittedSheet S) (u : AdmittedUses S U) (c : Coun
       record {
         count = all ∙ length-map (findings S U) (λ f. f.word);
         words = from_first d ∙ ap (λ (j : ℕ). ws ++ drop j words) all;
-        spans = s ∙ ap (λ (x : List ℕ). map (span_of uses name_span) x ++ drop (length x) spans) front ∙ ap (λ (x : List ℕ). map (span_of x name_span) ws ++ drop (length ws) spans) e
-            ∙ ap₂ (λ x j. x ++ drop j spans) (spans_by_words a u name_span t.1 t.2) some;
+        spans = s ∙ ap (λ (l : List ℕ). map (span_of uses x.names.span) l ++ drop r spans) front ∙ ap (λ (l : List ℕ). map (span_of l x.names.span) ws ++ drop r spans) e
+            ∙ ap₂ (λ l j. l ++ drop j spans) (spans_by_words a u x.names.span t.1 t.2) (all ∙ some);
         marks = k;
       }
 

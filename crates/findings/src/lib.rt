@@ -1,58 +1,86 @@
 // The findings of an admitted pair of sheets, by the chart of the first.
 #![tactic(auto)]
 
+ghost use Rattle.std.specs.Prelude.{◌≡◌, ◌++◌, ◌≤◌, map, length, take, drop};
 ghost use Rattle.flow.specs.Scopes.{use_sheet};
 ghost use Rattle.flow.specs.Admitted.{AdmittedSheet, AdmittedUses};
-ghost use Rattle.search.specs.Lent.{held};
-ghost use Rattle.findings.specs.Accepted.{findings_lent, Long, Searchable, FindingsWritten};
+ghost use Rattle.chart.specs.Loan.{cells};
+ghost use Rattle.finding_spans.specs.Spans.{span_of, Known};
+ghost use Rattle.findings.specs.Accepted.{found_short, Long, Searchable, FindingsWritten};
+ghost use Rattle.findings.specs.Loan.{found_cells, found_lent, SameFound};
 
+use chart::ChartColumns;
 use flow::Counts;
 use live_steps::FlowGraph;
 use locals::DeclarationTable;
 use tables::{CodeColumns, UseColumns};
 
+// The columns of findings, each with its word and span, and of mark figures, one a local.
+#[derive(Drop)]
+pub struct FoundColumns<'a> {
+    pub word: &'a mut [u64],
+    pub span: &'a mut [u64],
+    pub mark: &'a mut [u64],
+}
+
+impl FoundColumns<'_> {
+    // Refusal 1: whether one of them is too short for the findings of any pair, where `chart` says it of a chart's columns.
+    pub fn is_short(&self, chart: bool) -> bool
+        ensures { result ≡ found_short (found_cells self.now) chart }
+    {
+        column_lengths::judge_short(
+            &[self.word.len(), self.span.len()],
+            &[self.mark.len()],
+            chart,
+        )
+    }
+}
+
+// The spans of the first n findings. It stands by itself, since a column cut where it is lent tells nothing of what it holds afterwards.
+fn write_first_spans(use_spans: &[u64], name_span: &[u64], word: &[u64], span: &mut [u64], n: usize)
+    requires listed { n ≤ length word.now }
+    requires known { Known (length use_spans.now) (length name_span.now) (take n word.now) }
+    requires room { n ≤ length span.old }
+    ensures { span.new ≡ map (span_of use_spans.now name_span.now) (take n word.now) ++ drop n span.old }
+{
+    finding_spans::write_spans(use_spans, name_span, &word[..n], span);
+}
+
 // The findings of a sheet whose graph stands in the columns, with these uses, and a mark figure for each local. The result is the number of findings.
-pub fn find_all(
+pub fn find_all<'u>(
     sheet: &[u64],
-    use_words: &[u64],
-    use_spans: &[u64],
-    first: &[u64],
-    second: &[u64],
-    start: &[u64],
-    code_span: &[u64],
-    code_node: &[u64],
-    name_span: &[u64],
-    name_node: &[u64],
-    name_end: &[u64],
-    finding_word: &mut [u64],
-    finding_span: &mut [u64],
-    mark: &mut [u64],
+    use_words: &'u [u64],
+    use_spans: &'u [u64],
+    chart: &ChartColumns,
+    found: &mut FoundColumns,
     counts: Counts,
 ) -> usize
     requires admitted_sheet { AdmittedSheet sheet.now × AdmittedUses sheet.now (use_sheet use_words.now use_spans.now) }
-    requires searchable { Searchable sheet.now (use_sheet use_words.now use_spans.now) counts first.now second.now start.now code_span.now code_node.now name_span.now name_node.now name_end.now }
-    requires long { Long (record { word = finding_word.old; span = finding_span.old; mark = mark.old }) }
-    ensures { FindingsWritten sheet.now (use_sheet use_words.now use_spans.now) result (findings_lent finding_word finding_span mark) }
+    requires searchable { Searchable sheet.now (use_sheet use_words.now use_spans.now) counts (cells chart.now) }
+    requires long { Long (found_cells found.old) }
+    ensures written { FindingsWritten sheet.now (use_sheet use_words.now use_spans.now) result (found_lent found.old found.new) }
+    ensures same { SameFound found.old found.new }
 {
     let kinds = sheet_parts::kinds(sheet);
     let graph = FlowGraph {
-        first: &first[..counts.nodes],
-        second: &second[..counts.nodes],
-        start: &start[..counts.nodes],
+        first: &chart.first[..counts.nodes],
+        second: &chart.second[..counts.nodes],
+        start: &chart.start[..counts.nodes],
     };
     let codes = CodeColumns {
-        spans: &code_span[..counts.codes],
-        nodes: &code_node[..counts.codes],
+        spans: &chart.code_span[..counts.codes],
+        nodes: &chart.code_node[..counts.codes],
     };
     let names = DeclarationTable {
-        node: &name_node[..],
-        scope_end: &name_end[..],
+        node: &chart.name_node[..],
+        scope_end: &chart.name_end[..],
     };
     let uses = UseColumns {
         words: &use_words[..],
         spans: &use_spans[..],
     };
-    let found = local_flow::compute(kinds, graph, codes, names, uses, finding_word, mark);
-    finding_spans::write_spans(use_spans, name_span, &finding_word[..found], finding_span);
-    found
+    let listed = local_flow::compute(kinds, graph, codes, names, uses, found.word, found.mark);
+    let word = &mut *found.word;
+    write_first_spans(use_spans, chart.name_span, word, found.span, listed);
+    listed
 }

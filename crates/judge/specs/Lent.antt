@@ -11,6 +11,10 @@ use Rattle.flow.specs.Judge.{words_of, spans_of, judged}
 use Rattle.flow.specs.Demand.{Demand3}
 use Rattle.search.specs.Lent.{Column}
 use Rattle.chart.specs.Lent.{overlay, Columns, Lent, chart_short, chart_leaves, Shown}
+use Rattle.chart.specs.declared.ChartColumns.{ChartColumns}
+use Rattle.chart.specs.Loan.{chart_lent}
+use Rattle.findings.specs.declared.FoundColumns.{FoundColumns}
+use Rattle.findings.specs.Loan.{found_lent}
 use Rattle.findings.specs.Accepted.{FindingColumns, FindingsLent, findings_lent}
 use Rattle.flow.specs.Refusals.{Verdict}
 
@@ -20,6 +24,10 @@ JudgeLent = record { chart : Lent; found : FindingsLent }
 
 abbrev pub judge_lent : Lent → Column → Column → Column → JudgeLent
 judge_lent l word span mark = record { chart = l; found = findings_lent word span mark }
+
+-- the same of the columns as they are lent together, at a call's entry and at its exit
+abbrev pub judge_lent_in : ChartColumns → ChartColumns → FoundColumns → FoundColumns → JudgeLent
+judge_lent_in x y f g = record { chart = chart_lent x y; found = found_lent f g }
 
 -- 1: chart's columns, "or (judge) 3,072 findings"
 abbrev pub judge_short : Columns → FindingColumns → Bool

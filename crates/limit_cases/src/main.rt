@@ -4,7 +4,9 @@
 
 ghost use Rattle.std.specs.Prelude.{◌≤◌};
 
-use column_lengths::{CODES, FINDINGS, LOCALS, NODES};
+use chart::ChartMemory;
+use column_lengths::{FINDINGS, LOCALS};
+use findings::FoundColumns;
 use flow::Refusal;
 use numbers::number_of;
 use std::io;
@@ -66,62 +68,26 @@ fn label_or_no(answer: Result<bool, Refusal>) -> u64 {
 }
 
 fn chart(sheet: &[u64]) -> u64 {
-    let mut first = [0u64; NODES];
-    let mut second = [0u64; NODES];
-    let mut start = [0u64; NODES];
-    let mut reachable = [0u64; NODES];
-    let mut code_span = [0u64; CODES];
-    let mut code_node = [0u64; CODES];
-    let mut name_span = [0u64; LOCALS];
-    let mut name_node = [0u64; LOCALS];
-    let mut name_end = [0u64; LOCALS];
-    number_of(chart_call::chart(
-        sheet,
-        &mut first,
-        &mut second,
-        &mut start,
-        &mut reachable,
-        &mut code_span,
-        &mut code_node,
-        &mut name_span,
-        &mut name_node,
-        &mut name_end,
-    ))
+    let mut memory = ChartMemory::filled(0);
+    let mut chart = memory.lend();
+    number_of(chart_call::chart(sheet, &mut chart))
 }
 
 // With no uses and no scope sheet.
 fn judge(sheet: &[u64]) -> u64 {
     let uses = [0u64; 1];
     let scopes = [0u64; 0];
-    let mut first = [0u64; NODES];
-    let mut second = [0u64; NODES];
-    let mut start = [0u64; NODES];
-    let mut reachable = [0u64; NODES];
-    let mut code_span = [0u64; CODES];
-    let mut code_node = [0u64; CODES];
-    let mut name_span = [0u64; LOCALS];
-    let mut name_node = [0u64; LOCALS];
-    let mut name_end = [0u64; LOCALS];
-    let mut finding_word = [0u64; FINDINGS];
-    let mut finding_span = [0u64; FINDINGS];
+    let mut memory = ChartMemory::filled(0);
+    let mut chart = memory.lend();
+    let mut word = [0u64; FINDINGS];
+    let mut span = [0u64; FINDINGS];
     let mut mark = [0u64; LOCALS];
-    number_of(judge::judge(
-        sheet,
-        &uses,
-        &scopes,
-        &mut first,
-        &mut second,
-        &mut start,
-        &mut reachable,
-        &mut code_span,
-        &mut code_node,
-        &mut name_span,
-        &mut name_node,
-        &mut name_end,
-        &mut finding_word,
-        &mut finding_span,
-        &mut mark,
-    ))
+    let mut found = FoundColumns {
+        word: &mut word,
+        span: &mut span,
+        mark: &mut mark,
+    };
+    number_of(judge::judge(sheet, &uses, &scopes, &mut chart, &mut found))
 }
 
 fn tell(rt: &impl Print, what: &str, sheet: &[u64]) -> io::Result<()> {

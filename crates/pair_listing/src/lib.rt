@@ -6,7 +6,9 @@ ghost use Rattle.flow.specs.Listing.{sheets_print};
 ghost use Rattle.line_writer.specs.Output.{Printed};
 ghost use Rattle.lines.specs.Report.{room_for_all};
 
-use column_lengths::{CODES, FINDINGS, LOCALS, NODES};
+use chart::ChartMemory;
+use column_lengths::{FINDINGS, LOCALS};
+use findings::FoundColumns;
 
 // What a sheet and a use sheet print.
 pub fn of_sheets(sheet: &[u64], uses: &[u64], output: &mut [u8]) -> usize
@@ -15,34 +17,19 @@ pub fn of_sheets(sheet: &[u64], uses: &[u64], output: &mut [u8]) -> usize
 {
     // The program takes no scope sheet.
     let scopes = [0u64; 0];
-    let mut first = [0u64; NODES];
-    let mut second = [0u64; NODES];
-    let mut start = [0u64; NODES];
-    let mut reachable = [0u64; NODES];
-    let mut code_span = [0u64; CODES];
-    let mut code_node = [0u64; CODES];
-    let mut name_span = [0u64; LOCALS];
-    let mut name_node = [0u64; LOCALS];
-    let mut name_end = [0u64; LOCALS];
-    let mut words = [0u64; FINDINGS];
-    let mut spans = [0u64; FINDINGS];
-    let mut marks = [0u64; LOCALS];
-    let answer = judge::judge(
-        sheet,
-        uses,
-        &scopes,
-        &mut first,
-        &mut second,
-        &mut start,
-        &mut reachable,
-        &mut code_span,
-        &mut code_node,
-        &mut name_span,
-        &mut name_node,
-        &mut name_end,
-        &mut words,
-        &mut spans,
-        &mut marks,
-    );
-    lines::answered(output, answer, &reachable, &words, &spans)
+    let mut memory = ChartMemory::filled(0);
+    let mut chart = memory.lend();
+    let mut word = [0u64; FINDINGS];
+    let mut span = [0u64; FINDINGS];
+    let mut mark = [0u64; LOCALS];
+    let mut found = FoundColumns {
+        word: &mut word,
+        span: &mut span,
+        mark: &mut mark,
+    };
+    let answer = judge::judge(sheet, uses, &scopes, &mut chart, &mut found);
+    let reachable = chart.reachable;
+    let words = found.word;
+    let spans = found.span;
+    lines::answered(output, answer, reachable, words, spans)
 }

@@ -61,8 +61,8 @@ fn both_agree(cells: Cells, sheet: &[u64], uses: &[u64], chart: u64, judge: u64)
     let n = cells.nodes;
     let c = cells.codes;
     let l = cells.locals;
-    let short = column_lengths::chart_short(n, n, n, n, c, c, l, l, l);
-    let any_short = column_lengths::judge_short(cells.findings, cells.findings, l, short);
+    let short = column_lengths::chart_short(&[n; 4], &[c; 2], &[l; 3]);
+    let any_short = column_lengths::judge_short(&[cells.findings; 2], &[l], short);
     let charted = number_of(admission::sheet_verdict(short, sheet)) == chart;
     let judged = number_of(admission::pair_verdict(any_short, sheet, uses)) == judge;
     charted & judged

@@ -5,7 +5,9 @@ ghost use Rattle.replay.specs.Words.{stored_told};
 
 use crate::chart_cells::{cells_hold, counts_are};
 use crate::stored::{OLD, Rest, Stored};
-use column_lengths::{CODES, FINDINGS, LOCALS, NODES};
+use chart::ChartMemory;
+use column_lengths::{FINDINGS, LOCALS};
+use findings::FoundColumns;
 use flow::{Judgement, Refusal};
 
 // Whether an answer tells the stored number, and where that is 0 the stored counts and the number of findings.
@@ -45,48 +47,26 @@ fn findings(stored: Stored, rest: &mut Rest) -> Option<u64> {
 // Whether judge answers and writes what is stored: the chart's cells, and the findings'. What is stored has no scope sheet.
 pub fn judge_agrees(sheet: &[u64], uses: &[u64], stored: Stored, cells: Rest) -> Option<bool> {
     let scopes = [OLD; 0];
-    let mut first = [OLD; NODES];
-    let mut second = [OLD; NODES];
-    let mut start = [OLD; NODES];
-    let mut reachable = [OLD; NODES];
-    let mut code_span = [OLD; CODES];
-    let mut code_node = [OLD; CODES];
-    let mut name_span = [OLD; LOCALS];
-    let mut name_node = [OLD; LOCALS];
-    let mut name_end = [OLD; LOCALS];
-    let mut finding_word = [OLD; FINDINGS];
-    let mut finding_span = [OLD; FINDINGS];
+    let mut memory = ChartMemory::filled(OLD);
+    let mut chart = memory.lend();
+    let mut word = [OLD; FINDINGS];
+    let mut span = [OLD; FINDINGS];
     let mut mark = [OLD; LOCALS];
-    let answer = judge::judge(
-        sheet,
-        uses,
-        &scopes,
-        &mut first,
-        &mut second,
-        &mut start,
-        &mut reachable,
-        &mut code_span,
-        &mut code_node,
-        &mut name_span,
-        &mut name_node,
-        &mut name_end,
-        &mut finding_word,
-        &mut finding_span,
-        &mut mark,
-    );
+    let mut columns = FoundColumns {
+        word: &mut word,
+        span: &mut span,
+        mark: &mut mark,
+    };
+    let answer = judge::judge(sheet, uses, &scopes, &mut chart, &mut columns);
     let mut rest = cells;
-    let written = cells_hold(
-        &first, &second, &start, &reachable, &code_span, &code_node, &name_span, &name_node,
-        &name_end, stored, &mut rest,
-    );
-    if !written {
+    if !cells_hold(&chart, stored, &mut rest) {
         return Some(false);
     }
     // The findings' cells are a case's last words.
     let found = findings(stored, &mut rest)?;
     let agree = answer_is(answer, stored, found)
-        && rest.are_in(&finding_word, found)
-        && rest.are_in(&finding_span, found)
+        && rest.are_in(&word, found)
+        && rest.are_in(&span, found)
         && rest.is_empty()
         && marks_hold(&mark, stored);
     Some(agree)

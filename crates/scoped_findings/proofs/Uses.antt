@@ -13,6 +13,7 @@ use Rattle.flow.specs.Refusals.{name_count}
 use Rattle.flow.specs.Scopes.{use_sheet, crossed_from, crossed, scopes_fit, scopes_wrong, bad_scopes}
 use Rattle.flow.specs.Admitted.{AdmittedSheet, AdmittedUses, AdmittedScopes}
 use Rattle.flow.specs.declared.Counts.{Counts}
+use Rattle.chart.specs.Lent.{Columns}
 use Rattle.findings.specs.Accepted.{FindingsLent, Searchable, FindingsWritten}
 use Rattle.flow.proofs.Scopes.{crossed_length, sheet_again, admitted_scopes}
 
@@ -57,8 +58,8 @@ few_names_law s a = omega (arith, a.names, s.all_names, s.few_names)
 
 -- ---- the same of the sheet that they make
 
-pub searched : {S M N : List ℕ} (c : Counts) (ns : List ℕ) {f s t cs cn nn ne : List ℕ} → M ≡ N → Searchable S N c f s t cs cn ns nn ne → Searchable S M c f s t cs cn ns nn ne
-searched {S} c ns {f} {s} {t} {cs} {cn} {nn} {ne} e q = subst (λ (z : List ℕ). Searchable S z c f s t cs cn ns nn ne) (sym e) q
+pub searched : {S M N : List ℕ} (c : Counts) (x : Columns) → M ≡ N → Searchable S N c x → Searchable S M c x
+searched {S} c x e q = subst (λ (z : List ℕ). Searchable S z c x) (sym e) q
 
 pub written : {S M N : List ℕ} {r : ℕ} {l : FindingsLent} → M ≡ N → FindingsWritten S M r l → FindingsWritten S N r l
 written {S} {r = r} {l} e q = subst (λ (z : List ℕ). FindingsWritten S z r l) e q

@@ -7,6 +7,8 @@ ghost use Rattle.judge.specs.Lent.{judge_lent};
 ghost use Rattle.waldimu.specs.Promises.{ChartForC, JudgeForC, RunForC, LabelForC};
 
 use answer_words::{chart_word, judge_word, label_word, run_word};
+use chart::ChartColumns;
+use findings::FoundColumns;
 
 #[unsafe(no_mangle)]
 pub extern "C" fn waldimu_chart(
@@ -23,10 +25,18 @@ pub extern "C" fn waldimu_chart(
 ) -> u64
     ensures { ChartForC sheet.now result (lent first second start reachable code_span code_node name_span name_node name_end) }
 {
-    chart_word(chart_call::chart(
-        sheet, first, second, start, reachable, code_span, code_node, name_span, name_node,
+    let mut chart = ChartColumns {
+        first,
+        second,
+        start,
+        reachable,
+        code_span,
+        code_node,
+        name_span,
+        name_node,
         name_end,
-    ))
+    };
+    chart_word(chart_call::chart(sheet, &mut chart))
 }
 
 #[unsafe(no_mangle)]
@@ -49,10 +59,7 @@ pub extern "C" fn waldimu_judge(
 ) -> u64
     ensures { JudgeForC sheet.now uses.now scopes.now result (judge_lent (lent first second start reachable code_span code_node name_span name_node name_end) finding_word finding_span mark) }
 {
-    judge_word(judge::judge(
-        sheet,
-        uses,
-        scopes,
+    let mut chart = ChartColumns {
         first,
         second,
         start,
@@ -62,10 +69,13 @@ pub extern "C" fn waldimu_judge(
         name_span,
         name_node,
         name_end,
-        finding_word,
-        finding_span,
+    };
+    let mut found = FoundColumns {
+        word: finding_word,
+        span: finding_span,
         mark,
-    ))
+    };
+    judge_word(judge::judge(sheet, uses, scopes, &mut chart, &mut found))
 }
 
 #[unsafe(no_mangle)]

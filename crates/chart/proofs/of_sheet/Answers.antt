@@ -20,7 +20,7 @@ write_chart-requires c =
     let d = (goal.at.write_chart-requires c).After-spans-spans in
     record { by_index = (S d, parts d); wide = c.requires.wide }
 
-pub returns : goal.returns
-returns c =
-    let d = (goal.at.returns c).After-spans-spans in
-    c.write_chart.ensures (S d) (parts d)
+pub returns-clause-charted : goal.returns-clause-charted
+returns-clause-charted c =
+    let d = (goal.at.returns-clause-charted c).After-spans-spans in
+    c.write_chart.ensures.charted (S d) (parts d)

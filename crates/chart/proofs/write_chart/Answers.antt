@@ -19,18 +19,9 @@ pub split_names-requires : goal.split_names-requires
 split_names-requires c =
     let r = names_ask c.requires.by_index.1 (c.of_block-counts.ensures _ (as_many c.requires.by_index.1)) c.requires.wide in record { names_in_bounds = r.0; by_index = r.1 }
 
-pub shape_of-first : goal.shape_of-first
-shape_of-first c = c.split_nodes.auto.first ∙ c.of_block-counts.auto.edges
-
-pub shape_of-code_node : goal.shape_of-code_node
-shape_of-code_node c = c.split_codes.auto.code_node ∙ c.of_block-counts.auto.codes
-
-pub shape_of-name_node : goal.shape_of-name_node
-shape_of-name_node c = c.split_names.auto.name_node ∙ c.of_block-counts.auto.names
-
-pub returns : goal.returns
-returns c =
+pub returns-clause-charted : goal.returns-clause-charted
+returns-clause-charted c =
     λ S p.
     let w = c.of_block-counts.ensures _ (as_many p) in
-    charted p w c.args.second.now c.args.start.now c.split_nodes.new.start c.args.code_span.now c.args.name_span.now c.args.name_end.now c.split_nodes.ensures.first_after c.split_nodes.ensures.second_after c.split_nodes.ensures.start_unchanged.0
+    charted p w c.args.chart.now.second.now c.args.chart.now.start.now c.split_nodes.new.start c.args.chart.now.code_span.now c.args.chart.now.name_span.now c.args.chart.now.name_end.now c.split_nodes.ensures.first_after c.split_nodes.ensures.second_after c.split_nodes.ensures.start_unchanged.0
     (c.split_nodes.ensures.flags_over (graph S) (firsts p w) (seconds p w)) c.split_codes.ensures.code_node_after c.split_codes.ensures.code_span_after c.split_codes.ensures.start_after c.split_names.ensures.name_node_after c.split_names.ensures.name_span_after c.split_names.ensures.name_end_after

@@ -9,6 +9,7 @@ use lib.Seq.{length-take-le}
 use Rattle.flow.specs.Scopes.{use_sheet, crossed}
 use Rattle.flow.specs.Admitted.{AdmittedUses}
 use Rattle.flow.proofs.Scopes.{crossed_admitted}
+use Rattle.chart.specs.Loan.{cells}
 use Rattle.scoped_findings.proofs.Uses.{as_supplied, as_replaced, scopes_fit_law, locals_known, few_names_law, searched, written}
 use Rattle.scoped_findings.proofs.find_scoped.Goals as goal
 use Rattle.scoped_findings.proofs.find_scoped.Goals.{After-replace_crossings, After-use_spans-use_spans}
@@ -46,10 +47,10 @@ pub find_all-requires : goal.find_all-requires
 find_all-requires c =
     let d = (goal.at.find_all-requires c).After-use_spans-use_spans in
     let e = supplied d c.if-bare.true in
-    record { admitted_sheet = (c.requires.admitted_sheet.0, subst (AdmittedUses (S d)) (sym e) (crossed_admitted (S d) (U d) (C d) c.requires.admitted_sheet.1)); searchable = searched c.args.counts c.args.name_span.now e c.requires.searchable; long = c.requires.long }
+    record { admitted_sheet = (c.requires.admitted_sheet.0, subst (AdmittedUses (S d)) (sym e) (crossed_admitted (S d) (U d) (C d) c.requires.admitted_sheet.1)); searchable = searched c.args.counts (cells c.args.chart.now) e c.requires.searchable; long = c.requires.long }
 
-pub returns-then-bare : goal.returns-then-bare
-returns-then-bare c = written (supplied (goal.at.returns-then-bare c).After-use_spans-use_spans c.if-bare.true) c.find_all.ensures
+pub returns-then-bare-clause-written : goal.returns-then-bare-clause-written
+returns-then-bare-clause-written c = written (supplied (goal.at.returns-then-bare-clause-written c).After-use_spans-use_spans c.if-bare.true) c.find_all.ensures.written
 
 pub replace_crossings-requires : goal.replace_crossings-requires
 replace_crossings-requires c =
@@ -67,7 +68,7 @@ pub find_all-requires-2 : goal.find_all-requires-2
 find_all-requires-2 c =
     let d = (goal.at.find_all-requires-2 c).After-use_spans-use_spans in
     let e = replaced (goal.at.find_all-requires-2 c).After-replace_crossings in
-    record { admitted_sheet = (c.requires.admitted_sheet.0, subst (AdmittedUses (S d)) (sym e) (crossed_admitted (S d) (U d) (C d) c.requires.admitted_sheet.1)); searchable = searched c.args.counts c.args.name_span.now e c.requires.searchable; long = c.requires.long }
+    record { admitted_sheet = (c.requires.admitted_sheet.0, subst (AdmittedUses (S d)) (sym e) (crossed_admitted (S d) (U d) (C d) c.requires.admitted_sheet.1)); searchable = searched c.args.counts (cells c.args.chart.now) e c.requires.searchable; long = c.requires.long }
 
-pub returns : goal.returns
-returns c = written (replaced (goal.at.returns c).After-replace_crossings) c.find_all-2.ensures
+pub returns-clause-written : goal.returns-clause-written
+returns-clause-written c = written (replaced (goal.at.returns-clause-written c).After-replace_crossings) c.find_all-2.ensures.written
