@@ -15,9 +15,9 @@
    found last:
 
      sheet                     chart  judge    run  label check
-     1,024 PLAIN                   2     72     94           18
-     an IF with 1,022 ELSEIF       3     72     95           18
-     64 nested IF                 53     72    145           18
+     1,024 PLAIN                   2     73     94           18
+     an IF with 1,022 ELSEIF       2     73     94           18
+     64 nested IF                  9     73    101           18
 */
 #ifndef WALDIMU_H
 #define WALDIMU_H
