@@ -30,7 +30,7 @@ module _ {S U : List ℕ} {p : PassTables} {by_node : List PlacedUse} (q : Pair 
   pub in_use_order : PassOf (uses_of S U) p S U
   in_use_order = record { charted = q.charted; named = q.named; table = q.tables.in_use_order }
 
-  pub in_node_order : Pass (uses_by_node S U (nodes_of p.graph)) S U (nodes_of p.graph) (length p.facts.now) p.graph.first.now p.graph.second.now p.graph.start.now p.names.node.now p.names.scope_end.now p.facts.now p.uses.starts.now by_node
+  pub in_node_order : Pass (uses_by_node S U (nodes_of p.graph)) S U (nodes_of p.graph) (length p.facts.now) p.graph.edges.first.now p.graph.edges.second.now p.graph.start.now p.names.node.now p.names.scope_end.now p.facts.now p.uses.starts.now by_node
   in_node_order = record { charted = q.charted; named = q.named; table = q.tables.in_node_order }
 
 -- what both list, one after the other

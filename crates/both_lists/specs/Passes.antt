@@ -16,7 +16,7 @@ use Rattle.both_lists.specs.declared.GraphWalk.{GraphWalk}
 
 -- the graph, the names, and the tables of a pair
 pub record Pair (S U : List ℕ) (p : PassTables) (by_node : List PlacedUse) : Type 0 where
-  pub charted : Charted S (nodes_of p.graph) p.graph.first.now p.graph.second.now p.graph.start.now
+  pub charted : Charted S (nodes_of p.graph) p.graph.edges.first.now p.graph.edges.second.now p.graph.start.now
   pub named : Named S (nodes_of p.graph) (length p.facts.now) p.names.node.now p.names.scope_end.now
   pub tables : Tables S U (nodes_of p.graph) (length p.facts.now) p.facts.now p.uses.starts.now p.uses.uses.now by_node
 

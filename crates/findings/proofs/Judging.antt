@@ -91,7 +91,7 @@ module _ {S U : List ℕ} {r : Counts} {l : Lent} (v : sheet_verdict false S ≡
 -- ---- the parts as the code takes them, cut to their length
 
 module _ {S U : List ℕ} (c : Counts) (x : Columns) (q : Searchable S U c x) where
-  module _ (g : FlowGraph) (ef : g.first.now ≡ take c.nodes x.nodes.first) (es : g.second.now ≡ take c.nodes x.nodes.second) (et : g.start.now ≡ take c.nodes x.nodes.start) where
+  module _ (g : FlowGraph) (ef : g.edges.first.now ≡ take c.nodes x.nodes.first) (es : g.edges.second.now ≡ take c.nodes x.nodes.second) (et : g.start.now ≡ take c.nodes x.nodes.start) where
     nodes_cut : nodes_of g ≡ c.nodes
     nodes_cut = ap length ef ∙ length-take-le c.nodes x.nodes.first q.0.charted.long.firsts
 
@@ -99,7 +99,7 @@ module _ {S U : List ℕ} (c : Counts) (x : Columns) (q : Searchable S U c x) wh
     column : {l : List ℕ} (old cut : List ℕ) → l ≡ take c.nodes old → cut ≡ take c.nodes old → length cut ≤ nodes_of g → l ≡ take (nodes_of g) cut
     column old cut a e h = a ∙ sym e ∙ sym (take_all (nodes_of g) cut h)
 
-    charted_cut : Held S (nodes_of g) g.first.now g.second.now g.start.now
+    charted_cut : Held S (nodes_of g) g.edges.first.now g.edges.second.now g.start.now
     charted_cut =
         let p = q.0.charted in
         record {
@@ -107,11 +107,11 @@ module _ {S U : List ℕ} (c : Counts) (x : Columns) (q : Searchable S U c x) wh
           some = omega (arith, nodes_cut, p.some);
           few = omega (arith, nodes_cut, p.few);
           charts = record {
-            firsts = column x.nodes.first g.first.now p.charts.firsts ef (omega arith);
-            seconds = column x.nodes.second g.second.now p.charts.seconds es (omega (arith, g.as_long));
+            firsts = column x.nodes.first g.edges.first.now p.charts.firsts ef (omega arith);
+            seconds = column x.nodes.second g.edges.second.now p.charts.seconds es (omega (arith, g.edges.as_long));
             starts = column x.nodes.start g.start.now p.charts.starts et (omega (arith, g.as_long));
           };
-          long = record { firsts = omega arith; seconds = omega (arith, g.as_long); starts = omega (arith, g.as_long) };
+          long = record { firsts = omega arith; seconds = omega (arith, g.edges.as_long); starts = omega (arith, g.as_long) };
         }
 
     pub in_parts : (codes : CodeColumns) → codes.spans.now ≡ take c.codes x.codes.span → codes.nodes.now ≡ take c.codes x.codes.node → (names : DeclarationTable) → names.node.now ≡ x.names.node → names.scope_end.now ≡ x.names.scope_end

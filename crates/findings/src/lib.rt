@@ -11,7 +11,7 @@ ghost use Rattle.findings.specs.Loan.{found_cells, found_lent, SameFound};
 
 use chart::ChartColumns;
 use flow::Counts;
-use live_steps::FlowGraph;
+use live_steps::{Edges, FlowGraph};
 use locals::DeclarationTable;
 use tables::{CodeColumns, UseColumns};
 
@@ -63,8 +63,10 @@ pub fn find_all<'u>(
 {
     let kinds = sheet_parts::kinds(sheet);
     let graph = FlowGraph {
-        first: &chart.first[..counts.nodes],
-        second: &chart.second[..counts.nodes],
+        edges: Edges {
+            first: &chart.first[..counts.nodes],
+            second: &chart.second[..counts.nodes],
+        },
         start: &chart.start[..counts.nodes],
     };
     let codes = CodeColumns {

@@ -2,6 +2,7 @@
 -- Assumes nothing: these are definitions.
 use Rattle.std.specs.Prelude.{ℕ, ◌≤◌, ◌≡◌, Bool, ◌&&◌, not, List, [], length, get_or, take, eqb, ltb}
 use Rattle.live_steps.specs.declared.LocalDeclaration.{LocalDeclaration}
+use Rattle.live_steps.specs.declared.Edges.{Edges}
 use Rattle.live_steps.specs.declared.FlowGraph.{FlowGraph}
 use Rattle.flow.specs.Graph.{Graph, Nodes}
 use Rattle.flow.specs.Locals.{Declaration}
@@ -26,12 +27,16 @@ bare ns = record { nodes = ns; codes = record { span = []; node = [] }; names = 
 abbrev pub chart : ℕ → List ℕ → List ℕ → List ℕ → Graph
 chart n first second start = bare (record { first = take n first; second = take n second; start = take n start })
 
--- how many nodes code's columns hold, and their graph
+-- how many nodes code's edges are of
+abbrev pub nodes_in : Edges → ℕ
+nodes_in e = length e.first.now
+
+-- and those of a graph, and it
 abbrev pub nodes_of : FlowGraph → ℕ
-nodes_of g = length g.first.now
+nodes_of g = nodes_in g.edges
 
 abbrev pub charted : FlowGraph → Graph
-charted g = chart (nodes_of g) g.first.now g.second.now g.start.now
+charted g = chart (nodes_of g) g.edges.first.now g.edges.second.now g.start.now
 
 -- a declaration as 01's definitions have it
 abbrev pub declared : LocalDeclaration → Declaration

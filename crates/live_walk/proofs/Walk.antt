@@ -79,7 +79,7 @@ pub record Seeding (g : FlowGraph) (d : Declaration) (mine : List PlacedUse) (i 
   pub same : SameColumns e s
   pub stamp : s.stamp ≡ e.stamp
   pub ready : Ready e.stamp (nodes_of g) (state_of s)
-  pub pushes : stamp_all e.stamp (seeds (nodes_of g) g.first.now g.second.now g.start.now d mine i) (state_of s) ≡ stamp_all e.stamp (seeds (nodes_of g) g.first.now g.second.now g.start.now d mine 0) (state_of e)
+  pub pushes : stamp_all e.stamp (seeds (nodes_of g) g.edges.first.now g.edges.second.now g.start.now d mine i) (state_of s) ≡ stamp_all e.stamp (seeds (nodes_of g) g.edges.first.now g.edges.second.now g.start.now d mine 0) (state_of e)
 
 module _ {g : FlowGraph} {d : Declaration} {mine : List PlacedUse} where
   pub seed_none : {e : Running} → Ready e.stamp (nodes_of g) (state_of e) → Seeding g d mine 0 e e
@@ -92,17 +92,17 @@ module _ {g : FlowGraph} {d : Declaration} {mine : List PlacedUse} where
         record {
           same = same_on w.same c.0;
           stamp = c.1 ∙ w.stamp;
-          ready = write_ready (nodes_of g) g.first.now g.second.now g.start.now d e.stamp (use_of (get_or mine i no_use)) w.ready p';
-          pushes = seed_step (nodes_of g) g.first.now g.second.now g.start.now d mine e.stamp i (state_of s) h (state_of t) p' ∙ w.pushes;
+          ready = write_ready (nodes_of g) g.edges.first.now g.edges.second.now g.start.now d e.stamp (use_of (get_or mine i no_use)) w.ready p';
+          pushes = seed_step (nodes_of g) g.edges.first.now g.edges.second.now g.start.now d mine e.stamp i (state_of s) h (state_of t) p' ∙ w.pushes;
         }
 
     pub seed_over : length mine ≤ i → state_of s ≡ stamp_all e.stamp (after_writes (charted g) d (uses_in mine)) (state_of e)
-    seed_over h = seed_done (nodes_of g) g.first.now g.second.now g.start.now d mine e.stamp i (state_of s) h ∙ w.pushes
+    seed_over h = seed_done (nodes_of g) g.edges.first.now g.edges.second.now g.start.now d mine e.stamp i (state_of s) h ∙ w.pushes
 
 -- ---- the walk in code: so many turns have led from e to s
 
 abbrev walk : FlowGraph → Declaration → List Use → Search
-walk g d us = from_writes (nodes_of g) g.first.now g.second.now g.start.now d us
+walk g d us = from_writes (nodes_of g) g.edges.first.now g.edges.second.now g.start.now d us
 
 pub record Walking (g : FlowGraph) (d : Declaration) (us : List Use) (count : ℕ) (e s : Running) : Type 0 where
   pub same : SameColumns e s
@@ -136,7 +136,7 @@ module _ {g : FlowGraph} {d : Declaration} {us : List Use} where
 
     pub walk_over : s.top ≡ 0 → Walks e.stamp (nodes_of g) (charted g) d us count s.marks.now
     walk_over z =
-        let is = walked_is (nodes_of g) g.first.now g.second.now g.start.now d us (omega arith) in
+        let is = walked_is (nodes_of g) g.edges.first.now g.edges.second.now g.start.now d us (omega arith) in
         record {
           marks = stamp_end e.stamp (walk g d us) w.counted.underway z ∙ is;
           count = rw (← is) (count_end e.stamp (walk g d us) w.counted z);

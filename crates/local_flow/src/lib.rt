@@ -34,7 +34,7 @@ fn find(
     ensures same { findings.new.words.ghost_name ≡ findings.old.words.ghost_name }
     ensures finds { FindsGiven graph.entry names.entry codes.entry sheet.entry facts.old findings.old findings.new mark.old mark.new }
 {
-    if is_small(graph.first.len(), facts.len(), sheet.words.len()) {
+    if is_small(graph.edges.first.len(), facts.len(), sheet.words.len()) {
         compute_sized::<SMALL, SMALL, SMALL_STARTS>(
             graph, names, codes, sheet, facts, findings, mark,
         );

@@ -6,8 +6,9 @@ use mathlib.Core.Bool.{Bool}
 use mathlib.Core.List.{List, [], ◌∷◌, ◌++◌}
 use Rattle.flow.specs.Locals.{only_if, Declaration}
 use Rattle.flow.specs.Findings.{Use, Ahead, ahead, is_overwritten_unread, is_overwritten}
+use Rattle.live_steps.specs.declared.Edges.{Edges}
 use Rattle.live_steps.specs.declared.FlowGraph.{FlowGraph}
-use Rattle.live_steps.specs.Walk.{nodes_of, chart, charted}
+use Rattle.live_steps.specs.Walk.{nodes_in, nodes_of, chart, charted}
 use Rattle.uses_by_node.specs.declared.AheadMarks.{AheadMarks}
 use Rattle.uses_by_node.specs.Uses.{marked, edges_of, overwritten_in}
 use Rattle.uses_by_node.specs.Marks.{ahead_of}
@@ -25,9 +26,9 @@ module _ (n : ℕ) (first second start : List ℕ) where
   values_alike ℓ has a v us = rw (writes_alike a us)
 
 -- in the graph of code's columns, by marks of what is ahead there
-pub judged_by_marks : (g : FlowGraph) (r : AheadMarks) (ℓ : ℕ) (has : Bool) (d : Declaration) (us : List Use) → r.graph ≡ g → AheadMarked r.stamp (nodes_of g) r.reads.now r.writes.now (ahead (charted g) d us) → value_words ℓ has (edges_of r.graph) (ahead_of r) d.node us ≡ judged_words ℓ has (charted g) d us
+pub judged_by_marks : (g : FlowGraph) (r : AheadMarks) (ℓ : ℕ) (has : Bool) (d : Declaration) (us : List Use) → r.edges ≡ g.edges → AheadMarked r.stamp (nodes_of g) r.reads.now r.writes.now (ahead (charted g) d us) → value_words ℓ has (edges_of r.edges) (ahead_of r) d.node us ≡ judged_words ℓ has (charted g) d us
 judged_by_marks g r ℓ has d us e m =
     let marks : marked r.stamp (nodes_of g) r.reads.now r.writes.now ≡ ahead (charted g) d us = ap₂ (λ (x y : List ℕ). record { reads = x; writes = y }) m.reads_are m.writes_are in
-    ap (λ (x : FlowGraph). value_words ℓ has (edges_of x) (marked r.stamp (nodes_of x) r.reads.now r.writes.now) d.node us) e
-    ∙ ap (λ (a : Ahead). value_words ℓ has (edges_of g) a d.node us) marks
-    ∙ values_alike (nodes_of g) g.first.now g.second.now g.start.now ℓ has (ahead (charted g) d us) d.node us
+    ap (λ (x : Edges). value_words ℓ has (edges_of x) (marked r.stamp (nodes_in x) r.reads.now r.writes.now) d.node us) e
+    ∙ ap (λ (a : Ahead). value_words ℓ has (edges_of g.edges) a d.node us) marks
+    ∙ values_alike (nodes_of g) g.edges.first.now g.edges.second.now g.start.now ℓ has (ahead (charted g) d us) d.node us

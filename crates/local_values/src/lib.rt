@@ -26,7 +26,7 @@ pub struct JudgedLocal<'a> {
 impl<'g> JudgedLocal<'g> {
     ghost use Rattle.std.specs.Prelude.{◌+◌, ◌*◌, ◌≤◌, length};
     ghost use Rattle.use_words.specs.Words.{uses_in, AllPlaced};
-    ghost use Rattle.live_steps.specs.Walk.{nodes_of, charted, declared};
+    ghost use Rattle.live_steps.specs.Walk.{nodes_in, nodes_of, charted, declared};
     ghost use Rattle.predecessors.specs.Predecessors.{Linked};
     ghost use Rattle.uses_by_node.specs.Uses.{edges_of};
     ghost use Rattle.uses_by_node.specs.Marks.{ahead_of};
@@ -46,8 +46,8 @@ impl<'g> JudgedLocal<'g> {
 
     // The initial value, set at the declaration's node, listed if the local has one that is overwritten.
     fn list_initial(&self, ahead: &AheadMarks<'_>, findings: &mut FindingList<'_>)
-        requires { (self.now.declaration.node < nodes_of ahead.now.graph) × Room 1 findings.old.count findings.old.words.now }
-        ensures adds { AddsTo (initial_words self.now.number self.now.has_value (edges_of ahead.now.graph) (ahead_of ahead.now) self.now.declaration.node) findings.old findings.new }
+        requires { (self.now.declaration.node < nodes_in ahead.now.edges) × Room 1 findings.old.count findings.old.words.now }
+        ensures adds { AddsTo (initial_words self.now.number self.now.has_value (edges_of ahead.now.edges) (ahead_of ahead.now) self.now.declaration.node) findings.old findings.new }
         ensures upper_bound { findings.new.count ≤ findings.old.count + 1 }
     {
         if self.has_value && ahead.is_overwritten_unread(self.declaration.node) {
@@ -57,9 +57,9 @@ impl<'g> JudgedLocal<'g> {
 
     // The overwritten writes listed, by node, in use order within a node.
     fn list_writes(&self, ahead: &AheadMarks<'_>, findings: &mut FindingList<'_>)
-        requires placed { AllPlaced (nodes_of ahead.now.graph) self.now.uses.now }
+        requires placed { AllPlaced (nodes_in ahead.now.edges) self.now.uses.now }
         requires room { Room (length self.now.uses.now) findings.old.count findings.old.words.now }
-        ensures adds { AddsTo (write_words self.now.number (edges_of ahead.now.graph) (ahead_of ahead.now) (uses_in self.now.uses.now)) findings.old findings.new }
+        ensures adds { AddsTo (write_words self.now.number (edges_of ahead.now.edges) (ahead_of ahead.now) (uses_in self.now.uses.now)) findings.old findings.new }
         ensures upper_bound { findings.new.count ≤ findings.old.count + length self.now.uses.now }
     {
         for (i, write) in self.uses.iter().enumerate() {
@@ -78,7 +78,7 @@ impl<'g> JudgedLocal<'g> {
         marks: &mut NextUses<'_>,
         findings: &mut FindingList<'_>,
     )
-        requires linked { (length chain.now ≡ nodes_of graph) × Linked graph.first.now graph.second.now (nodes_of graph) (nodes_of graph) chain.now }
+        requires linked { (length chain.now ≡ nodes_of graph) × Linked graph.edges.first.now graph.edges.second.now (nodes_of graph) (nodes_of graph) chain.now }
         requires placed { AllPlaced (nodes_of graph) self.now.uses.now × (self.now.declaration.node < nodes_of graph) }
         requires unmarked { AllUnmarked (self.now.number + 1) (nodes_of graph) used.old marks.old.reads.now marks.old.writes.now marks.old.stack.now }
         requires room { Room (1 + length self.now.uses.now) findings.old.count findings.old.words.now }
@@ -90,8 +90,8 @@ impl<'g> JudgedLocal<'g> {
         let stamp = self.number as u16 + 1;
         mark_used(self.uses, used, stamp);
         let way = WayBack {
-            graph,
             chain,
+            start: graph.start,
             declaration: self.declaration,
             used,
             stamp,
@@ -100,7 +100,7 @@ impl<'g> JudgedLocal<'g> {
             way,
             uses: self.uses,
         });
-        let ahead = marks.ahead(graph, stamp);
+        let ahead = marks.ahead(graph.edges, stamp);
         self.list_initial(&ahead, findings);
         self.list_writes(&ahead, findings);
     }

@@ -11,7 +11,6 @@ use Rattle.bucket_sort.specs.Grouped.{part, grouped}
 use Rattle.live_steps.specs.Walk.{Charts, Long, nodes_of}
 use Rattle.locals.specs.declared.PassTables.{PassTables}
 use Rattle.facts.specs.declared.NameFacts.{NameFacts}
-use Rattle.locals.specs.declared.PassTables.{PassTables}
 use Rattle.facts.specs.Facts.{facts_with, no_facts}
 
 -- the first n cells are the nodes of the graph
@@ -79,4 +78,4 @@ pub record Pass (list : ℕ → List Use) (S U : List ℕ) (n names : ℕ) (firs
 -- code's tables are those of a pair, with the uses of each local as `list` orders them
 abbrev pub PassOf : (list : ℕ → List Use) → PassTables → (S U : List ℕ) → Type 0
 PassOf list p S U =
-    Pass list S U (nodes_of p.graph) (length p.facts.now) p.graph.first.now p.graph.second.now p.graph.start.now p.names.node.now p.names.scope_end.now p.facts.now p.uses.starts.now p.uses.uses.now
+    Pass list S U (nodes_of p.graph) (length p.facts.now) p.graph.edges.first.now p.graph.edges.second.now p.graph.start.now p.names.node.now p.names.scope_end.now p.facts.now p.uses.starts.now p.uses.uses.now

@@ -2,18 +2,18 @@
 #![tactic(auto)]
 
 ghost use Rattle.std.specs.Prelude.{◌≡◌, ◌<◌, ◌≤◌, length};
-ghost use Rattle.search.specs.Stamps.{Fresh, Stamped, Unmarked, stamp_all};
+ghost use Rattle.search.specs.Stamps.{Fresh, Stamped, Unmarked, Ready, stamp_all};
 ghost use Rattle.search.specs.Running.{state_of, SameColumns};
 ghost use Rattle.flow.specs.Findings.{meeting};
 ghost use Rattle.use_words.specs.Words.{use_of, AllPlaced};
-ghost use Rattle.live_steps.specs.Walk.{nodes_of, declared};
+ghost use Rattle.live_steps.specs.Walk.{nodes_in};
 ghost use Rattle.predecessors.specs.Predecessors.{Chained};
 ghost use Rattle.predecessors.specs.Ways.{nodes_back};
 ghost use Rattle.uses_by_node.specs.Uses.{Rising};
-ghost use Rattle.next_uses.specs.Backwards.{sort_of, Used, BothUnmarked, MarksAhead};
-ghost use Rattle.next_uses.specs.Searches.{begins_here, all_begins, Finds, SameMarks};
+ghost use Rattle.next_uses.specs.Backwards.{sort_of, Used, BothUnmarked};
+ghost use Rattle.next_uses.specs.Searches.{begins_here, all_begins, Finds, FindsAhead, SameMarks};
 
-use live_steps::FlowGraph;
+use live_steps::Edges;
 use predecessors::WayBack;
 use search::Search;
 use use_words::PlacedUse;
@@ -57,13 +57,13 @@ impl SearchBack<'_> {
             && sought.is_met_by(self.uses[i])
             && self
                 .way
-                .graph
-                .is_alive_at(self.way.declaration, usize::from(self.uses[i].node))
+                .declaration
+                .is_alive_at(self.way.start, usize::from(self.uses[i].node))
     }
 
-    // The nodes that the search begins at pushed on the empty stack.
+    // The nodes that the search begins at pushed.
     fn push_begins(&self, sought: Sought, search: &mut Search<'_>)
-        requires { Unmarked search.old.stamp (nodes_back self.now.way) search.old.marks.now search.old.stack.now × (search.old.top ≡ 0) }
+        requires { Ready search.old.stamp (nodes_back self.now.way) (state_of search.old) }
         ensures same { SameColumns search.old search.new × (search.new.stamp ≡ search.old.stamp) }
         ensures pushed { state_of search.new ≡ stamp_all search.old.stamp (all_begins self.now.way self.now.uses.now sought) (state_of search.old) }
     {
@@ -74,17 +74,23 @@ impl SearchBack<'_> {
         }
     }
 
-    // The nodes that a path which meets a use of the sort begins at, marked.
-    fn mark(&self, sought: Sought, search: &mut Search<'_>)
-        requires unmarked { Unmarked search.old.stamp (nodes_back self.now.way) search.old.marks.now search.old.stack.now × (search.old.top ≡ 0) }
-        requires chained { Chained (nodes_back self.now.way) self.now.way.chain.now × (search.old.stamp ≡ self.now.way.stamp) }
-        ensures same { SameColumns search.old search.new }
-        ensures finds { Finds self.now.way self.now.uses.now sought search.new.marks.now }
-        ensures stamped { Stamped search.old.stamp search.new.marks.now }
+    // The nodes that a path which meets a use of the sort begins at, marked. The stack may hold anything, before and after.
+    fn mark(&self, sought: Sought, marks: &mut [u16], stack: &mut [u16])
+        requires unmarked { Unmarked self.now.way.stamp (nodes_back self.now.way) marks.old stack.old }
+        requires chained { Chained (nodes_back self.now.way) self.now.way.chain.now }
+        ensures same { (length marks.new ≡ length marks.old) × (length stack.new ≡ length stack.old) }
+        ensures finds { Finds self.now.way self.now.uses.now sought marks.new }
+        ensures stamped { Stamped self.now.way.stamp marks.new }
     {
-        self.push_begins(sought, search);
+        let mut search = Search {
+            marks,
+            stack,
+            top: 0,
+            stamp: self.way.stamp,
+        };
+        self.push_begins(sought, &mut search);
         while let Some(u) = search.pop() {
-            self.way.push_predecessors(search, u);
+            self.way.push_predecessors(&mut search, u);
         }
     }
 }
@@ -114,33 +120,21 @@ impl NextUses<'_> {
         requires chained { Chained (nodes_back back.now.way) back.now.way.chain.now × Used back.now.way.stamp back.now.uses.now (length back.now.uses.now) back.now.way.used.now }
         requires unmarked { BothUnmarked back.now.way.stamp (nodes_back back.now.way) self.old.reads.now self.old.writes.now self.old.stack.now }
         ensures same { SameMarks self.old self.new }
-        ensures marks_ahead { MarksAhead back.now.way.stamp (nodes_back back.now.way) (declared back.now.way.declaration) back.now.way.graph.start.now back.now.way.chain.now back.now.uses.now self.new.reads.now self.new.writes.now }
+        ensures marks_ahead { FindsAhead back.now.way back.now.uses.now self.new }
         ensures stamped { Stamped back.now.way.stamp self.new.reads.now × Stamped back.now.way.stamp self.new.writes.now }
     {
-        let mut search = Search {
-            marks: self.reads,
-            stack: self.stack,
-            top: 0,
-            stamp: back.way.stamp,
-        };
-        back.mark(Sought::Read, &mut search);
-        let mut search = Search {
-            marks: self.writes,
-            stack: self.stack,
-            top: 0,
-            stamp: back.way.stamp,
-        };
-        back.mark(Sought::PureWrite, &mut search);
+        back.mark(Sought::Read, self.reads, self.stack);
+        back.mark(Sought::PureWrite, self.writes, self.stack);
     }
 
     // What is ahead, by the marks that the stamp made.
-    pub fn ahead<'m>(&'m self, graph: FlowGraph<'m>, stamp: u16) -> AheadMarks<'m>
-        requires { (nodes_of graph ≤ length self.now.reads.now) × (nodes_of graph ≤ length self.now.writes.now) }
-        ensures graph { result.graph ≡ graph.entry }
+    pub fn ahead<'m>(&'m self, edges: Edges<'m>, stamp: u16) -> AheadMarks<'m>
+        requires { (nodes_in edges ≤ length self.now.reads.now) × (nodes_in edges ≤ length self.now.writes.now) }
+        ensures edges { result.edges ≡ edges.entry }
         ensures marks { (result.reads.now ≡ self.now.reads.now) × (result.writes.now ≡ self.now.writes.now) × (result.stamp ≡ stamp) }
     {
         AheadMarks {
-            graph,
+            edges,
             reads: self.reads,
             writes: self.writes,
             stamp,

@@ -28,8 +28,8 @@ pub fn list_overwritten(
     ensures adds { AddsAll pass.now findings.old findings.new }
 {
     if any_judged(pass.facts) {
-        let chain = &mut chain[..pass.graph.first.len()];
-        build_predecessors(pass.graph, chain);
+        let chain = &mut chain[..pass.graph.edges.first.len()];
+        build_predecessors(pass.graph.edges, chain);
         for (number, name) in pass.facts.iter().enumerate() {
             if name.is_judged() {
                 let local = JudgedLocal {

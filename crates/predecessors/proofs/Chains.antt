@@ -98,6 +98,12 @@ module _ (n : ℕ) (chain : List Links) where
           let x : edge_after chain e ≡ after_second chain u = rw (z, p) in
           record { rest = us; node = omega (arith, c.0); list = ap (λ (x : ℕ). x ∷ us) (sym p); less = rw x d.1; more = rw x d.2 }
 
+  -- the nodes on a chain are nodes
+  pub chain_nodes : (e : ℕ) (us : List ℕ) → Chain n chain e us → Nodes n us
+  chain_nodes e [] c v i = absurd i
+  chain_nodes e (u ∷ us) c v (inl p) = rw p c.0
+  chain_nodes e (u ∷ us) c v (inr i) = ⊎_elim (λ d. chain_nodes (after_first chain u) us d.2 v i) (λ d. chain_nodes (after_second chain u) us d.2 v i) c.1
+
   chain_unique : (us vs : List ℕ) (e : ℕ) → Chain n chain e us → Chain n chain e vs → us ≡ vs
   chain_unique [] [] e c d = refl
   chain_unique [] (v ∷ vs) e c d = absurd (⊎_elim (λ x. omega (arith, x.0)) (λ x. omega (arith, x.0)) d.1)

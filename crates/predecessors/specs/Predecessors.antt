@@ -61,6 +61,13 @@ Chain n chain e [] = e ≡ 0
 Chain n chain e (u ∷ us) =
     (u < n) × (((e ≡ u + u + 1) × (after_first chain u < e) × Chain n chain (after_first chain u) us) ⊎ ((e ≡ u + u + 2) × (after_second chain u < e) × Chain n chain (after_second chain u) us))
 
+-- us are the nodes on the chain of v's head, and there are such nodes
+abbrev pub ChainOf : ℕ → List Links → List ℕ → Type 0
+ChainOf v chain us = Chain (length chain) chain (head_of chain v) us
+
+abbrev pub HasChain : ℕ → List Links → Type 0
+HasChain v chain = (v < length chain) × ((us : List ℕ) × ChainOf v chain us)
+
 -- the node of an edge, and the code of the edge after it
 abbrev pub node_of_edge : ℕ → ℕ
 node_of_edge e = (e - 1) / 2

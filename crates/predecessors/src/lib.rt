@@ -2,10 +2,10 @@
 #![tactic(auto)]
 
 ghost use Rattle.std.specs.Prelude.{◌≡◌, List, ℕ, ◌+◌, ◌*◌, ◌<◌, ◌≤◌, length};
-ghost use Rattle.live_steps.specs.Walk.{nodes_of};
+ghost use Rattle.live_steps.specs.Walk.{nodes_in};
 ghost use Rattle.predecessors.specs.Predecessors.{Blank, Linked, Falls, link_head, head_of, left_on};
 
-use live_steps::{FlowGraph, LocalDeclaration};
+use live_steps::{Edges, LocalDeclaration};
 use search::Search;
 
 // What a node keeps of the chains: the last edge to it, and the edges that its own first and second edge follow in their chains.
@@ -40,11 +40,12 @@ fn put_in_front(chain: &mut [Links], v: u64, edge: u16) -> u16
 }
 
 // The chains of predecessors of all nodes, from nodes that nothing is linked to.
-pub fn build_predecessors(graph: FlowGraph<'_>, chain: &mut [Links])
-    requires { (length chain.old ≡ nodes_of graph) × Blank (nodes_of graph) chain.old }
-    ensures { Linked graph.entry.first.now graph.entry.second.now (nodes_of graph.entry) (nodes_of graph.entry) chain.new }
+pub fn build_predecessors(edges: Edges<'_>, chain: &mut [Links])
+    requires few { nodes_in edges ≤ 1600 }
+    requires blank { (length chain.old ≡ nodes_in edges) × Blank (nodes_in edges) chain.old }
+    ensures { Linked edges.entry.first.now edges.entry.second.now (nodes_in edges.entry) (nodes_in edges.entry) chain.new }
 {
-    for (u, (a, b)) in graph.first.iter().zip(graph.second).enumerate() {
+    for (u, (a, b)) in edges.first.iter().zip(edges.second).enumerate() {
         chain[u].after_first = put_in_front(chain, *a, (u + u + 1) as u16);
         chain[u].after_second = put_in_front(chain, *b, (u + u + 2) as u16);
     }
@@ -81,12 +82,12 @@ impl Iterator for Predecessors<'_> {
 }
 
 impl<'a> Predecessors<'a> {
-    ghost use Rattle.predecessors.specs.Predecessors.{Linked, Chained, left_on, preds_of};
+    ghost use Rattle.predecessors.specs.Predecessors.{HasChain, ChainOf, left_on};
 
     // The predecessors of v, the last first, once for each edge.
     pub fn of(chain: &'a [Links], v: usize) -> Predecessors<'a>
-        requires { (v < length chain.now) × Chained (length chain.now) chain.now }
-        ensures { (first second : List ℕ) → Linked first second (length chain.now) (length chain.now) chain.now → left_on result.chain.now result.edge ≡ preds_of first second v (length chain.now) }
+        requires { HasChain v chain.now }
+        ensures { (us : List ℕ) → ChainOf v chain.now us → left_on result.chain.now result.edge ≡ us }
     {
         Predecessors {
             chain,
@@ -95,22 +96,23 @@ impl<'a> Predecessors<'a> {
     }
 }
 
-// What the search back from a local's uses reads: the graph and the chains of its nodes, the local, and the nodes that hold a use of it, marked by a stamp.
+// What the search back from a local's uses reads: the chains of a graph's nodes and where each node's code starts, the local, and the nodes that hold a use of it, marked by a stamp.
 #[derive(Clone, Copy)]
 pub struct WayBack<'a> {
-    pub graph: FlowGraph<'a>,
     pub chain: &'a [Links],
+    pub start: &'a [u64],
     pub declaration: LocalDeclaration,
     pub used: &'a [u16],
     pub stamp: u16,
-    ghost as_long: { (length chain.now ≡ nodes_of graph) × (nodes_of graph ≤ length used.now) },
+    ghost as_long: { (length chain.now ≤ length start.now) × (length chain.now ≤ length used.now) },
+    ghost few: { length chain.now ≤ 1600 },
 }
 
 impl WayBack<'_> {
     ghost use Rattle.search.specs.Search.{filter};
     ghost use Rattle.search.specs.Stamps.{Ready, stamp_all};
     ghost use Rattle.search.specs.Running.{state_of, SameColumns};
-    ghost use Rattle.predecessors.specs.Predecessors.{Linked, Chained, preds_of};
+    ghost use Rattle.predecessors.specs.Predecessors.{HasChain, ChainOf};
     ghost use Rattle.predecessors.specs.Ways.{nodes_back, goes_on};
 
     // Whether a path goes on through v: past a use its next use is that one.
@@ -119,15 +121,15 @@ impl WayBack<'_> {
         requires { v < nodes_back self.now }
         ensures { result ≡ goes_on self.now v }
     {
-        self.used[v] != self.stamp && self.graph.is_alive_at(self.declaration, v)
+        self.used[v] != self.stamp && self.declaration.is_alive_at(self.start, v)
     }
 
     // The predecessors of v that a path goes on through pushed.
     pub fn push_predecessors(&self, search: &mut Search<'_>, v: usize)
         requires ready { Ready search.old.stamp (nodes_back self.now) (state_of search.old) }
-        requires chained { (v < nodes_back self.now) × Chained (nodes_back self.now) self.now.chain.now }
+        requires chain { HasChain v self.now.chain.now }
         ensures same { SameColumns search.old search.new × (search.new.stamp ≡ search.old.stamp) }
-        ensures pushed { (first second : List ℕ) → Linked first second (nodes_back self.now) (nodes_back self.now) self.now.chain.now → state_of search.new ≡ stamp_all search.old.stamp (filter (goes_on self.now) (preds_of first second v (nodes_back self.now))) (state_of search.old) }
+        ensures pushed { (us : List ℕ) → ChainOf v self.now.chain.now us → state_of search.new ≡ stamp_all search.old.stamp (filter (goes_on self.now) us) (state_of search.old) }
     {
         for u in Predecessors::of(self.chain, v) {
             if self.passes(u) {

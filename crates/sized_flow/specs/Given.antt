@@ -19,7 +19,7 @@ use Rattle.unassigned.specs.Pass.{Figures}
 
 -- the columns are those of the graph of S, with so many names, and of the uses of U
 pub record PairColumns (S U : List ℕ) (count : ℕ) (g : FlowGraph) (names : DeclarationTable) (codes : CodeColumns) (uses : UseColumns) : Type 0 where
-  pub charted : Charted S (nodes_of g) g.first.now g.second.now g.start.now
+  pub charted : Charted S (nodes_of g) g.edges.first.now g.edges.second.now g.start.now
   pub named : Named S (nodes_of g) count names.node.now names.scope_end.now
   pub code_table : CodeTable (nodes_of g) codes
   pub use_table : UsesNamed count uses

@@ -42,7 +42,7 @@ pub fn compute<const USES: usize, const NODES: usize, const STARTS: usize>(
     make_tables(
         codes,
         sheet,
-        graph.first.len(),
+        graph.edges.first.len(),
         facts,
         &mut uses,
         &mut tables,

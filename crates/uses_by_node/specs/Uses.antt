@@ -8,8 +8,8 @@ use Rattle.flow.specs.Findings.{Use, node, Ahead, is_overwritten}
 use Rattle.use_words.specs.declared.PlacedUse.{PlacedUse}
 use Rattle.use_words.specs.Words.{node_in, no_use}
 use Rattle.bucket_sort.specs.Grouped.{of_key, grouped}
-use Rattle.live_steps.specs.declared.FlowGraph.{FlowGraph}
-use Rattle.live_steps.specs.Walk.{chart, nodes_of}
+use Rattle.live_steps.specs.declared.Edges.{Edges}
+use Rattle.live_steps.specs.Walk.{chart, nodes_in}
 
 -- the uses at the node v, in order
 abbrev pub uses_at : ℕ → List Use → List Use
@@ -37,8 +37,8 @@ abbrev pub edges : ℕ → List ℕ → List ℕ → Graph
 edges n first second = chart n first second []
 
 -- that of code's columns
-abbrev pub edges_of : FlowGraph → Graph
-edges_of g = edges (nodes_of g) g.first.now g.second.now
+abbrev pub edges_of : Edges → Graph
+edges_of e = edges (nodes_in e) e.first.now e.second.now
 
 -- what is ahead, by the marks in two columns
 abbrev pub marked : ℕ → ℕ → List ℕ → List ℕ → Ahead

@@ -2,10 +2,10 @@
 #![tactic(auto)]
 
 ghost use Rattle.std.specs.Prelude.{◌≡◌, ◌+◌, ◌<◌, ◌≤◌, length};
-ghost use Rattle.live_steps.specs.Walk.{nodes_of};
+ghost use Rattle.live_steps.specs.Walk.{nodes_in};
 ghost use Rattle.uses_by_node.specs.Uses.{next_in_node, opens_node};
 
-use live_steps::FlowGraph;
+use live_steps::Edges;
 use use_words::PlacedUse;
 
 // Whether the next place holds a use at the same node.
@@ -28,11 +28,11 @@ pub fn opens_node(uses: &[PlacedUse], i: usize) -> bool
 // What is ahead of a local's nodes: the stamp marks those that a path to a read begins at, and those of a pure write.
 #[derive(Clone, Copy)]
 pub struct AheadMarks<'a> {
-    pub graph: FlowGraph<'a>,
+    pub edges: Edges<'a>,
     pub reads: &'a [u16],
     pub writes: &'a [u16],
     pub stamp: u16,
-    ghost as_long: { (nodes_of graph ≤ length reads.now) × (nodes_of graph ≤ length writes.now) },
+    ghost as_long: { (nodes_in edges ≤ length reads.now) × (nodes_in edges ≤ length writes.now) },
 }
 
 impl AheadMarks<'_> {
@@ -47,24 +47,24 @@ impl AheadMarks<'_> {
     // Whether v is a node that is marked.
     #[tactic(auto, using(std::proofs::lemmas::Bool::Decides::nat_tests))]
     fn is_marked(&self, marks: &[u16], v: u64) -> bool
-        requires { nodes_of self.now.graph ≤ length marks.now }
-        ensures { result ≡ (ltb v (nodes_of self.now.graph) && eqb (get_or marks.now v 0) self.now.stamp) }
+        requires { nodes_in self.now.edges ≤ length marks.now }
+        ensures { result ≡ (ltb v (nodes_in self.now.edges) && eqb (get_or marks.now v 0) self.now.stamp) }
     {
-        v < self.graph.first.len() as u64 && marks[v as usize] == self.stamp
+        v < self.edges.first.len() as u64 && marks[v as usize] == self.stamp
     }
 
     // Whether a successor of v is marked.
     fn is_ahead(&self, marks: &[u16], v: usize) -> bool
-        requires { (nodes_of self.now.graph ≤ length marks.now) × (v < nodes_of self.now.graph) }
-        ensures { result ≡ any_flag (flags_of self.now.stamp (nodes_of self.now.graph) marks.now) (successors (edges_of self.now.graph) v) }
+        requires { (nodes_in self.now.edges ≤ length marks.now) × (v < nodes_in self.now.edges) }
+        ensures { result ≡ any_flag (flags_of self.now.stamp (nodes_in self.now.edges) marks.now) (successors (edges_of self.now.edges) v) }
     {
-        self.is_marked(marks, self.graph.first[v]) || self.is_marked(marks, self.graph.second[v])
+        self.is_marked(marks, self.edges.first[v]) || self.is_marked(marks, self.edges.second[v])
     }
 
     // Whether of the paths that a value leaves v by, some meets a pure write and none a read.
     pub fn is_overwritten_unread(&self, v: usize) -> bool
-        requires { v < nodes_of self.now.graph }
-        ensures { result ≡ is_overwritten_unread (edges_of self.now.graph) (ahead_of self.now) v }
+        requires { v < nodes_in self.now.edges }
+        ensures { result ≡ is_overwritten_unread (edges_of self.now.edges) (ahead_of self.now) v }
     {
         !self.is_ahead(self.reads, v) && self.is_ahead(self.writes, v)
     }
@@ -72,8 +72,8 @@ impl AheadMarks<'_> {
     // Whether the use at place i is an overwritten write: by the next use in its node or, where none follows there, by what the paths from its node meet.
     pub fn is_overwritten(&self, uses: &[PlacedUse], i: usize) -> bool
         requires i_in_bounds { i < length uses.now }
-        requires all_placed { AllPlaced (nodes_of self.now.graph) uses.now × Rising uses.now }
-        ensures { result ≡ is_overwritten (edges_of self.now.graph) (ahead_of self.now) (use_of (get_or uses.now i no_use)) (uses_in (drop (i + 1) uses.now)) }
+        requires all_placed { AllPlaced (nodes_in self.now.edges) uses.now × Rising uses.now }
+        ensures { result ≡ is_overwritten (edges_of self.now.edges) (ahead_of self.now) (use_of (get_or uses.now i no_use)) (uses_in (drop (i + 1) uses.now)) }
     {
         if !uses[i].is_write() {
             return false;

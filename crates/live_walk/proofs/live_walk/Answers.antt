@@ -1,6 +1,6 @@
 -- `live_walk::live_walk` meets its contract: the law of a search by a stamp that counts its turns, from after the writes.
 -- Assumes nothing.
-use mathlib.Core.Path.{ap, ◌∙◌}
+use mathlib.Core.Path.{ap}
 use Rattle.search.specs.Worklist.{State}
 use Rattle.search.proofs.Stamps.{ready_empty}
 use Rattle.live_steps.specs.Walk.{nodes_of}

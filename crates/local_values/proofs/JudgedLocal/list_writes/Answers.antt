@@ -19,7 +19,7 @@ loop-i-preserved c =
       | then-is_overwritten w ↦
           let word = w.word.ensures ∙ ap (λ (x : ℕ). finding_word 1 l.number (x + 1)) w.from.ensures in
           let one = rw word at w.push.ensures.0 in
-          rw w.findings-is (passed_turn (edges_of c.args.ahead.now.graph) (ahead_of c.args.ahead.now) l.number l.uses.now c.args.findings.now.count c.args.findings.now.words.now c.requires.room was.0 c.loop-i-test.true (rw (← c.is_overwritten.ensures, w.if-is_overwritten.true) one), w.push.ensures.1 ∙ was.1)
+          rw w.findings-is (passed_turn (edges_of c.args.ahead.now.edges) (ahead_of c.args.ahead.now) l.number l.uses.now c.args.findings.now.count c.args.findings.now.words.now c.requires.room was.0 c.loop-i-test.true (rw (← c.is_overwritten.ensures, w.if-is_overwritten.true) one), w.push.ensures.1 ∙ was.1)
       | else-is_overwritten w ↦
-          rw w.findings-is (passed_turn (edges_of c.args.ahead.now.graph) (ahead_of c.args.ahead.now) l.number l.uses.now c.args.findings.now.count c.args.findings.now.words.now c.requires.room was.0 c.loop-i-test.true (rw (← c.is_overwritten.ensures, w.if-is_overwritten.false) (added_none _ _)), was.1)
+          rw w.findings-is (passed_turn (edges_of c.args.ahead.now.edges) (ahead_of c.args.ahead.now) l.number l.uses.now c.args.findings.now.count c.args.findings.now.words.now c.requires.room was.0 c.loop-i-test.true (rw (← c.is_overwritten.ensures, w.if-is_overwritten.false) (added_none _ _)), was.1)
     ]

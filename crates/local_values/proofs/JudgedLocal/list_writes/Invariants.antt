@@ -8,5 +8,5 @@ use Rattle.local_values.proofs.JudgedLocal.list_writes.Given as goal
 
 abbrev pub invariant-loop-i : goal.invariant-loop-i
 invariant-loop-i l =
-    Passed (edges_of l.ahead.graph) (ahead_of l.ahead) l.self.number l.self.uses.now l.fn.findings.count l.fn.findings.words.now l.findings.count l.i l.findings.words.now
+    Passed (edges_of l.ahead.edges) (ahead_of l.ahead) l.self.number l.self.uses.now l.fn.findings.count l.fn.findings.words.now l.findings.count l.i l.findings.words.now
     × (l.findings.words.ghost_name ≡ l.fn.findings.words.ghost_name)

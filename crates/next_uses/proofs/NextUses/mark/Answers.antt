@@ -14,10 +14,10 @@ use Rattle.next_uses.proofs.NextUses.mark.Goals as goal
 use Rattle.next_uses.proofs.NextUses.mark.Goals.{Start}
 
 -- what a search for a sort leaves are the flags of the specification
-found : (c : Start) (sought : Sought) (f s : List ℕ) → length f ≡ nodes_back c.args.back.now.way → length s ≡ nodes_back c.args.back.now.way → back_flags c.args.back.now.way.graph.start.now (declared c.args.back.now.way.declaration) c.args.back.now.uses.now sought c.args.back.now.way.stamp c.args.back.now.way.used.now f s (nodes_back c.args.back.now.way) ≡ meets (chart (nodes_back c.args.back.now.way) f s c.args.back.now.way.graph.start.now) (declared c.args.back.now.way.declaration) (uses_in c.args.back.now.uses.now) (sort_of sought)
+found : (c : Start) (sought : Sought) (f s : List ℕ) → length f ≡ nodes_back c.args.back.now.way → length s ≡ nodes_back c.args.back.now.way → back_flags c.args.back.now.way.start.now (declared c.args.back.now.way.declaration) c.args.back.now.uses.now sought c.args.back.now.way.stamp c.args.back.now.way.used.now f s (nodes_back c.args.back.now.way) ≡ meets (chart (nodes_back c.args.back.now.way) f s c.args.back.now.way.start.now) (declared c.args.back.now.way.declaration) (uses_in c.args.back.now.uses.now) (sort_of sought)
 found c sought f s e j =
     let w = c.args.back.now.way in
-    meets_are (nodes_back w) f s w.graph.start.now (omega arith) (omega arith) (declared w.declaration) c.args.back.now.uses.now c.args.back.now.placed w.stamp w.used.now c.requires.chained.1 sought c.requires.rising
+    meets_are (nodes_back w) f s w.start.now (omega arith) (omega arith) (declared w.declaration) c.args.back.now.uses.now c.args.back.now.placed w.stamp w.used.now c.requires.chained.1 sought c.requires.rising
 
 -- the column that a search was lent holds what it left
 left : (stamp n : ℕ) (marks column fs : List ℕ) → flags_of stamp n marks ≡ fs → column ≡ marks → flags_of stamp n column ≡ fs

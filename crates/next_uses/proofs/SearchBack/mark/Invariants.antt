@@ -8,7 +8,7 @@ use Rattle.next_uses.proofs.Backing.{Backing}
 use Rattle.next_uses.proofs.SearchBack.mark.Given as goal
 
 abbrev pub invariant-loop-u : goal.invariant-loop-u
-invariant-loop-u l = Backing l.self.way l.self.uses.now l.fn.sought l.fn.search l.search
+invariant-loop-u l = Backing l.self.way l.self.uses.now l.fn.sought l.initial.search l.search
 
 abbrev pub decreases-loop-u : goal.decreases-loop-u
-decreases-loop-u l = measure (nodes_back l.self.way) (flagged l.fn.search.stamp (nodes_back l.self.way) (state_of l.search))
+decreases-loop-u l = measure (nodes_back l.self.way) (flagged l.self.way.stamp (nodes_back l.self.way) (state_of l.search))

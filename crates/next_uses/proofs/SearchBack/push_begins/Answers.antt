@@ -2,7 +2,7 @@
 -- Assumes nothing.
 use Rattle.std.proofs.Common.{◌<◌, true, false, refl, sym, ◌∙◌, arith}
 use Rattle.search.specs.Running.{state_of}
-use Rattle.search.proofs.Stamps.{push_room, ready_empty}
+use Rattle.search.proofs.Stamps.{push_room}
 use Rattle.use_words.specs.Words.{no_use}
 use Rattle.live_steps.specs.Walk.{declared}
 use Rattle.predecessors.specs.Ways.{nodes_back}
@@ -16,10 +16,7 @@ below : (c : In-loop-i) → node_at c.args.self.now.uses.now c.loop-i.i < nodes_
 below c = c.args.self.now.placed _ no_use c.loop-i-test.true
 
 pub loop-i-init : goal.loop-i-init
-loop-i-init c =
-    let u = c.requires in
-    let s = c.args.search.now in
-    record { same = record { marks_name = refl; stack_name = refl; marks_len = refl; stack_len = refl }; same_stamp = refl; ready = rw u.1 (ready_empty s.stamp (nodes_back c.args.self.now.way) s.marks.now s.stack.now u.0.marks_hold u.0.stack_holds); pushed = refl }
+loop-i-init c = record { same = record { marks_name = refl; stack_name = refl; marks_len = refl; stack_len = refl }; same_stamp = refl; ready = c.requires; pushed = refl }
 
 pub insert-requires-clause-top_in_bounds : goal.insert-requires-clause-top_in_bounds
 insert-requires-clause-top_in_bounds c = λ q.
@@ -31,7 +28,7 @@ loop-i-preserved c =
     let d = (goal.at.loop-i-preserved c).In-loop-i in
     let was = c.loop-i.invariant in
     let n = nodes_back c.args.self.now.way in
-    let start = c.args.self.now.way.graph.start.now in
+    let start = c.args.self.now.way.start.now in
     let l = declared c.args.self.now.way.declaration in
     let s = state_of c.loop-i.search in
     elim c.if-begins_here.branch [

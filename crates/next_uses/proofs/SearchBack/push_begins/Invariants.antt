@@ -14,5 +14,5 @@ invariant-loop-i l =
       same : SameColumns l.fn.search l.search;
       same_stamp : l.search.stamp ≡ l.fn.search.stamp;
       ready : Ready l.search.stamp (nodes_back l.self.way) (state_of l.search);
-      pushed : state_of l.search ≡ stamp_all l.fn.search.stamp (starts_to l.self.way.graph.start.now (declared l.self.way.declaration) l.self.uses.now l.sought l.i) (state_of l.fn.search);
+      pushed : state_of l.search ≡ stamp_all l.fn.search.stamp (starts_to l.self.way.start.now (declared l.self.way.declaration) l.self.uses.now l.sought l.i) (state_of l.fn.search);
     }

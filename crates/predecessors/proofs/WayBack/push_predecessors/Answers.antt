@@ -1,13 +1,13 @@
 -- `predecessors::WayBack::push_predecessors` meets its contract. The loop's invariant: to push the nodes that are left is what is left to do.
 -- Assumes nothing.
-use Rattle.std.proofs.Common.{true, false, List, ℕ, ◌<◌, length, refl, sym, ap, ◌∙◌, subst, arith}
+use Rattle.std.proofs.Common.{true, false, List, ℕ, ◌<◌, refl, sym, ap, ◌∙◌, subst, arith}
 use Rattle.search.specs.Search.{In}
 use Rattle.predecessors.specs.declared.Predecessors.{Predecessors}
 use Rattle.search.specs.Running.{state_of}
 use Rattle.search.proofs.Stamps.{push_room}
-use Rattle.predecessors.specs.Predecessors.{left_on, Linked}
+use Rattle.predecessors.specs.Predecessors.{left_on}
 use Rattle.predecessors.specs.Ways.{nodes_back, goes_on}
-use Rattle.predecessors.proofs.Chains.{preds_nodes}
+use Rattle.predecessors.proofs.Chains.{chain_nodes}
 use Rattle.predecessors.proofs.Pushes.{next_below, rest_nodes, rest_pushed, still_ready}
 use Rattle.predecessors.proofs.WayBack.push_predecessors.Goals as goal
 use Rattle.predecessors.proofs.WayBack.push_predecessors.Goals.{In-Some}
@@ -24,10 +24,9 @@ below c = next_below (nodes_back c.args.self.now) c.in-Some.u (left c) (more c) 
 
 pub loop-u-init : goal.loop-u-init
 loop-u-init c =
-    let n = nodes_back c.args.self.now in
-    let g = c.requires.chained.1 in
-    let l = subst (λ (k : ℕ). Linked g.first g.second k k c.args.self.now.chain.now) (sym c.args.self.now.as_long.0) g.linked in
-    record { same = record { marks_name = refl; stack_name = refl; marks_len = refl; stack_len = refl }; same_stamp = refl; ready = c.requires.ready; nodes = λ v i. omega (arith, c.args.self.now.as_long.0, preds_nodes g.first g.second c.args.v (length c.args.self.now.chain.now) (length c.args.self.now.chain.now) (omega arith) v (subst (In v) (ap (λ (p : Predecessors). left_on p.chain.now p.edge) c.into_iter-u-iterator.ensures.into_iter_gives ∙ c.of-u-items.ensures g.first g.second l) i)); rest = refl }
+    let us = c.requires.chain.1.0 in
+    let on = c.requires.chain.1.1 in
+    record { same = record { marks_name = refl; stack_name = refl; marks_len = refl; stack_len = refl }; same_stamp = refl; ready = c.requires.ready; nodes = λ v i. chain_nodes (nodes_back c.args.self.now) c.args.self.now.chain.now _ us on v (subst (In v) (ap (λ (p : Predecessors). left_on p.chain.now p.edge) c.into_iter-u-iterator.ensures.into_iter_gives ∙ c.of-u-items.ensures us on) i); rest = refl }
 
 pub passes-requires : goal.passes-requires
 passes-requires c = below (goal.at.passes-requires c).In-Some

@@ -14,7 +14,7 @@ writes c = sym c.is_write.ensures ∙ c.if-not-is_write.false
 
 pub returns-then-not-is_write : goal.returns-then-not-is_write
 returns-then-not-is_write c =
-    no_write (edges_of c.args.self.now.graph) (ahead_of c.args.self.now) c.args.uses.now c.args.i (sym c.is_write.ensures ∙ c.if-not-is_write.true)
+    no_write (edges_of c.args.self.now.edges) (ahead_of c.args.self.now) c.args.uses.now c.args.i (sym c.is_write.ensures ∙ c.if-not-is_write.true)
 
 pub bounds-uses-i-then-next_in_node : goal.bounds-uses-i-then-next_in_node
 bounds-uses-i-then-next_in_node c = (next_node c.args.uses.now c.args.i (sym c.next_in_node.ensures ∙ c.if-next_in_node.true)).0
@@ -22,11 +22,11 @@ bounds-uses-i-then-next_in_node c = (next_node c.args.uses.now c.args.i (sym c.n
 pub returns-then-next_in_node : goal.returns-then-next_in_node
 returns-then-next_in_node c =
     ap not c.is_read.ensures
-    ∙ by_next (edges_of c.args.self.now.graph) (ahead_of c.args.self.now) c.args.uses.now c.args.i (writes (goal.at.returns-then-next_in_node c).Else-not-is_write) (sym c.next_in_node.ensures ∙ c.if-next_in_node.true)
+    ∙ by_next (edges_of c.args.self.now.edges) (ahead_of c.args.self.now) c.args.uses.now c.args.i (writes (goal.at.returns-then-next_in_node c).Else-not-is_write) (sym c.next_in_node.ensures ∙ c.if-next_in_node.true)
 
 pub returns : goal.returns
 returns c =
-    let g = edges_of c.args.self.now.graph in
+    let g = edges_of c.args.self.now.edges in
     let a = ahead_of c.args.self.now in
     c.is_overwritten_unread.ensures
     ∙ ap (is_overwritten_unread g a) c.from.ensures

@@ -9,8 +9,8 @@ use Rattle.uses_by_node.proofs.AheadMarks.is_overwritten_unread.Goals as goal
 pub returns-then-not-is_ahead : goal.returns-then-not-is_ahead
 returns-then-not-is_ahead c =
     c.is_ahead-then-not-is_ahead.ensures
-    ∙ unread_ahead (edges_of c.args.self.now.graph) (ahead_of c.args.self.now) c.args.v (sym c.is_ahead.ensures ∙ c.if-not-is_ahead.true)
+    ∙ unread_ahead (edges_of c.args.self.now.edges) (ahead_of c.args.self.now) c.args.v (sym c.is_ahead.ensures ∙ c.if-not-is_ahead.true)
 
 pub returns-else-not-is_ahead : goal.returns-else-not-is_ahead
 returns-else-not-is_ahead c =
-    rw c.if-not-is_ahead.false (read_ahead (edges_of c.args.self.now.graph) (ahead_of c.args.self.now) c.args.v (sym c.is_ahead.ensures ∙ c.if-not-is_ahead.false))
+    rw c.if-not-is_ahead.false (read_ahead (edges_of c.args.self.now.edges) (ahead_of c.args.self.now) c.args.v (sym c.is_ahead.ensures ∙ c.if-not-is_ahead.false))
