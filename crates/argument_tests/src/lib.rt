@@ -1,9 +1,9 @@
 // Refusal 3, the table's column of arguments.
 #![tactic(auto)]
 
-ghost use Rattle.std.specs.Prelude.{◌≡◌, ◌&&◌, ◌^◌, ◌%◌, ◌/◌, ltb};
+ghost use Rattle.std.specs.Prelude.{◌≡◌, ℕ, ◌&&◌, ◌^◌, ◌%◌, ◌/◌, ltb};
 ghost use Rattle.flow.specs.Kinds.{argument_fits};
-ghost use Rattle.kinds.specs.Numbers.{kind_number};
+ghost use Rattle.kinds.specs.Numbers.{Decoded};
 
 use kinds::Kind;
 use words::{HALF, SCOPE_END};
@@ -27,18 +27,18 @@ fn scoped(argument: u64, conditions: u64) -> bool
     argument % SCOPE_END < conditions && argument / SCOPE_END < HALF
 }
 
-// Whether an argument is one that the table has for its kind.
+// Whether an argument is one that the table has for its kind. A number that is no kind's may have 0 alone.
 #[tactic(auto, unfolding(flow::specs::Kinds::argument_fits))]
-pub fn argument_fits(kind: Kind, argument: u64) -> bool
-    ensures { result ≡ argument_fits (kind_number kind) argument }
+pub fn argument_fits(kind: Option<Kind>, argument: u64) -> bool
+    ensures { (number : ℕ) → Decoded number kind → result ≡ argument_fits number argument }
 {
     match kind {
-        Kind::While | Kind::Repeat => scoped(argument, CONDITIONS),
-        Kind::Do | Kind::For | Kind::If | Kind::ElseIf | Kind::Else => scoped(argument, 1),
-        Kind::Local | Kind::Label | Kind::Goto => argument <= LAST_NUMBER,
-        Kind::Name => argument <= NAME_BITS,
-        Kind::Return => argument <= 1,
-        Kind::Call => argument <= CALL_BITS,
+        Some(Kind::While | Kind::Repeat) => scoped(argument, CONDITIONS),
+        Some(Kind::Do | Kind::For | Kind::If | Kind::ElseIf | Kind::Else) => scoped(argument, 1),
+        Some(Kind::Local | Kind::Label | Kind::Goto) => argument <= LAST_NUMBER,
+        Some(Kind::Name) => argument <= NAME_BITS,
+        Some(Kind::Return) => argument <= 1,
+        Some(Kind::Call) => argument <= CALL_BITS,
         _ => argument == 0,
     }
 }

@@ -1,5 +1,5 @@
-// What holds inside a block, as a struct whose methods take it and hand it back: "Break target, continue target and scope end return to
-// their outer settings when a body closes".
+// What holds inside a block: "Break target, continue target and scope end return to their outer settings when a body closes". The form is
+// prescribed, "Builder settings are a struct; methods taking mut self hand it back": so `enter_loop` sets fields, and `return_to` assigns the whole.
 #![tactic(auto)]
 
 ghost use Rattle.std.specs.Prelude.{◌≡◌};

@@ -6,7 +6,7 @@ ghost use Rattle.std.specs.Iterator.{YieldsFirst, item_count};
 ghost use Rattle.flow.specs.Sheet.{kind_of};
 ghost use Rattle.blocks.specs.Open.{depth_after, labels_in, labels_at};
 
-use kinds::{Kind, ends_block, is_label};
+use kinds::{Kind, is_block_end, is_label};
 use std::marker::Model;
 use words::ARGUMENT;
 
@@ -61,7 +61,7 @@ impl<'a> Iterator for BlockLabels<'a> {
         while let Some((&word, rest)) = self.kinds.split_first() {
             self.kinds = rest;
             if self.depth == 0 {
-                if ends_block(word) {
+                if is_block_end(word) {
                     self.kinds = &[];
                     return None;
                 }

@@ -13,7 +13,7 @@ use block_settings::BlockSettings;
 use cfg_steps::GraphBuilder;
 use flow::Counts;
 use if_builder::IfBuilder;
-use kinds::{Kind, ends_block, literal_truth};
+use kinds::{Kind, is_block_end, literal_truth};
 use loop_nodes::{LoopTargets, repeat_targets};
 use words::{ARGUMENT, NO_SUCCESSORS, SCOPE_END, exit};
 
@@ -25,7 +25,7 @@ fn past(at: usize, len: usize) -> usize
     if at < len { at + 1 } else { at }
 }
 
-// The statements from the builder's item on, up to the item that ends their block.
+// The statements from the builder's item on, up to the item that ends their block. Each says where the next begins: no index is counted.
 #[cycle(arm_arms_block_for_loop_if_stmt_loop_body_repeat_loop_scoped_block_stmt_while_loop)]
 fn block(b: &mut GraphBuilder<'_>)
     requires { Sane b.old.kinds.now × Good (place b.old) (columns b.old) × (b.old.item ≤ length b.old.kinds.now) × EnteredRoom b.old.kinds.now (place b.old) }
@@ -33,7 +33,7 @@ fn block(b: &mut GraphBuilder<'_>)
     ensures built { ForSpans b.old.kinds.now (λ ks ss. Finished ks ss (place b.old) (columns b.old) (place b.new) (columns b.new)) }
 {
     while let Some(&word) = b.kinds.get(b.item) {
-        if ends_block(word) {
+        if is_block_end(word) {
             return;
         }
         stmt(b);
@@ -142,7 +142,7 @@ fn if_stmt(b: &mut GraphBuilder<'_>, i: usize)
     b.cursor = Some(join);
 }
 
-// Whether ELSEIF or ELSE stands at an item.
+// Whether ELSEIF or ELSE stands at a place of the sheet.
 fn arm_follows(kinds: &[u64], at: usize) -> bool
     ensures { (result ≡ true → (at < length kinds.now) × Arm (kind_of (get_or kinds.now at 0))) × (result ≡ false → at < length kinds.now → Arm (kind_of (get_or kinds.now at 0)) → ⊥) }
 {
@@ -153,6 +153,7 @@ fn arm_follows(kinds: &[u64], at: usize) -> bool
 }
 
 // The arms from the item that ends the block above on, and the last end. Without ELSE the last test goes on to the join.
+// Each arm says where the next begins: no index is counted.
 #[cycle(arm_arms_block_for_loop_if_stmt_loop_body_repeat_loop_scoped_block_stmt_while_loop)]
 fn arms(b: &mut GraphBuilder<'_>, test: usize, join: usize)
     requires at_end { AtEnd b.old.kinds.now (place b.old) (columns b.old) }

@@ -7,7 +7,7 @@ ghost use Rattle.cfg_edges.specs.Halves.{joined_from, label_list};
 
 use words::{ABSENT, HALF};
 
-// An edge, in the first free place of the node that it leaves; no edge where it leaves none.
+// An edge to a node, in the first free place of the node that it leaves; no edge where it leaves none.
 #[tactic(auto, using(std::proofs::lemmas::Bool::Decides::nat_tests))]
 pub fn connect(edges: &mut [u64], from: Option<usize>, to: usize)
     requires in_bounds { IfSome from (λ a. a < length edges.old) }

@@ -218,7 +218,8 @@ impl GraphBuilder<'_> {
     // A statement of the one item i, whose word is w.
     pub fn simple_stmt(&mut self, w: u64, i: usize)
         requires good { Good (place self.old) (columns self.old) }
-        requires w_bound { (self.old.node_count + simple_made (kind_of w) ≤ 1600) × (self.old.code_count < self.old.item) × (self.old.name_count < self.old.item) × (i < self.old.item) × (kind_of w ≡ 8 → ⊥) × (kind_of w ≡ 9 → ⊥) }
+        requires w_bound { (self.old.node_count + simple_made (kind_of w) ≤ 1600) × (self.old.code_count < self.old.item) × (self.old.name_count < self.old.item) × (i < self.old.item) }
+        requires no_close { (kind_of w ≡ 8 → ⊥) × (kind_of w ≡ 9 → ⊥) }
         ensures kept { LabelsKept self.old self.new }
         ensures built { (ks : List ℕ) → DoesSimple ks i w self.old self.new }
     {
@@ -337,7 +338,7 @@ impl GraphBuilder<'_> {
         self.code(i);
     }
 
-    // Past all arms: where there is no ELSE, the last test goes on to the join.
+    // Past all arms: where there is no ELSE, the last test goes on to the join. The two come apart, as IfBuilder holds them.
     pub fn arms_end(&mut self, test: usize, join: usize, falls: bool)
         requires good { Good (place self.old) (columns self.old) }
         requires test_lt_nodes { (test < self.old.node_count) × (join < self.old.node_count) }

@@ -17,7 +17,7 @@ fn opener(word: u64) -> usize
     usize::from(Kind::of(word).is_some_and(Kind::is_opener))
 }
 
-// and to the closers.
+// and to the closers. One line each: a function of both would take the method as a closure.
 fn closer(word: u64) -> usize
     ensures { result ≡ one (closes (kind_of word)) }
 {

@@ -26,10 +26,8 @@ fn span_fits(kind: Kind, span: u64) -> bool
 fn item_fits(word: u64, span: u64) -> bool
     ensures { result ≡ item_fits (record { word = word; span = span }) }
 {
-    match Kind::of(word) {
-        Some(kind) => argument_fits(kind, word / ARGUMENT) && span_fits(kind, span),
-        None => false,
-    }
+    let kind = Kind::of(word);
+    argument_fits(kind, word / ARGUMENT) && kind.is_some_and(|kind| span_fits(kind, span))
 }
 
 fn all_fit(items: Items<'_>) -> bool

@@ -1,6 +1,6 @@
 -- The numbers of the kinds, as a word has them.
 -- Assumes nothing: these are definitions.
-use Rattle.std.specs.Prelude.{ℕ, Option, Some, None}
+use Rattle.std.specs.Prelude.{◌≡◌, ◌<◌, ◌⊎◌, ℕ, Option, Some, None, MatchOption}
 use Rattle.kinds.specs.declared.Kind.{Kind}
 use Rattle.kinds.specs.declared.Kind.TheVariants.{Do, While, Repeat, For, If, ElseIf, Else, End, Until, Local, Name, Label, Goto, Break, Continue, Return, Call, Plain, Empty}
 
@@ -30,3 +30,7 @@ kind_number Empty = 19
 abbrev pub number_or_none : Option Kind → ℕ
 number_or_none None = 0
 number_or_none (Some k) = kind_number k
+
+-- the kind that a number stands for, or none where the table lacks it
+abbrev pub Decoded : ℕ → Option Kind → Type 0
+Decoded n r = MatchOption r ((n ≡ 0) ⊎ (19 < n)) (λ k. kind_number k ≡ n)

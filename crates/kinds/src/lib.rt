@@ -1,18 +1,18 @@
 // What a kind word says, asked here and nowhere else: whether an item is code, gives its node a start or is a label that has a name, whether its kind opens, closes or ends a block, what a condition is known to be and may turn out to be, and whether a call raises.
 #![tactic(auto)]
 
-ghost use Rattle.std.specs.Prelude.{◌≡◌, ◌<◌, ◌⊎◌, ℕ, MatchOption};
+ghost use Rattle.std.specs.Prelude.{◌≡◌, ℕ};
 ghost use Rattle.flow.specs.Sheet.{kind_of};
 ghost use Rattle.flow.specs.Kinds.{is_code, opens, closes, literal_truth, raises};
 ghost use Rattle.kinds.specs.Ends.{ends_block};
 ghost use Rattle.kinds.specs.Label.{is_label};
-ghost use Rattle.kinds.specs.Numbers.{kind_number};
+ghost use Rattle.kinds.specs.Numbers.{kind_number, Decoded};
 ghost use Rattle.kinds.specs.Starts.{has_start};
 ghost use Rattle.kinds.specs.Truths.{may_fail, may_hold};
 
 use words::ARGUMENT;
 
-// The conditions 0 and 1 are false, those up to 8 true, and no other is known.
+// The conditions 0 and 1 are false, those up to 8 true, and no other is known. An enum of the nineteen would be asked this alone.
 const LAST_FALSE: u64 = 1;
 
 const LAST_TRUE: u64 = 8;
@@ -46,10 +46,10 @@ pub enum Kind {
 }
 
 impl Kind {
-    // The kind of an item by its word, or none where its number is not one of the table.
+    // The kind of an item by its word, or none where its number is not one of the table. No TryFrom: an error would say no more than none.
     #[inline]
     pub fn of(word: u64) -> Option<Self>
-        ensures { MatchOption result ((kind_of word ≡ 0) ⊎ (19 < kind_of word)) (λ k. kind_number k ≡ kind_of word) }
+        ensures { Decoded (kind_of word) result }
     {
         match word % ARGUMENT {
             1 => Some(Kind::Do),
@@ -75,6 +75,7 @@ impl Kind {
         }
     }
 
+    // One match each: a table of what a kind opens, closes and ends would be longer.
     pub fn is_opener(self) -> bool
         ensures { result ≡ opens (kind_number self) }
     {
@@ -128,7 +129,7 @@ pub fn has_start(word: u64) -> bool
 
 // Whether the block that an item stands behind ends there, by its word.
 #[tactic(auto, using(std::proofs::lemmas::Bool::Decides::nat_tests))]
-pub fn ends_block(word: u64) -> bool
+pub fn is_block_end(word: u64) -> bool
     ensures { result ≡ ends_block (kind_of word) }
 {
     Kind::of(word).is_some_and(|kind| kind.ends_block())

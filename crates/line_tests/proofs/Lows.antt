@@ -1,6 +1,6 @@
 -- The least scope end around: a span ends within all scopes around where it ends within the least. Assumes nothing.
 use Prim.Native.Nat.{ℕ, zero, suc, ◌-◌, ◌<◌, min}
-use mathlib.Core.Bool.{Bool, true, false, ◌&&◌}
+use mathlib.Core.Bool.{Bool, true, false, ◌&&◌, and-true}
 use mathlib.Core.List.{List, [], ◌∷◌, map, tail}
 use mathlib.Core.Path.{◌≡◌, refl, sym, ap, ◌∙◌}
 use native.Mathlib.Omega.{arith}
@@ -14,7 +14,6 @@ use Rattle.flow.specs.Sheet.{Item, all, kind}
 use Rattle.line_tests.specs.declared.Scope.{Scope}
 use Rattle.line_tests.specs.Scopes.{least, lows_of, scope_ends, scope_lows, Lowest}
 use Rattle.line_tests.specs.Turn.{end_held_here}
-use Rattle.sweeps.proofs.Bools.{and_true}
 
 leb_min : (e s m : ℕ) → (leb e s && leb e m) ≡ leb e (min s m)
 leb_min e s m = go (leb e s) (leb e m) refl refl
@@ -26,7 +25,7 @@ leb_min e s m = go (leb e s) (leb e m) refl refl
 
 within_least : (e s : ℕ) (ss : List ℕ) → all (leb e) (s ∷ ss) ≡ leb e (least s ss)
 unfolding all
-within_least e s [] = and_true (leb e s)
+within_least e s [] = and-true (leb e s)
 within_least e s (t ∷ ts) = ap (λ (b : Bool). leb e s && b) (within_least e t ts) ∙ leb_min e s (least t ts)
 
 -- where each low is the least of those from it on, the first alone decides, and so does the second of those behind the first
@@ -70,13 +69,13 @@ innermost_end ss d h =
 -- what is asked of code that ends at e, by its kind
 module _ (k e : ℕ) (ss : List Scope) (d : Scope) (low : Lowest ss) where
   pub arm_held : k ≡ 6 → 1 < length ss → leb e (get_or ss (length ss - 1 - 1) d).low ≡ end_held_here (scope_ends ss) k e
-  arm_held p h = rw (p, outer_within ss d low e h) (sym (and_true _))
+  arm_held p h = rw (p, outer_within ss d low e h) (sym (and-true _))
 
   pub until_held : k ≡ 9 → 0 < length ss → (leb e (get_or ss (length ss - 1) d).low && eqb e (get_or ss (length ss - 1) d).end) ≡ end_held_here (scope_ends ss) k e
   until_held p h = rw (p, all_within ss d low e h, innermost_end ss d h)
 
   pub other_held : (k ≡ 6 → ⊥) → (k ≡ 9 → ⊥) → 0 < length ss → leb e (get_or ss (length ss - 1) d).low ≡ end_held_here (scope_ends ss) k e
-  other_held p q h = rw (ne_eqb k 6 p, ne_eqb k 9 q, all_within ss d low e h) (sym (and_true _))
+  other_held p q h = rw (ne_eqb k 6 p, ne_eqb k 9 q, all_within ss d low e h) (sym (and-true _))
 
 -- an UNTIL is code
 pub no_until : (i : Item) → is_code i ≡ false → eqb (kind i) 9 ≡ false

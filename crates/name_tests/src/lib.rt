@@ -10,7 +10,8 @@ use kinds::Kind;
 use sheet_parts::Items;
 use words::HALF;
 
-// The span of the last LOCAL, and where the last of its NAMEs ends. Before the first LOCAL the span is empty, and no name fits.
+// The span of the last LOCAL, and where the last of its NAMEs ends. Before the first LOCAL the span is
+// empty, as where the definition begins: no name fits, so nothing else is asked of it.
 #[derive(Clone, Copy)]
 struct Names {
     local: u64,

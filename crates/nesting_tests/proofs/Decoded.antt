@@ -5,14 +5,10 @@ use mathlib.Core.Logic.{◌⊎◌, inl, inr}
 use mathlib.Core.Path.{◌≡◌, sym, ap}
 use Rattle.std.proofs.Common.{Option, Some, None, arith}
 use Rattle.std.proofs.lemmas.Bool.Decides.{nat_tests}
-use Rattle.std.specs.Option.{MatchOption}
 use Rattle.flow.specs.Kinds.{opens}
 use Rattle.flow.specs.Refusals.{may_stand, open_after, may_follow}
 use Rattle.kinds.specs.declared.Kind.{Kind}
-use Rattle.kinds.specs.Numbers.{kind_number, number_or_none}
-
-abbrev pub Decoded : ℕ → Option Kind → Type 0
-Decoded n r = MatchOption r ((n ≡ 0) ⊎ (19 < n)) (λ k. kind_number k ≡ n)
+use Rattle.kinds.specs.Numbers.{number_or_none, Decoded}
 
 unknown_stands : (n : ℕ) (os : List ℕ) → 19 < n → may_stand 0 os ≡ may_stand n os
 unfolding may_stand

@@ -15,7 +15,7 @@ use sheet_parts::Items;
 use words::ARGUMENT;
 use words::limit::DEPTH;
 
-// What stands behind the last item, as a word: its kind is none.
+// What stands behind the last item, as a word: its kind is none. No Option: the definition asks the same of the end and of kind 0.
 const NO_ITEM: u64 = 0;
 
 // Whether an item may stand where this kind is the innermost that is open.

@@ -5,10 +5,6 @@ use mathlib.Core.Path.{◌≡◌, refl}
 use native.Mathlib.Nat.{le_refl}
 use Rattle.flow.specs.Refusals.{one}
 
-pub and_assoc : (a b c : Bool) → (a && b && c) ≡ (a && (b && c))
-and_assoc true b c = refl
-and_assoc false b c = refl
-
 -- of two tests each of two, the first of both and the second of both
 pub and_pairs : (a b c d : Bool) → (a && b && (c && d)) ≡ (a && c && (b && d))
 and_pairs true true c d = refl
@@ -20,14 +16,6 @@ pub not_or : (a b : Bool) → not (a || b) ≡ (not a && not b)
 not_or true b = refl
 not_or false b = refl
 
-pub not_not : (b : Bool) → not (not b) ≡ b
-not_not true = refl
-not_not false = refl
-
 pub one_most : (b : Bool) → one b ≤ 1
 one_most true = le_refl 1
 one_most false = zero-le
-
-pub and_true : (b : Bool) → (b && true) ≡ b
-and_true true = refl
-and_true false = refl

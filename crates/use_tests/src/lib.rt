@@ -11,7 +11,7 @@ use sheet_parts::Items;
 use words::use_kind::{READ, READ_WRITE, WRITE};
 use words::{CROSSING, HALF, USE_KIND};
 
-// The kinds of a use that crosses into a closure.
+// The kinds of a use that crosses into a closure. Numbers of a lent word's high part, all read in one match: an enum would be read from the same six.
 const CROSSING_READ: u64 = CROSSING + READ;
 
 const CROSSING_WRITE: u64 = CROSSING + WRITE;

@@ -199,13 +199,13 @@ loop_body-returns-clause-built t c =
 pub block-loop-word-init : goal.block-loop-word-init
 block-loop-word-init t c = ((refl, refl, refl, refl, refl), λ ss e. going_none c.requires.1 c.requires.2 (c.requires.3 ss e))
 
-pub block-returns-then-ends_block-clause-built : goal.block-returns-then-ends_block-clause-built
-block-returns-then-ends_block-clause-built t c =
+pub block-returns-then-is_block_end-clause-built : goal.block-returns-then-is_block_end-clause-built
+block-returns-then-is_block_end-clause-built t c =
     λ ss e.
     let g = c.loop-word.invariant.1 ss e in
     let r = rw c.loop-word.invariant.0.0 at c.in-Some.ensures.lookup in
     let lt = ltb-true _ _ (sym r.0) in
-    let n = rw (get_or_read _ _ _ lt r.1 0) at (block_ends (kind_of c.in-Some.field-0.now) (sym c.ends_block.ensures ∙ c.if-ends_block.true)) in
+    let n = rw (get_or_read _ _ _ lt r.1 0) at (block_ends (kind_of c.in-Some.field-0.now) (sym c.is_block_end.ensures ∙ c.if-is_block_end.true)) in
     going_ended g (ender_done c.args.b.now.kinds.now ss e _ lt n) (λ h. n)
 
 pub block-stmt-requires : goal.block-stmt-requires
@@ -213,7 +213,7 @@ block-stmt-requires t c =
     let g = c.loop-word.invariant.1 c.args.b.now.kinds.now refl in
     let r = rw c.loop-word.invariant.0.0 at c.in-Some.ensures.lookup in
     let lt = ltb-true _ _ (sym r.0) in
-    let n = rw (get_or_read _ _ _ lt r.1 0) at (block_goes_on (kind_of c.in-Some.field-0.now) (sym c.ends_block.ensures ∙ c.if-ends_block.false)) in
+    let n = rw (get_or_read _ _ _ lt r.1 0) at (block_goes_on (kind_of c.in-Some.field-0.now) (sym c.is_block_end.ensures ∙ c.if-is_block_end.false)) in
     rw c.loop-word.invariant.0.0 (omega (arith, g.moved.forward, lt), (c.requires.0, g.moved.good, lt, n, λ ss e. going_room (c.loop-word.invariant.1 ss e)))
 
 pub block-loop-word-preserved : goal.block-loop-word-preserved
@@ -331,7 +331,7 @@ pub stmt-simple_stmt-requires : goal.stmt-simple_stmt-requires
 stmt-simple_stmt-requires t c =
     let k : OpensNone (get_or c.args.b.now.kinds.now c.args.b.now.item 0) = elim c.in_default.branch [ stmt-in_default-via-in-Some+in_default w ↦ (search rules, search rules, search rules, search rules, search rules) | stmt-in_default-via-in_default w ↦ (search rules, search rules, search rules, search rules, search rules) ] in
     let s = simple_kind _ k.0 k.1 k.2 k.3 k.4 c.requires.3 in
-    record { good = good_item (c.args.b.now.item + 1) (omega arith) (omega arith) c.requires.1; w_bound = (simple_room c.args.b.now.kinds.now c.args.b.now.kinds.now refl _ c.requires.2 (place c.args.b.now) c.requires.4 c.requires.1.nodes s, omega (arith, c.requires.1.codes), omega (arith, c.requires.1.names), omega arith, s 8 (lit≤ tt) (lit≤ tt), s 9 (lit≤ tt) (lit≤ tt)) }
+    record { good = good_item (c.args.b.now.item + 1) (omega arith) (omega arith) c.requires.1; w_bound = (simple_room c.args.b.now.kinds.now c.args.b.now.kinds.now refl _ c.requires.2 (place c.args.b.now) c.requires.4 c.requires.1.nodes s, omega (arith, c.requires.1.codes), omega (arith, c.requires.1.names), omega arith); no_close = (s 8 (lit≤ tt) (lit≤ tt), s 9 (lit≤ tt) (lit≤ tt)) }
 
 pub stmt-returns-in_default-clause-built : goal.stmt-returns-in_default-clause-built
 stmt-returns-in_default-clause-built t c =

@@ -1,5 +1,5 @@
 -- `depth_tests::too_deep` meets its contract: its loop is the sweep of refusal 4. Assumes nothing.
-use mathlib.Core.Bool.{not}
+use mathlib.Core.Bool.{not, not-not}
 use mathlib.Core.Path.{sym, ap, ◌∙◌}
 use native.Mathlib.Omega.{arith}
 use lib.ListN.{get_or}
@@ -8,7 +8,7 @@ use borrow.Author.Tests.{lt-ltb, le-ltb, not-false}
 use Rattle.flow.specs.Kinds.{opens, closes}
 use Rattle.flow.specs.Refusals.{outnumbered}
 use Rattle.flow.specs.Sheet.{zip}
-use Rattle.sweeps.proofs.Bools.{not_not, one_most}
+use Rattle.sweeps.proofs.Bools.{one_most}
 use Rattle.sweeps.proofs.Sweep.{onward, fails, ends}
 use Rattle.depth_tests.proofs.too_deep.Goals as goal
 
@@ -25,4 +25,4 @@ loop-word-preserved c =
 
 pub returns : goal.returns
 unfolding outnumbered
-returns c = sym (sym (not_not (outnumbered 0 0 (zip c.args.items.words.now c.args.items.spans.now))) ∙ ap not (ends c.loop-word.invariant.2 c.loop-word-test.false) ∙ not_not _)
+returns c = sym (sym (not-not (outnumbered 0 0 (zip c.args.items.words.now c.args.items.spans.now))) ∙ ap not (ends c.loop-word.invariant.2 c.loop-word-test.false) ∙ not-not _)

@@ -8,7 +8,7 @@ use lib.ListN.{length}
 use Rattle.flow.specs.Refusals.{outnumbered}
 use Rattle.nesting_tests.specs.Stack.{open_kinds}
 use Rattle.sweeps.proofs.Sweep.{Swept, rest}
-use Rattle.nesting_tests.proofs.Decoded.{Decoded}
+use Rattle.kinds.specs.Numbers.{Decoded}
 use Rattle.nesting_tests.proofs.Sweeps.{nesting}
 use Rattle.nesting_tests.proofs.bad_nesting.Given as goal
 

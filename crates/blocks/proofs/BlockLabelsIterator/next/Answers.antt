@@ -14,18 +14,18 @@ use Rattle.blocks.specs.Open.{labels_in}
 use Rattle.blocks.proofs.Scan.{in_none, in_end, in_label, in_passed, depth_most, ends_here}
 use Rattle.blocks.proofs.BlockLabelsIterator.next.Goals as goal
 
-pub returns-then-ends_block-clause-steps : goal.returns-then-ends_block-clause-steps
-returns-then-ends_block-clause-steps c =
-    let e = in_end _ c.in-Some.ensures.cases.0 (sym (ends_here _ _ c.if-self-eq0.true) ∙ sym c.ends_block.ensures ∙ c.if-ends_block.true) in
+pub returns-then-is_block_end-clause-steps : goal.returns-then-is_block_end-clause-steps
+returns-then-is_block_end-clause-steps c =
+    let e = in_end _ c.in-Some.ensures.cases.0 (sym (ends_here _ _ c.if-self-eq0.true) ∙ sym c.is_block_end.ensures ∙ c.if-is_block_end.true) in
     (sym c.self.view_is ∙ sym c.loop-word.invariant.left ∙ e, in_none _ refl)
 
 pub returns-then-is_label-clause-steps : goal.returns-then-is_label-clause-steps
 returns-then-is_label-clause-steps c =
-    sym c.self.view_is ∙ sym c.loop-word.invariant.left ∙ in_label _ c.in-Some.ensures.cases.0 c.if-self-eq0.true (sym c.ends_block.ensures ∙ c.if-ends_block.false) (sym c.is_label.ensures ∙ c.if-is_label.true)
+    sym c.self.view_is ∙ sym c.loop-word.invariant.left ∙ in_label _ c.in-Some.ensures.cases.0 c.if-self-eq0.true (sym c.is_block_end.ensures ∙ c.if-is_block_end.false) (sym c.is_label.ensures ∙ c.if-is_label.true)
 
 pub returns-then-is_label-clause-goes : goal.returns-then-is_label-clause-goes
 returns-then-is_label-clause-goes c =
-    let e = sym c.self.view_is ∙ sym c.loop-word.invariant.left ∙ in_label _ c.in-Some.ensures.cases.0 c.if-self-eq0.true (sym c.ends_block.ensures ∙ c.if-ends_block.false) (sym c.is_label.ensures ∙ c.if-is_label.true) in
+    let e = sym c.self.view_is ∙ sym c.loop-word.invariant.left ∙ in_label _ c.in-Some.ensures.cases.0 c.if-self-eq0.true (sym c.is_block_end.ensures ∙ c.if-is_block_end.false) (sym c.is_label.ensures ∙ c.if-is_label.true) in
     record { on = λ f. (tt, tt, omega (arith, ap length e)); keeps = tt; rests = λ f. tt }
 
 pub loop-word-preserved : goal.loop-word-preserved

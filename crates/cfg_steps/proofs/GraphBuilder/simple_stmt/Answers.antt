@@ -34,6 +34,6 @@ returns-in-Some-Call-clause-built c = λ ks e. let k = kind_is _ c.of.ensures c.
 pub returns-in_default-clause-built : goal.returns-in_default-clause-built
 returns-in_default-clause-built c = elim c.in_default.branch [
   | in_default-via-in-Some-Call+else-call_raises w ↦ λ ks e. let k = kind_is _ c.of.ensures w.in-Some-Call.is w.in-Some-Call.field-0-is in did_as (rw k) (λ ss g. simple_call _ _ _ _ _ g k (sym w.call_raises.ensures ∙ w.if-call_raises.false)) (c.code.ensures.by_index ks c.requires.good (rw (e, k)))
-  | in_default-via-in-Some+in_default w ↦ λ ks e. let o : Other (kind_of c.args.w) = (search rules, search rules, search rules, search rules, search rules, search rules, search rules, search rules) in did_as (made_one _ o) (λ ss g. simple_code _ _ _ _ _ g o) (c.code.ensures.by_index ks c.requires.good (rw e (starts _ c.requires.w_bound.4 c.requires.w_bound.5 o.1)))
-  | in_default-via-in_default w ↦ λ ks e. let o : Other (kind_of c.args.w) = (search rules, search rules, search rules, search rules, search rules, search rules, search rules, search rules) in did_as (made_one _ o) (λ ss g. simple_code _ _ _ _ _ g o) (c.code.ensures.by_index ks c.requires.good (rw e (starts _ c.requires.w_bound.4 c.requires.w_bound.5 o.1)))
+  | in_default-via-in-Some+in_default w ↦ λ ks e. let o : Other (kind_of c.args.w) = (search rules, search rules, search rules, search rules, search rules, search rules, search rules, search rules) in did_as (made_one _ o) (λ ss g. simple_code _ _ _ _ _ g o) (c.code.ensures.by_index ks c.requires.good (rw e (starts _ c.requires.no_close.0 c.requires.no_close.1 o.1)))
+  | in_default-via-in_default w ↦ λ ks e. let o : Other (kind_of c.args.w) = (search rules, search rules, search rules, search rules, search rules, search rules, search rules, search rules) in did_as (made_one _ o) (λ ss g. simple_code _ _ _ _ _ g o) (c.code.ensures.by_index ks c.requires.good (rw e (starts _ c.requires.no_close.0 c.requires.no_close.1 o.1)))
 ]
