@@ -5,7 +5,7 @@ use mathlib.Core.Path.{◌≡◌, sym, ap, subst, ◌∙◌}
 use mathlib.Core.Bool.{false, true}
 use mathlib.Core.List.{List, [], ◌++◌}
 use native.Mathlib.Omega.{arith}
-use lib.ListN.{length, get_or, take, drop, replicate, length-append, length-drop, length-replicate, get_or-append}
+use lib.ListN.{length, get_or, take, drop, replicate, length-append, length-drop, length-map, length-replicate, length-take, get_or-append}
 use lib.Seq.{drop-append_seam, get_or-take, length-take-le}
 use Rattle.search.proofs.Count.{zero_at}
 use Rattle.flow.specs.Sheet.{kind_words}
@@ -15,7 +15,7 @@ use Rattle.flow.specs.Judge.{words_of}
 use Rattle.std.specs.List.{list_any}
 use Rattle.std.proofs.lemmas.List.{take_all}
 use Rattle.facts.specs.declared.NameFacts.{NameFacts}
-use Rattle.facts.specs.Facts.{FactsOf, None, no_facts, tracks}
+use Rattle.facts.specs.Facts.{FactsOf, None, facts_of, no_facts, tracks}
 use Rattle.facts.proofs.Facts.{tracked_told, none_asked}
 use Rattle.live_steps.specs.declared.FlowGraph.{FlowGraph}
 use Rattle.locals.specs.declared.DeclarationTable.{DeclarationTable}
@@ -44,19 +44,22 @@ module _ {S U kinds : List ℕ} {g : FlowGraph} {codes : CodeColumns} {names : D
   pub few_names_law : count ≤ 1024
   few_names_law = omega (arith, counted, p.columns.named.few)
 
-  module _ (long : count ≤ length facts) where
-    pub cut : length (take count facts) ≡ count
-    cut = length-take-le count facts long
+  -- the facts stand in the column
+  pub long : count ≤ length facts
+  long = omega (arith, s.count, length-take count facts, ap length s.cells, length-map (locals_in 0 0 kinds) facts_of)
 
-    -- of the names alone
-    pub known : FactsOf (local_at S) (length (take count facts)) (take count facts)
-    known ℓ h = get_or-take count facts ℓ no_facts (omega (arith, cut)) ∙ names_known S p.beside stored ℓ (omega (arith, cut))
+  pub cut : length (take count facts) ≡ count
+  cut = length-take-le count facts long
 
-    pub all_counted : length (locals S) ≡ length (take count facts)
-    all_counted = counted ∙ sym cut
+  -- of the names alone
+  pub known : FactsOf (local_at S) (length (take count facts)) (take count facts)
+  known ℓ h = get_or-take count facts ℓ no_facts (omega (arith, cut)) ∙ names_known S p.beside stored ℓ (omega (arith, cut))
 
-    pub given : Given S U g names codes uses (take count facts)
-    given = record { columns = rw all_counted at p.columns; facts_are = known }
+  pub all_counted : length (locals S) ≡ length (take count facts)
+  all_counted = counted ∙ sym cut
+
+  pub given : Given S U g names codes uses (take count facts)
+  given = record { columns = rw all_counted at p.columns; facts_are = known }
 
 -- ---- no local tracked
 

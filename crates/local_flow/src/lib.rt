@@ -30,7 +30,7 @@ fn find(
     mark: &mut [u64],
 )
     requires any_given { AnyGiven graph names codes sheet facts.old }
-    requires room { Room 3072 findings.old.count findings.old.words.now × (1024 ≤ length mark.old) }
+    requires room { Room 3072 findings.old.count findings.old.words.now × (length facts.old ≤ length mark.old) }
     ensures same { findings.new.words.ghost_name ≡ findings.old.words.ghost_name }
     ensures finds { FindsGiven graph.entry names.entry codes.entry sheet.entry facts.old findings.old findings.new mark.old mark.new }
 {
@@ -43,8 +43,40 @@ fn find(
     }
 }
 
+// The findings of a sheet with at most NAMES items, and so with as many names at most. The facts of the names come before the other
+// tables: by them it is told whether any table is needed, and how much memory they take.
+fn compute_in<const NAMES: usize>(
+    kinds: &[u64],
+    graph: FlowGraph<'_>,
+    codes: CodeColumns<'_>,
+    names: DeclarationTable<'_>,
+    sheet: UseColumns<'_>,
+    finding_word: &mut [u64],
+    mark: &mut [u64],
+) -> usize
+    requires any_sheets { AnySheets kinds.now graph codes names sheet }
+    requires size { (length kinds.now ≤ NAMES) × (NAMES ≤ 1024) }
+    requires room { Room 3072 0 finding_word.old × (1024 ≤ length mark.old) }
+    ensures { Finds kinds.now graph.entry codes.entry names.entry sheet.entry finding_word.old finding_word.new mark.old mark.new result }
+{
+    let mut facts = [NameFacts::default(); NAMES];
+    let count = find_names(kinds, &mut facts);
+    let facts = &mut facts[..count];
+    if !any_tracked(facts) {
+        mark[..count].fill(0);
+        // A count: there are no findings.
+        return 0;
+    }
+    let mut findings = FindingList {
+        words: finding_word,
+        count: 0,
+    };
+    find(graph, names, codes, sheet, facts, &mut findings, mark);
+    findings.count
+}
+
 // The words of the findings of a sheet with its uses, in their order, and a mark figure for each local. The result is the number of findings.
-// The facts of the names come before the other tables: by them it is told whether any table is needed, and how much memory they take.
+// Most sheets are small, and to clear facts for 1,024 names would take a tenth of all time.
 pub fn compute(
     kinds: &[u64],
     graph: FlowGraph<'_>,
@@ -58,17 +90,9 @@ pub fn compute(
     requires room { Room 3072 0 finding_word.old × (1024 ≤ length mark.old) }
     ensures { Finds kinds.now graph.entry codes.entry names.entry sheet.entry finding_word.old finding_word.new mark.old mark.new result }
 {
-    let mut facts = [NameFacts::default(); ITEMS];
-    let count = find_names(kinds, &mut facts);
-    let facts = &mut facts[..count];
-    if !any_tracked(facts) {
-        mark[..count].fill(0);
-        return 0;
+    if kinds.len() <= SMALL {
+        compute_in::<SMALL>(kinds, graph, codes, names, sheet, finding_word, mark)
+    } else {
+        compute_in::<ITEMS>(kinds, graph, codes, names, sheet, finding_word, mark)
     }
-    let mut findings = FindingList {
-        words: finding_word,
-        count: 0,
-    };
-    find(graph, names, codes, sheet, facts, &mut findings, mark);
-    findings.count
 }

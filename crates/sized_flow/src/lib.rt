@@ -4,6 +4,7 @@
 ghost use Rattle.std.specs.Prelude.{◌+◌, ◌≤◌, ◌<◌, length};
 ghost use Rattle.live_steps.specs.Walk.{nodes_of};
 ghost use Rattle.locals.specs.Entries.{Room};
+ghost use Rattle.both_lists.specs.Passes.{AnyPair, Finds};
 ghost use Rattle.sized_flow.specs.Given.{AnyGiven, FindsGiven};
 
 use both_lists::{GraphWalk, list_findings};
@@ -12,7 +13,36 @@ use live_steps::FlowGraph;
 use locals::{DeclarationTable, FindingList, PassTables, UseTable};
 use predecessors::UNLINKED;
 use tables::{CodeColumns, PairTables, UseColumns, make_tables};
-use use_words::NO_USE;
+use use_words::{NO_USE, PlacedUse};
+
+// The findings of a pair by its tables, with memory for walks over at most NODES nodes.
+fn find_by_tables<const NODES: usize>(
+    pass: &PassTables<'_>,
+    by_node: &[PlacedUse],
+    findings: &mut FindingList<'_>,
+    mark: &mut [u64],
+)
+    requires any_pair { AnyPair pass.now by_node.now }
+    requires size { (nodes_of pass.now.graph ≤ NODES) × (NODES ≤ 1600) }
+    requires room { Room (length pass.now.facts.now + (length pass.now.facts.now + 1024)) findings.old.count findings.old.words.now × (length pass.now.facts.now ≤ length mark.old) }
+    ensures { Finds pass.now by_node.now findings.old findings.new mark.old mark.new }
+{
+    let mut visited = [0u16; NODES];
+    let mut stack = [0u16; NODES];
+    let mut chain = [UNLINKED; NODES];
+    let mut used = [0u16; NODES];
+    let mut reads = [0u16; NODES];
+    let mut writes = [0u16; NODES];
+    let walk = GraphWalk {
+        visited: &mut visited,
+        stack: &mut stack,
+        chain: &mut chain,
+        used: &mut used,
+        reads: &mut reads,
+        writes: &mut writes,
+    };
+    list_findings(pass, by_node, walk, findings, mark);
+}
 
 // The findings of a pair of sheets with at most USES uses and NODES nodes and names; STARTS is NODES + 1 or more. Most function bodies are
 // small, and to clear what a large one needs would take longer than all else.
@@ -27,7 +57,7 @@ pub fn compute<const USES: usize, const NODES: usize, const STARTS: usize>(
 )
     requires any_given { AnyGiven graph names codes sheet facts.old }
     requires sizes { (length sheet.words.now ≤ USES) × (nodes_of graph ≤ NODES) × (length facts.old ≤ NODES) × (NODES < STARTS) × (USES ≤ 1024) × (STARTS ≤ 1601) }
-    requires room { Room 3072 findings.old.count findings.old.words.now × (1024 ≤ length mark.old) }
+    requires room { Room 3072 findings.old.count findings.old.words.now × (length facts.old ≤ length mark.old) }
     ensures { FindsGiven graph.entry names.entry codes.entry sheet.entry facts.old findings.old findings.new mark.old mark.new }
 {
     let mut uses = [NO_USE; USES];
@@ -61,19 +91,5 @@ pub fn compute<const USES: usize, const NODES: usize, const STARTS: usize>(
             uses: &*by_local,
         },
     };
-    let mut visited = [0u16; NODES];
-    let mut stack = [0u16; NODES];
-    let mut chain = [UNLINKED; NODES];
-    let mut used = [0u16; NODES];
-    let mut reads = [0u16; NODES];
-    let mut writes = [0u16; NODES];
-    let walk = GraphWalk {
-        visited: &mut visited,
-        stack: &mut stack,
-        chain: &mut chain,
-        used: &mut used,
-        reads: &mut reads,
-        writes: &mut writes,
-    };
-    list_findings(&pass, &*by_node, walk, findings, mark);
+    find_by_tables::<NODES>(&pass, &*by_node, findings, mark);
 }
