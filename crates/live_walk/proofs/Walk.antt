@@ -8,7 +8,7 @@ use mathlib.Core.List.{List, [], ◌∷◌}
 use native.Mathlib.Omega.{arith}
 use lib.ListN.{length, get_or, drop, drop_of_length-le}
 use Rattle.search.specs.Search.{closure}
-use Rattle.search.specs.Worklist.{State, topmost, pop}
+use Rattle.search.specs.Worklist.{State, st, topmost, pop}
 use Rattle.search.specs.Stamps.{stamp_all, Ready, Unmarked, flagged}
 use Rattle.search.specs.declared.Search.{Search as Running}
 use Rattle.search.specs.Running.{state_of, SameColumns}
@@ -104,41 +104,42 @@ module _ {g : FlowGraph} {d : Declaration} {mine : List PlacedUse} where
 abbrev walk : FlowGraph → Declaration → List Use → Search
 walk g d us = from_writes (nodes_of g) g.edges.first.now g.edges.second.now g.start.now d us
 
-pub record Walking (g : FlowGraph) (d : Declaration) (us : List Use) (count : ℕ) (e s : Running) : Type 0 where
+pub record Walking (g : FlowGraph) (d : Declaration) (us : List Use) (stamp count : ℕ) (e s : Running) : Type 0 where
   pub same : SameColumns e s
-  pub stamp : s.stamp ≡ e.stamp
-  pub counted : Counted e.stamp (walk g d us) (state_of s) count
+  pub stamped : s.stamp ≡ stamp
+  pub counted : Counted stamp (walk g d us) (state_of s) count
 
-module _ {g : FlowGraph} {d : Declaration} {us : List Use} where
-  pub walk_begin : {e s : Running} → Unmarked e.stamp (nodes_of g) e.marks.now e.stack.now → e.top ≡ 0 → SameColumns e s → s.stamp ≡ e.stamp → state_of s ≡ stamp_all e.stamp (after_writes (charted g) d us) (state_of e) → Walking g d us 0 e s
-  walk_begin {e} {s} u z c q p = record { same = c; stamp = q; counted = count_begin e.stamp (walk g d us) e.marks.now e.stack.now (state_of s) u (rw z at p) }
+module _ {g : FlowGraph} {d : Declaration} {us : List Use} {stamp : ℕ} where
+  -- b is the search begun in the columns of e, and s that with the nodes from after the writes
+  pub walk_begin : {e b s : Running} → Unmarked stamp (nodes_of g) e.marks.now e.stack.now → SameColumns e b → (state_of b ≡ st e.marks.now e.stack.now 0) × (b.stamp ≡ stamp) → SameColumns b s × (s.stamp ≡ b.stamp) → state_of s ≡ stamp_all b.stamp (after_writes (charted g) d us) (state_of b) → Walking g d us stamp 0 e s
+  walk_begin {e} {b} {s} u c q k p = record { same = same_on c k.0; stamped = k.1 ∙ q.1; counted = count_begin stamp (walk g d us) e.marks.now e.stack.now (state_of s) u (rw (q.1, q.0) at p) }
 
-  module _ {count : ℕ} {e s : Running} (w : Walking g d us count e s) where
+  module _ {count : ℕ} {e s : Running} (w : Walking g d us stamp count e s) where
     -- a turn: u is taken off the stack, and what follows it is pushed
     module _ {p : Running} {u : ℕ} (q : (0 < s.top) × (u ≡ topmost (state_of s)) × (state_of p ≡ pop (state_of s))) (c : SameColumns s p × (p.stamp ≡ s.stamp)) where
       pub walk_ready : Ready p.stamp (nodes_of g) (state_of p) × (u < nodes_of g)
       walk_ready =
-          let same : p.stamp ≡ e.stamp = c.1 ∙ w.stamp in
-          (rw (same, q.2) (pop_ready e.stamp (walk g d us) w.counted.underway q.0), rw q.1 (node_below e.stamp (walk g d us) w.counted.underway _ (omega arith)))
+          let same : p.stamp ≡ stamp = c.1 ∙ w.stamped in
+          (rw (same, q.2) (pop_ready stamp (walk g d us) w.counted.underway q.0), rw q.1 (node_below stamp (walk g d us) w.counted.underway _ (omega arith)))
 
       module _ {t : Running} (b : SameColumns p t × (t.stamp ≡ p.stamp)) (r : state_of t ≡ stamp_all p.stamp (live_successors (charted g) d u) (state_of p)) where
-        pushes : state_of t ≡ stamp_all e.stamp (live_successors (charted g) d (topmost (state_of s))) (pop (state_of s))
+        pushes : state_of t ≡ stamp_all stamp (live_successors (charted g) d (topmost (state_of s))) (pop (state_of s))
         pushes =
-            let same : p.stamp ≡ e.stamp = c.1 ∙ w.stamp in
+            let same : p.stamp ≡ stamp = c.1 ∙ w.stamped in
             rw (same, q.1, q.2) at r
 
-        pub walk_turn : Walking g d us (count + 1) e t
-        walk_turn = record { same = same_on w.same (same_on c.0 b.0); stamp = b.1 ∙ c.1 ∙ w.stamp; counted = count_turn e.stamp (walk g d us) w.counted q.0 (state_of t) pushes }
+        pub walk_turn : Walking g d us stamp (count + 1) e t
+        walk_turn = record { same = same_on w.same (same_on c.0 b.0); stamped = b.1 ∙ c.1 ∙ w.stamped; counted = count_turn stamp (walk g d us) w.counted q.0 (state_of t) pushes }
 
         pub walk_falls : measure (nodes_of g) (flagged t.stamp (nodes_of g) (state_of t)) < measure (nodes_of g) (flagged s.stamp (nodes_of g) (state_of s))
-        walk_falls = let now : t.stamp ≡ e.stamp = b.1 ∙ c.1 ∙ w.stamp in
-            rw (now, w.stamp) (stamp_falls e.stamp (walk g d us) w.counted.underway q.0 (state_of t) pushes)
+        walk_falls = let now : t.stamp ≡ stamp = b.1 ∙ c.1 ∙ w.stamped in
+            rw (now, w.stamped) (stamp_falls stamp (walk g d us) w.counted.underway q.0 (state_of t) pushes)
 
-    pub walk_over : s.top ≡ 0 → Walks e.stamp (nodes_of g) (charted g) d us count s.marks.now
+    pub walk_over : s.top ≡ 0 → Walks stamp (nodes_of g) (charted g) d us count s.marks.now
     walk_over z =
         let is = walked_is (nodes_of g) g.edges.first.now g.edges.second.now g.start.now d us (omega arith) in
         record {
-          marks = stamp_end e.stamp (walk g d us) w.counted.underway z ∙ is;
-          count = rw (← is) (count_end e.stamp (walk g d us) w.counted z);
+          marks = stamp_end stamp (walk g d us) w.counted.underway z ∙ is;
+          count = rw (← is) (count_end stamp (walk g d us) w.counted z);
           stamped = w.counted.underway.bounded;
         }

@@ -4,15 +4,13 @@
 ghost use Rattle.std.specs.Prelude.{◌≡◌};
 ghost use Rattle.search.specs.Running.{SameColumns};
 ghost use Rattle.search.specs.Stamps.{Stamped, Unmarked};
-ghost use Rattle.use_words.specs.Words.{uses_in, AllPlaced};
+ghost use Rattle.use_words.specs.Words.{uses_in};
 ghost use Rattle.live_steps.specs.Walk.{nodes_of, charted, declared};
 ghost use Rattle.local_walk.specs.Walks.{Tells};
 
 use empty_read::first_unassigned_use;
-use live_steps::{FlowGraph, LocalDeclaration};
-use live_walk::live_walk;
+use live_walk::LocalWalk;
 use search::Search;
-use use_words::PlacedUse;
 
 // What a walk tells: how many nodes it visits, and the number of the first unassigned use.
 #[derive(Clone, Copy)]
@@ -21,20 +19,14 @@ pub struct Walked {
     pub first: Option<u16>,
 }
 
-// The walk of a local with the uses `mine`.
-pub fn walk_local(
-    graph: &FlowGraph<'_>,
-    mine: &[PlacedUse],
-    search: &mut Search<'_>,
-    declaration: LocalDeclaration,
-) -> Walked
-    requires unmarked { Unmarked search.old.stamp (nodes_of graph.now) search.old.marks.now search.old.stack.now × (search.old.top ≡ 0) }
-    requires placed { AllPlaced (nodes_of graph.now) mine.now }
-    ensures same { SameColumns search.old search.new × (search.new.stamp ≡ search.old.stamp) }
-    ensures tells { Tells (nodes_of graph.now) (charted graph.now) (declared declaration) (uses_in mine.now) result }
-    ensures stamped { Stamped search.old.stamp search.new.marks.now }
+// What a local's walk tells. The marks are below the stamp before.
+pub fn walk_local(walk: &LocalWalk<'_>, search: &mut Search<'_>, stamp: u16) -> Walked
+    requires { Unmarked stamp (nodes_of walk.now.graph) search.old.marks.now search.old.stack.now }
+    ensures same { SameColumns search.old search.new }
+    ensures tells { Tells (nodes_of walk.now.graph) (charted walk.now.graph) (declared walk.now.declaration) (uses_in walk.now.mine.now) result }
+    ensures stamped { Stamped stamp search.new.marks.now }
 {
-    let nodes = live_walk(graph, mine, search, declaration);
-    let first = first_unassigned_use(mine, search);
+    let nodes = walk.live_walk(search, stamp);
+    let first = first_unassigned_use(walk.mine, search);
     Walked { nodes, first }
 }

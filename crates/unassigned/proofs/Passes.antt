@@ -9,11 +9,10 @@ use native.Mathlib.Decide.{ℕ_discrete}
 use lib.ListN.{length, set, drop, length-set, length-map}
 use lib.Seq.{get_or-set_same, get_or-set_other, drop-set-lt, drop-drop}
 use Rattle.search.specs.declared.Search.{Search}
-use Rattle.search.specs.Worklist.{State, st}
 use Rattle.search.specs.Stamps.{Stamped, Unmarked}
-use Rattle.search.specs.Running.{state_of, SameColumns}
-use Rattle.search.proofs.Stamps.{unmarked_after, fresh_stamped}
-use Rattle.search.proofs.Running.{same_none, same_on}
+use Rattle.search.specs.Running.{SameColumns}
+use Rattle.search.proofs.Stamps.{unmarked_after, unmarked_still}
+use Rattle.search.proofs.Running.{same_on}
 use Rattle.flow.specs.Findings.{unassigned_of, of_each}
 use Rattle.flow.specs.Judge.{words_of}
 use Rattle.flow.proofs.Few.{all_unassigned_few}
@@ -28,26 +27,13 @@ pub record Going (n ℓ : ℕ) (e s : Search) : Type 0 where
   pub same : SameColumns e s
   pub unmarked : Unmarked (ℓ + 1) n s.marks.now s.stack.now
 
-module _ {n ℓ : ℕ} {e s : Search} (g : Going n ℓ e s) {b : Search} (c : SameColumns s b) (q : (state_of b ≡ st s.marks.now s.stack.now 0) × (b.stamp ≡ ℓ + 1)) where
-  marks_kept : b.marks.now ≡ s.marks.now
-  marks_kept = ap (λ (x : State). x.marks) q.0
+module _ {n ℓ : ℕ} {e s : Search} (g : Going n ℓ e s) where
+  -- a walk is over, or none was due
+  pub going_on : {t : Search} → SameColumns s t → Stamped (ℓ + 1) t.marks.now → Going n (ℓ + 1) e t
+  going_on d r = record { same = same_on g.same d; unmarked = unmarked_after (omega arith) g.unmarked r d.marks_len d.stack_len }
 
-  stack_kept : b.stack.now ≡ s.stack.now
-  stack_kept = ap (λ (x : State). x.stack) q.0
-
-  -- it has begun
-  pub going_begun : Unmarked b.stamp n b.marks.now b.stack.now × (b.top ≡ 0)
-  going_begun = (rw (q.1, marks_kept, stack_kept) g.unmarked, ap (λ (x : State). x.top) q.0)
-
-  -- it is over, or none was due
-  pub going_on : {t : Search} → SameColumns b t → Stamped b.stamp t.marks.now → Going n (ℓ + 1) e t
-  going_on d r = record {
-    same = same_on g.same (same_on c d);
-    unmarked = unmarked_after (omega arith) g.unmarked (rw q.1 at r) (d.marks_len ∙ c.marks_len) (d.stack_len ∙ c.stack_len);
-  }
-
-  pub going_still : Going n (ℓ + 1) e b
-  going_still = going_on (same_none b) (rw (q.1, marks_kept) (fresh_stamped (ℓ + 1) s.marks.now g.unmarked.fresh))
+  pub going_still : Going n (ℓ + 1) e s
+  going_still = record { same = g.same; unmarked = unmarked_still (omega arith) g.unmarked }
 
 module _ (S U : List ℕ) where
   -- ---- the mark figures

@@ -4,17 +4,16 @@
 ghost use Rattle.std.specs.Prelude.{◌≡◌, true, ◌+◌, ◌<◌, ◌≤◌, length};
 ghost use Rattle.search.specs.Running.{SameColumns};
 ghost use Rattle.search.specs.Stamps.{Stamped, Unmarked};
-ghost use Rattle.use_words.specs.Words.{uses_in, AllPlaced};
+ghost use Rattle.use_words.specs.Words.{uses_in};
 ghost use Rattle.live_steps.specs.Walk.{nodes_of, charted, declared};
 ghost use Rattle.locals.specs.Entries.{Room, AddsTo};
 ghost use Rattle.unassigned.specs.Words.{words_at, unassigned_words, visits};
 ghost use Rattle.unassigned.specs.Pass.{AnyPass, ListsUnassigned};
 
-use live_steps::{FlowGraph, LocalDeclaration};
+use live_walk::LocalWalk;
 use local_walk::walk_local;
 use locals::{FindingList, PassTables};
 use search::Search;
-use use_words::PlacedUse;
 use words::finding::{LOCAL, USE};
 
 // The finding of a walk, if it found a use.
@@ -28,24 +27,21 @@ fn push_found(findings: &mut FindingList<'_>, local: usize, first: Option<u16>)
     }
 }
 
-// The finding of one local with the uses `mine`. The result is its mark figure: how many nodes the walk visits.
+// The finding of one local. Its stamp is its number + 1. The result is its mark figure: how many nodes the walk visits.
 fn list_local(
-    graph: &FlowGraph<'_>,
-    mine: &[PlacedUse],
+    walk: &LocalWalk<'_>,
     search: &mut Search<'_>,
     findings: &mut FindingList<'_>,
-    declaration: LocalDeclaration,
     local: usize,
 ) -> usize
-    requires unmarked { Unmarked search.old.stamp (nodes_of graph.now) search.old.marks.now search.old.stack.now × (search.old.top ≡ 0) }
-    requires placed { AllPlaced (nodes_of graph.now) mine.now }
+    requires unmarked { Unmarked (local + 1) (nodes_of walk.now.graph) search.old.marks.now search.old.stack.now }
     requires room { (local < 1024) × Room 1 findings.old.count findings.old.words.now }
-    ensures same { SameColumns search.old search.new × (search.new.stamp ≡ search.old.stamp) }
-    ensures adds { AddsTo (unassigned_words true local (charted graph.now) (declared declaration) (uses_in mine.now)) findings.old findings.new }
-    ensures figure { result ≡ visits true (nodes_of graph.now) (charted graph.now) (declared declaration) (uses_in mine.now) }
-    ensures stamped { Stamped search.old.stamp search.new.marks.now }
+    ensures same { SameColumns search.old search.new }
+    ensures adds { AddsTo (unassigned_words true local (charted walk.now.graph) (declared walk.now.declaration) (uses_in walk.now.mine.now)) findings.old findings.new }
+    ensures figure { result ≡ visits true (nodes_of walk.now.graph) (charted walk.now.graph) (declared walk.now.declaration) (uses_in walk.now.mine.now) }
+    ensures stamped { Stamped (local + 1) search.new.marks.now }
 {
-    let walked = walk_local(graph, mine, search, declaration);
+    let walked = walk_local(walk, search, local as u16 + 1);
     push_found(findings, local, walked.first);
     walked.nodes
 }
@@ -65,16 +61,13 @@ pub fn list_unassigned(
     ensures few { findings.new.count ≤ findings.old.count + length pass.now.facts.now }
 {
     for (local, name) in pass.facts.iter().enumerate() {
-        search.begin(local as u16 + 1);
         let visited = if name.is_due() {
-            list_local(
-                &pass.graph,
-                pass.uses.of(local),
-                search,
-                findings,
-                pass.names.of(local),
-                local,
-            )
+            let walk = LocalWalk {
+                graph: pass.graph,
+                mine: pass.uses.of(local),
+                declaration: pass.names.of(local),
+            };
+            list_local(&walk, search, findings, local)
         } else {
             0
         };

@@ -32,17 +32,16 @@ pub loop-local-preserved : goal.loop-local-preserved
 loop-local-preserved c =
     let h = c.loop-local-test.true in
     let g = c.loop-local.invariant.0 in
-    let b = c.begin.ensures in
     elim c.if-is_due.branch [
       | then-is_due w ↦ (
-        rw w.search-is (going_on g b.same b.begun w.list_local-visited.ensures.same.0 w.list_local-visited.ensures.stamped),
+        rw w.search-is (going_on g w.list_local-visited.ensures.same w.list_local-visited.ensures.stamped),
         λ S U p.
             let due = sym w.if-is_due.true ∙ c.is_due.ensures ∙ due_told _ (local_at S c.loop-local.local) (all_found (uses_of S U c.loop-local.local)) (p.table.known.facts_are c.loop-local.local h) in
             let there = declared_at p.named c.loop-local.local h w.of-then-is_due.result w.of-then-is_due.ensures.0 w.of-then-is_due.ensures.1 in
             listing_more S U (c.loop-local.invariant.1 S U p) (omega arith) (omega arith) (rw (← w.findings-is, local_words p c.loop-local.local h true due _ there _ w.of.ensures) at w.list_local-visited.ensures.adds) (ap (set c.loop-local.mark c.loop-local.local) (w.visited-is ∙ w.list_local-visited.ensures.figure ∙ local_figure p c.loop-local.local h true due _ there _ w.of.ensures)),
       )
       | else-is_due w ↦ (
-        rw w.search-is (going_still g b.same b.begun),
+        rw w.search-is (going_still g),
         λ S U p.
             let due = sym w.if-is_due.false ∙ c.is_due.ensures ∙ due_told _ (local_at S c.loop-local.local) (all_found (uses_of S U c.loop-local.local)) (p.table.known.facts_are c.loop-local.local h) in
             listing_more S U (c.loop-local.invariant.1 S U p) (omega arith) (omega arith) (rw (w.findings-is, ← local_words p c.loop-local.local h false due _ refl _ refl) (added_none _ _, refl)) (ap (set c.loop-local.mark c.loop-local.local) (w.visited-is ∙ local_figure p c.loop-local.local h false due _ refl _ refl)),

@@ -1,13 +1,13 @@
--- `live_walk::seed` meets its contract: what the uses from the turn's on push now is what all push from the start.
+-- `live_walk::LocalWalk::seed` meets its contract: what the uses from the turn's on push now is what all push from the start.
 -- Assumes nothing.
 use Rattle.live_walk.proofs.Walk.{seed_none, seed_turn, seed_over}
-use Rattle.live_walk.proofs.seed.Goals as goal
+use Rattle.live_walk.proofs.LocalWalk.seed.Goals as goal
 
 pub loop-used-init : goal.loop-used-init
-loop-used-init c = seed_none c.requires.0
+loop-used-init c = seed_none c.requires
 
 pub push_after-requires : goal.push_after-requires
-push_after-requires c = (rw c.loop-used.invariant.stamp c.loop-used.invariant.ready, c.requires.1 _ _ c.loop-used-test.true)
+push_after-requires c = (rw c.loop-used.invariant.stamp c.loop-used.invariant.ready, c.args.self.now.placed _ _ c.loop-used-test.true)
 
 pub loop-used-preserved : goal.loop-used-preserved
 loop-used-preserved c = seed_turn c.loop-used.invariant c.loop-used-test.true c.push_after.ensures.same c.push_after.ensures.pushed
