@@ -1,83 +1,53 @@
 -- A scope's note, by that of its parent.
 -- Assumes nothing.
+use Rattle.std.specs.Prelude.{Option, Some, None}
 use mathlib.Core.Path.{◌≡◌, sym, ap, ◌∙◌, subst}
-use mathlib.Core.Bool.{Bool, true, false, cond}
+use mathlib.Core.Bool.{cond}
 use mathlib.Core.List.{List}
-use Prim.Native.Nat.{ℕ, zero, suc, ◌+◌, ◌-◌, ◌*◌, ◌≤◌, ◌<◌}
+use Prim.Native.Nat.{ℕ, zero, suc, ◌+◌, ◌*◌, ◌<◌}
 use native.Mathlib.Omega.{arith}
 use native.Mathlib.Decide.{ℕ_discrete}
 use lib.ListN.{length, get_or, set}
 use lib.Seq.{get_or-set_same, get_or-set_other}
 use lib.Dec.{eqb}
 use Rattle.flow.specs.Scopes.{FUNCTION, Lower}
-use Rattle.crossing.specs.Tables.{function_over, Over, here, up, jump_in, function_in, Note, Noted}
-use Rattle.crossing.proofs.Tables.{function_low, over_low, over_trans}
-
--- the fields of a note
-module _ (j l f : ℕ) (h : j < 1024) (q : l < 1024) where
-  jump_cut : jump_in (j + 1024 * l + 1048576 * f) ≡ j
-  jump_cut = omega arith
-
-  function_cut : function_in (j + 1024 * l + 1048576 * f) ≡ f
-  function_cut = omega arith
+use Rattle.crossing.specs.declared.Note.{Note}
+use Rattle.crossing.specs.Tables.{function_over, here, up, NoteOf, no_note, Noted}
+use Rattle.crossing.proofs.Tables.{over_trans}
 
 module _ (kinds parents : List ℕ) (s : ℕ) where
-  -- with a jump to j, and the Function over s
-  made : (j l f : ℕ) → j < 1024 → l < 1024 → Over parents s j → ((k : ℕ) → s < k → f ≡ function_over k kinds parents s) → Note kinds parents s (j + 1024 * l + 1048576 * f)
-  made j l f h q o t = record { function = λ k e. function_cut j l f h q ∙ t k e; jump = subst (Over parents s) (sym (jump_cut j l f h q)) o }
+  -- the nearest Function, where f is it above
+  abbrev pub nearest : Option ℕ → Option ℕ
+  nearest f = cond (eqb (get_or kinds s 0) FUNCTION) (Some s) f
 
-  root_function : {f : ℕ} → get_or parents s 0 ≡ 0 → f ≡ cond (eqb (get_or kinds s 0) FUNCTION) (s + 1) 0 → (k : ℕ) → s < k → f ≡ function_over k kinds parents s
+  root_function : {f : Option ℕ} → get_or parents s 0 ≡ 0 → f ≡ nearest None → (k : ℕ) → s < k → f ≡ function_over k kinds parents s
   unfolding function_over
   root_function e g zero h = absurd (omega arith)
   root_function e g (suc k) h = g ∙ sym (rw e)
 
-  pub note_root : {f : ℕ} → s < 512 → get_or parents s 0 ≡ 0 → f ≡ cond (eqb (get_or kinds s 0) FUNCTION) (s + 1) 0 → Note kinds parents s (s + 1048576 * f)
-  note_root {f} h e g =
-      let z : s + 1024 * 0 + 1048576 * f ≡ s + 1048576 * f = omega arith in
-      subst (Note kinds parents s) z (made s 0 f (omega arith) (omega arith) here (root_function e g))
+  pub note_root : {f : Option ℕ} → get_or parents s 0 ≡ 0 → f ≡ nearest None → NoteOf kinds parents s (record { function = f; jump = s; passed = 0 })
+  note_root e g = record { function = root_function e g; jump = here; passed = omega arith }
 
-  one_up : (k q : ℕ) → get_or parents s 0 ≡ suc q → function_over (suc k) kinds parents s ≡ cond (eqb (get_or kinds s 0) FUNCTION) (s + 1) (function_over k kinds parents q)
-  unfolding function_over
-  one_up k q e = rw e
+  module _ (low : Lower parents) (p : ℕ) (e : get_or parents s 0 ≡ p + 1) where
+    one_up : (k : ℕ) → function_over (suc k) kinds parents s ≡ nearest (function_over k kinds parents p)
+    unfolding function_over
+    one_up k = let z : get_or parents s 0 ≡ suc p = e ∙ omega arith in rw z
 
-  module _ (low : Lower parents) (h : s < 512) (n : get_or parents s 0 ≡ 0 → ⊥) where
-    abbrev p : ℕ
-    p = get_or parents s 0 - 1
-
-    is_parent : get_or parents s 0 ≡ p + 1
-    is_parent = omega arith
-
-    up_function : {f w : ℕ} → Note kinds parents p w → f ≡ cond (eqb (get_or kinds s 0) FUNCTION) (s + 1) (function_in w) → (k : ℕ) → s < k → f ≡ function_over k kinds parents s
+    up_function : {f : Option ℕ} {w : Note} → NoteOf kinds parents p w → f ≡ nearest w.function → (k : ℕ) → s < k → f ≡ function_over k kinds parents s
     up_function m g zero l = absurd (omega arith)
-    up_function m g (suc k) l = g ∙ ap (cond (eqb (get_or kinds s 0) FUNCTION) (s + 1)) (m.function k (omega (arith, low s))) ∙ sym (one_up k p (omega arith))
+    up_function m g (suc k) l = g ∙ ap nearest (m.function k (omega (arith, low s))) ∙ sym (one_up k)
 
     -- to the parent
-    pub note_up : {f w : ℕ} → Note kinds parents p w → f ≡ cond (eqb (get_or kinds s 0) FUNCTION) (s + 1) (function_in w) → Note kinds parents s (p + 1024 + 1048576 * f)
-    note_up {f} m g =
-        let z : p + 1024 * 1 + 1048576 * f ≡ p + 1024 + 1048576 * f = omega arith in
-        subst (Note kinds parents s) z (made p 1 f (omega (arith, low s)) (omega arith) (up is_parent here) (up_function m g))
+    pub note_up : {f : Option ℕ} {w : Note} → NoteOf kinds parents p w → f ≡ nearest w.function → NoteOf kinds parents s (record { function = f; jump = p; passed = 1 })
+    note_up m g = record { function = up_function m g; jump = up e here; passed = omega (arith, low s) }
 
     -- past the parent's jump and the one behind it
-    pub note_far : (l : ℕ) {f w v : ℕ} → l < 1024 → Note kinds parents p w → Note kinds parents (jump_in w) v → f ≡ cond (eqb (get_or kinds s 0) FUNCTION) (s + 1) (function_in w) → Note kinds parents s (jump_in v + 1024 * l + 1048576 * f)
-    note_far l {f} {w} {v} q m r g =
-        let o : Over parents s (jump_in v) = up is_parent (over_trans parents low m.jump r.jump) in
-        made (jump_in v) l f (omega arith) q o (up_function m g)
-
--- a Function's number is small
-pub function_few : {f : ℕ} (b : Bool) (s y : ℕ) → s < 512 → y ≤ 512 → f ≡ cond b (s + 1) y → f ≤ 512
-function_few true s y h q e = omega (arith, e)
-function_few false s y h q e = omega (arith, e)
-
-module _ {kinds parents : List ℕ} (low : Lower parents) {p w : ℕ} (n : Note kinds parents p w) where
-  pub jump_low : jump_in w ≤ p
-  jump_low = over_low parents low n.jump
-
-  pub above_few : p < 511 → function_in w ≤ 512
-  above_few h = omega (arith, n.function (suc p) (omega arith), function_low kinds parents low (suc p) p)
+    pub note_far : {f : Option ℕ} {w v : Note} → NoteOf kinds parents p w → NoteOf kinds parents w.jump v → w.passed ≡ v.passed → f ≡ nearest w.function → NoteOf kinds parents s (record { function = f; jump = v.jump; passed = 2 * w.passed + 1 })
+    note_far m r q g = record { function = up_function m g; jump = up e (over_trans parents low m.jump r.jump); passed = omega (arith, low s, m.passed, r.passed) }
 
 -- one more scope is noted
-pub noted_one : (kinds parents notes : List ℕ) (s w : ℕ) → s < length notes → Noted kinds parents s notes → Note kinds parents s w → Noted kinds parents (s + 1) (set notes s w)
+pub noted_one : (kinds parents : List ℕ) (notes : List Note) (s : ℕ) (w : Note) → s < length notes → Noted kinds parents s notes → NoteOf kinds parents s w → Noted kinds parents (s + 1) (set notes s w)
 noted_one kinds parents notes s w h n m t l = elim (ℕ_discrete t s) [
-  | yes e ↦ rw (e, get_or-set_same notes s w 0 h) m
-  | no q ↦ subst (Note kinds parents t) (sym (get_or-set_other notes s t w 0 q)) (n t (omega arith))
+  | yes e ↦ rw (e, get_or-set_same notes s w no_note h) m
+  | no q ↦ subst (NoteOf kinds parents t) (sym (get_or-set_other notes s t w no_note q)) (n t (omega arith))
 ]

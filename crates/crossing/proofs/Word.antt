@@ -1,58 +1,76 @@
 -- A use's crossing by the parts of an admitted scope sheet, and the uses' words one after the other.
 -- Assumes nothing.
-use mathlib.Core.Path.{◌≡◌, refl, sym, ap, ◌∙◌, subst, subst₂}
-use mathlib.Core.Bool.{Bool}
+use mathlib.Core.Path.{◌≡◌, refl, sym, ap, ◌∙◌, subst}
 use mathlib.Core.List.{List, [], ◌∷◌, ◌++◌}
 use Prim.Native.Nat.{ℕ, zero, suc, ◌+◌, ◌*◌, ◌≤◌, ◌<◌}
 use native.Mathlib.Numerals.{add-one}
 use native.Mathlib.Omega.{arith}
-use lib.ListN.{length, get_or, set, take, drop, length-drop, length-set}
-use lib.Seq.{take-length}
-use Rattle.flow.specs.Sheet.{count_word}
-use Rattle.flow.specs.Scopes.{scope_kinds, parent_words, scope_numbers, name_scope, use_scope, Lower, crosses, crosses_by, crosses_at, with_crossing, crossed_from}
+use native.Mathlib.Decide.{dec_lt}
+use lib.ListN.{length, get_or, set, take, drop, length-take, length-drop, length-set, drop_of_length-le}
+use lib.Seq.{take-length, get_or-take, get_or-drop, drop-cons}
+use Rattle.flow.specs.Sheet.{count_word, local_of}
+use Rattle.flow.specs.Scopes.{scope_kinds, parent_words, scope_numbers, Lower, crosses, crosses_at, with_crossing, crossed_from}
 use Rattle.flow.specs.Admitted.{AdmittedScopes}
-use Rattle.crossing.specs.Tables.{Noted, Jumping, ScopesNoted}
+use Rattle.crossing.specs.Tables.{names_before}
 use Rattle.scope_parts.specs.Parts.{ScopesCounted}
 use Rattle.scope_parts.proofs.Parts.{kinds_long, parents_long}
 
--- ---- one use
+-- the next of a list that is passed up to a place
+pub next_at : (k : ℕ) (l : List ℕ) {x : ℕ} {rest : List ℕ} → drop k l ≡ x ∷ rest → (k < length l) × (x ≡ get_or l k 0) × (rest ≡ drop (k + 1) l)
+next_at k l e = elim (dec_lt k (length l)) [
+  | yes h ↦ let d : drop k l ≡ get_or l k 0 ∷ drop (k + 1) l = rw (add-one, drop-cons l k 0 h) in (h, cc, cc)
+  | no q ↦ absurd (let d : drop k l ≡ [] = drop_of_length-le l (omega arith) in cc)
+]
 
-module _ {names uses : ℕ} {C : List ℕ} (a : AdmittedScopes names uses C) where
-  pub counted : ScopesCounted C
-  counted = record { few = a.few; long = omega (arith, a.words) }
+-- ---- the parts of an admitted scope sheet
 
-  pub numbers_long : {numbers : List ℕ} → numbers ≡ scope_numbers C → length numbers ≡ names + uses
-  numbers_long n = ap length n ∙ omega (arith, length-drop (1 + 2 * count_word C) C, a.words)
+-- its arrays, the scopes of names, and those of uses
+pub record Parted (ws C kinds parents front back : List ℕ) : Type 0 where
+  pub admitted : AdmittedScopes (names_before ws C) (length ws) C
+  pub kinds_are : kinds ≡ scope_kinds C
+  pub parents_are : parents ≡ parent_words C
+  pub front_is : front ≡ take (names_before ws C) (scope_numbers C)
+  pub back_is : back ≡ drop (names_before ws C) (scope_numbers C)
 
-  lower : {parents : List ℕ} → parents ≡ parent_words C → Lower parents
-  lower p = subst Lower (sym p) a.lower
+pub counted : (ws : List ℕ) {C : List ℕ} → AdmittedScopes (names_before ws C) (length ws) C → ScopesCounted C
+counted ws a = record { few = a.few; long = omega (arith, a.words) }
 
-  many : {parents : List ℕ} → parents ≡ parent_words C → length parents ≡ count_word C
-  many p = ap length p ∙ parents_long C counted
+pub numbers_long : (ws : List ℕ) {C : List ℕ} → AdmittedScopes (names_before ws C) (length ws) C → length (scope_numbers C) ≡ names_before ws C + length ws
+numbers_long ws {C} a = omega (arith, length-drop (1 + 2 * count_word C) C, a.words)
 
-  -- what is asked before the scopes are noted, and what is known of them then
-  module _ {kinds parents : List ℕ} (k : kinds ≡ scope_kinds C) (p : parents ≡ parent_words C) where
-    as_many : length kinds ≡ count_word C
-    as_many = ap length k ∙ kinds_long C counted
+module _ {ws C kinds parents front back : List ℕ} (t : Parted ws C kinds parents front back) where
+  abbrev names : ℕ
+  names = names_before ws C
 
-    pub notes_ask : {n : ℕ} → n ≡ 512 → (length kinds ≡ length parents) × (length kinds ≤ 512) × (length kinds ≤ n) × Lower parents
-    notes_ask e = (as_many ∙ sym (many p), omega (arith, as_many, a.few), omega (arith, as_many, a.few, e), lower p)
+  many : length kinds ≡ count_word C
+  many = ap length t.kinds_are ∙ kinds_long C (counted ws t.admitted)
 
-    pub notes_tell : (notes : List ℕ) → length notes ≡ 512 → Noted kinds parents (length kinds) notes → ScopesNoted C notes
-    notes_tell notes h t = (h, subst₂ (λ (y x : List ℕ). Noted y x (length x) notes) k p (λ s l. t s (omega (arith, as_many, many p))))
+  pub chains_hold : (length kinds ≡ length parents) × (length kinds ≤ 512) × Lower parents
+  chains_hold = (many ∙ sym (ap length t.parents_are ∙ parents_long C (counted ws t.admitted)), omega (arith, many, t.admitted.few), subst Lower (sym t.parents_are) t.admitted.lower)
 
-  module _ {numbers parents : List ℕ} (notes : List ℕ) (n : numbers ≡ scope_numbers C) (p : parents ≡ parent_words C) (t : ScopesNoted C notes) (ℓ u : ℕ) (g : ℓ < names) (h : u < uses) where
-    inside : (i : ℕ) → i < names + uses → get_or numbers i 0 < length parents
-    inside i l = subst (λ (z : List ℕ). get_or z i 0 < length parents) (sym n) (omega (arith, a.inside i l, many p))
+  inside : (i : ℕ) → i < names + length ws → get_or (scope_numbers C) i 0 < length kinds
+  inside i h = rw many (t.admitted.inside i h)
 
-    noted : Noted (scope_kinds C) parents (length parents) notes
-    noted = subst (λ (z : List ℕ). Noted (scope_kinds C) z (length z) notes) (sym p) t.1
+  pub names_long : length front ≡ names
+  names_long = omega (arith, ap length t.front_is, length-take names (scope_numbers C))
 
-    pub chain_asks : ((get_or numbers (names + u) 0 < length parents) × (get_or numbers ℓ 0 < length parents) × (length parents ≤ length notes) × (length parents ≤ 512)) × (Lower parents × Jumping parents notes)
-    chain_asks = ((inside (names + u) (omega arith), inside ℓ (omega arith), omega (arith, many p, t.0, a.few), omega (arith, many p, a.few)), (lower p, λ s l. (noted s l).jump))
+  pub uses_long : length back ≡ length ws
+  uses_long = omega (arith, ap length t.back_is, length-drop names (scope_numbers C), numbers_long ws t.admitted)
 
-    pub chain_tells : {b : Bool} → ((kinds : List ℕ) → Noted kinds parents (length parents) notes → (j : ℕ) → get_or numbers (names + u) 0 < j → b ≡ crosses j kinds parents (get_or numbers ℓ 0) (get_or numbers (names + u) 0)) → b ≡ crosses_by C (name_scope C ℓ) (use_scope names C u)
-    chain_tells {b} tells = subst₂ (λ (z x : List ℕ). b ≡ crosses (count_word C) (scope_kinds C) x (get_or z ℓ 0) (get_or z (names + u) 0)) n p (tells (scope_kinds C) noted (count_word C) (omega (arith, inside (names + u) (omega arith), many p)))
+  name_at : (ℓ : ℕ) → ℓ < names → get_or front ℓ 0 ≡ get_or (scope_numbers C) ℓ 0
+  name_at ℓ h = rw t.front_is (get_or-take names (scope_numbers C) ℓ 0 h)
+
+  use_at : (u : ℕ) → get_or back u 0 ≡ get_or (scope_numbers C) (names + u) 0
+  use_at u = rw t.back_is (get_or-drop names (scope_numbers C) u 0)
+
+  pub name_inside : (ℓ : ℕ) → ℓ < length front → get_or front ℓ 0 < length kinds
+  name_inside ℓ h = let l : ℓ < names = omega (arith, names_long) in rw (name_at ℓ l) (inside ℓ (omega arith))
+
+  pub use_inside : (u : ℕ) → u < length ws → get_or back u 0 < length kinds
+  use_inside u h = rw (use_at u) (inside (names + u) (omega arith))
+
+  pub crosses_is : (u w : ℕ) → local_of w < names → crosses (length kinds) kinds parents (get_or front (local_of w) 0) (get_or back u 0) ≡ crosses_at names C u w
+  crosses_is u w h = rw (name_at (local_of w) h, use_at u, many, t.kinds_are, t.parents_are)
 
 -- ---- all uses: i of the words ws are passed in a column that was `old`
 

@@ -3,9 +3,9 @@
 use mathlib.Core.Path.{◌≡◌, refl, sym, ap, ap₂, ◌∙◌, subst, subst₂}
 use mathlib.Core.Bool.{true, false}
 use mathlib.Core.List.{List, [], ◌∷◌, ◌++◌}
-use Prim.Native.Nat.{ℕ, ◌≤◌, ◌<◌}
+use Prim.Native.Nat.{ℕ, ◌+◌, ◌*◌, ◌≤◌, ◌<◌}
 use native.Mathlib.Omega.{arith}
-use lib.ListN.{length, get_or, take}
+use lib.ListN.{length, get_or, take, length-drop}
 use lib.Seq.{take_at}
 use borrow.Author.Tests.{not-false}
 use Rattle.flow.specs.Sheet.{count_word, items, use_words, use_spans, local_of}
@@ -13,6 +13,7 @@ use Rattle.flow.specs.Refusals.{name_count}
 use Rattle.flow.specs.Scopes.{use_sheet, crossed_from, crossed, scopes_fit, scopes_wrong, bad_scopes}
 use Rattle.flow.specs.Admitted.{AdmittedSheet, AdmittedUses, AdmittedScopes}
 use Rattle.flow.specs.declared.Counts.{Counts}
+use Rattle.crossing.specs.Tables.{names_before}
 use Rattle.chart.specs.Lent.{Columns}
 use Rattle.findings.specs.Accepted.{FindingsLent, Searchable, FindingsWritten}
 use Rattle.flow.proofs.Scopes.{crossed_length, sheet_again, admitted_scopes}
@@ -47,6 +48,10 @@ module _ (S U C : List ℕ) (a : AdmittedUses S U) where
         go : (D : List ℕ) → (length D ≡ 0 → ⊥) → scopes_wrong (name_count (items S)) (count_word U) D ≡ false → scopes_fit (name_count (items S)) (count_word U) D ≡ true
         go [] z q = absurd (z refl)
         go (d ∷ D) z q = not-false _ q
+
+    -- how many names it counts
+    pub names_are : {ws : List ℕ} → ws ≡ use_words U → bad_scopes S U C ≡ false → names_before ws C ≡ name_count (items S)
+    names_are {ws} p e = omega (arith, length-drop (1 + 2 * count_word C) C, (scopes_fit_law (name_count (items S)) refl p e).words)
 
   pub locals_known : (names : ℕ) {ws : List ℕ} → names ≡ name_count (items S) → ws ≡ use_words U → (u : ℕ) → u < length ws → local_of (get_or ws u 0) < names
   locals_known names {ws} n p u h =

@@ -38,7 +38,7 @@ pub fn find_scoped(
         return find_all(sheet, use_words, use_spans, chart, found, counts);
     }
     let mut words = [0u64; ITEMS];
-    replace_crossings(scopes, use_words, &mut words, counts.names);
+    replace_crossings(scopes, use_words, &mut words);
     find_all(
         sheet,
         &words[..use_words.len()],

@@ -6,11 +6,14 @@ use mathlib.Core.List.{List}
 use native.Mathlib.Omega.{arith}
 use lib.ListN.{length, take, length-replicate}
 use lib.Seq.{length-take-le}
+use Rattle.flow.specs.Sheet.{items}
+use Rattle.flow.specs.Refusals.{name_count}
 use Rattle.flow.specs.Scopes.{use_sheet, crossed}
 use Rattle.flow.specs.Admitted.{AdmittedUses}
 use Rattle.flow.proofs.Scopes.{crossed_admitted}
+use Rattle.crossing.specs.Tables.{names_before}
 use Rattle.chart.specs.Loan.{cells}
-use Rattle.scoped_findings.proofs.Uses.{as_supplied, as_replaced, scopes_fit_law, locals_known, few_names_law, searched, written}
+use Rattle.scoped_findings.proofs.Uses.{as_supplied, as_replaced, scopes_fit_law, names_are, locals_known, searched, written}
 use Rattle.scoped_findings.proofs.find_scoped.Goals as goal
 use Rattle.scoped_findings.proofs.find_scoped.Goals.{After-replace_crossings, After-use_spans-use_spans}
 
@@ -28,6 +31,10 @@ C c = c.args.scopes.now
 supplied : (d : After-use_spans-use_spans) → length (C d) ≡ 0 → use_sheet d.use_words-use_words.result.now d.use_spans-use_spans.result.now ≡ crossed (S d) (U d) (C d)
 supplied d none = as_supplied (S d) (U d) (C d) d.requires.admitted_sheet.1 none d.use_words-use_words.ensures d.use_spans-use_spans.ensures
 
+-- one has
+names : (d : After-use_spans-use_spans) → (length (C d) ≡ 0 → ⊥) → names_before d.use_words-use_words.result.now (C d) ≡ name_count (items (S d))
+names d some = names_are (S d) (U d) (C d) d.requires.admitted_sheet.1 some d.use_words-use_words.ensures d.requires.admitted_sheet.2
+
 -- ---- where the words are replaced
 abbrev ws : (c : After-replace_crossings) → List ℕ
 ws c = c.use_words-use_words.result.now
@@ -41,7 +48,7 @@ room c = omega (arith, ap length c.use_words-use_words.ensures, length-replicate
 replaced : (c : After-replace_crossings) → use_sheet (take (length (ws c)) (column c)) c.use_spans-use_spans.result.now ≡ crossed (S (goal.at.After-replace_crossings c).After-use_spans-use_spans) (U (goal.at.After-replace_crossings c).After-use_spans-use_spans) (C (goal.at.After-replace_crossings c).After-use_spans-use_spans)
 replaced c =
     let d = (goal.at.After-replace_crossings c).After-use_spans-use_spans in
-    as_replaced (S d) (U d) (C d) c.requires.admitted_sheet.1 c.if-bare.false _ (ws c) _ c.requires.admitted_sheet.3 c.use_words-use_words.ensures c.use_spans-use_spans.ensures c.replace_crossings.ensures refl
+    as_replaced (S d) (U d) (C d) c.requires.admitted_sheet.1 c.if-bare.false _ (ws c) _ (names d c.if-bare.false) c.use_words-use_words.ensures c.use_spans-use_spans.ensures c.replace_crossings.ensures refl
 
 pub find_all-requires : goal.find_all-requires
 find_all-requires c =
@@ -56,7 +63,8 @@ pub replace_crossings-requires : goal.replace_crossings-requires
 replace_crossings-requires c =
     let d = (goal.at.replace_crossings-requires c).After-use_spans-use_spans in
     let many = ap length c.use_words-use_words.ensures ∙ c.requires.admitted_sheet.1.uses in
-    record { admitted_scopes = (scopes_fit_law (S d) (U d) (C d) c.requires.admitted_sheet.1 c.if-bare.false _ c.requires.admitted_sheet.3 c.use_words-use_words.ensures c.requires.admitted_sheet.2, omega (arith, few_names_law c.requires.admitted_sheet.0 c.requires.admitted_sheet.1), omega (arith, many)); use_words_in_bounds = (omega (arith, many, length-replicate {A = ℕ} 1024 0), locals_known (S d) (U d) (C d) c.requires.admitted_sheet.1 _ c.requires.admitted_sheet.3 c.use_words-use_words.ensures) }
+    let n = names d c.if-bare.false in
+    record { admitted_scopes = scopes_fit_law (S d) (U d) (C d) c.requires.admitted_sheet.1 c.if-bare.false _ n c.use_words-use_words.ensures c.requires.admitted_sheet.2; use_words_in_bounds = (omega (arith, many, length-replicate {A = ℕ} 1024 0), locals_known (S d) (U d) (C d) c.requires.admitted_sheet.1 _ n c.use_words-use_words.ensures) }
 
 pub slice_bounds-words-end : goal.slice_bounds-words-end
 slice_bounds-words-end c = room (goal.at.slice_bounds-words-end c).After-replace_crossings
