@@ -9,13 +9,12 @@ use native.Mathlib.Omega.{arith}
 use native.Mathlib.Decide.{ℕ_discrete}
 use lib.ListN.{length, drop, get_or, length-drop}
 use lib.Dec.{eqb, leb, eqb-suc-zero}
-use borrow.Author.Tests.{ne_eqb, eq-eqb, le-leb, lt-leb, eqb-true, leb-true}
+use borrow.Author.Tests.{ne_eqb, le-leb, lt-leb, eqb-true, leb-true}
 use Rattle.search.proofs.Bools.{and_both}
 use Rattle.flow.specs.Sheet.{Item, kind, kind_of, argument_of, zip}
 use Rattle.flow.specs.Kinds.{kinds, closes, opens}
 use Rattle.flow.specs.Tree.{Stmt, Arms, Frame, Open, simple, do_block, while_loop, repeat_loop, for_loop, if_stmt, no_more, elseif, otherwise, nothing_read, outer, in_front, opened, read, parse, label_name, labels_of}
 use Rattle.flow.specs.Locals.{only_if}
-use Rattle.kinds.specs.Ends.{ends_block}
 use Rattle.kinds.specs.Label.{is_label}
 use Rattle.blocks.specs.Open.{open_at, labels_at, frame_at, to_come, labels_here, Ender, ends_at, depth_after, labels_in}
 use Rattle.blocks.proofs.Parse.{drop_both, read_close, read_do, read_while, read_repeat, read_for, read_if, read_elseif, read_else, read_simple}
@@ -158,10 +157,6 @@ scan_end i o (suc d) h = absurd (false≢true (sym (ends_deep (kind i) (suc d) (
 
 -- ---- the label that an item is
 
-pub here_deep : (w d : ℕ) → (d ≡ 0 → ⊥) → labels_here w d ≡ []
-unfolding labels_here
-here_deep w d q = rw (ne_eqb d 0 q)
-
 pub here_other : (w d : ℕ) → is_label w ≡ false → labels_here w d ≡ []
 unfolding labels_here
 here_other w d q = rw q (go (eqb d 0))
@@ -176,16 +171,6 @@ label_kind w e = eqb-true (kind_of w) 12 (go (eqb (kind_of w) LABEL) (not (eqb (
     go : (t u : Bool) → (t && u) ≡ true → t ≡ true
     go true u q = refl
     go false u q = q
-
-pub here_named : (w d : ℕ) → d ≡ 0 → is_label w ≡ true → labels_here w d ≡ argument_of w ∷ []
-unfolding labels_here
-here_named w d z e = rw (eq-eqb d 0 z, e)
-
--- ---- the tests of the scan
-
-pub ends_here : (k d : ℕ) → d ≡ 0 → ends_block k ≡ ends_at k d
-unfolding ends_at
-ends_here k d z = rw (eq-eqb d 0 z)
 
 -- ---- the labels that a scan has left
 
@@ -221,19 +206,10 @@ pub in_end : {ws ks : List ℕ} {k : ℕ} (d : ℕ) → ws ≡ k ∷ ks → ends
 unfolding labels_in
 in_end d h e = rw (h, e)
 
--- a label of the block comes first,
-pub in_label : {ws ks : List ℕ} {k : ℕ} (d : ℕ) → ws ≡ k ∷ ks → d ≡ 0 → ends_block (kind_of k) ≡ false → is_label k ≡ true → labels_in ws d ≡ argument_of k ∷ labels_in ks d
-unfolding labels_in depth_after
-in_label {k = k} d h z e l =
-    let here = here_named k d z l in
-    let kind = label_kind k l in
-    rw (h, sym (ends_here (kind_of k) d z) ∙ e, here, kind)
-
--- and any other item is passed
-pub in_passed : {ws ks : List ℕ} {k n : ℕ} (d : ℕ) → ws ≡ k ∷ ks → (d ≡ 0 → (ends_block (kind_of k) ≡ false) × (is_label k ≡ false)) → n ≡ depth_after (kind_of k) d → labels_in ws d ≡ labels_in ks n
+-- any other item gives the label that it is in the block, if it is one
+pub in_next : {ws ks : List ℕ} {k n : ℕ} (d : ℕ) → ws ≡ k ∷ ks → ends_at (kind_of k) d ≡ false → n ≡ depth_after (kind_of k) d → labels_in ws d ≡ labels_here k d ++ labels_in ks n
 unfolding labels_in
-in_passed {k = k} zero h q m = let e = sym (ends_here (kind_of k) 0 refl) ∙ (q refl).0 in let l = here_other k 0 (q refl).1 in rw (h, e, l, m)
-in_passed {k = k} (suc d) h q m = let e = ends_deep (kind_of k) (suc d) (λ z. omega arith) in let l = here_deep k (suc d) (λ z. omega arith) in rw (h, e, l, m)
+in_next d h e m = rw (h, e, m)
 
 pub depth_most : {n : ℕ} (k d : ℕ) → n ≡ depth_after k d → n ≤ d + 1
 unfolding depth_after

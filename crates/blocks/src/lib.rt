@@ -1,16 +1,36 @@
 // The labels that stand directly in a block, as an iterator: what the graph's builders and the label check share.
 #![tactic(auto)]
 
-ghost use Rattle.std.specs.Prelude.{◌≡◌, List, ℕ, ◌+◌, ◌-◌, ◌<◌, ◌^◌, length, drop};
+ghost use Rattle.std.specs.Prelude.{◌≡◌, option_to_list, List, ℕ, ◌+◌, ◌-◌, ◌<◌, ◌^◌, length, drop};
 ghost use Rattle.std.specs.Iterator.{YieldsFirst, item_count};
 ghost use Rattle.flow.specs.Sheet.{kind_of};
-ghost use Rattle.blocks.specs.Open.{depth_after, labels_in, labels_at};
+ghost use Rattle.blocks.specs.Open.{ends_at, labels_here, depth_after, labels_in, labels_at};
 
 use kinds::{Kind, is_block_end, is_label};
 use std::marker::Model;
 use words::ARGUMENT;
 
-// How deep a scan is past an item, by its word.
+// Whether an item ends the block that a scan started in, where so many blocks are open inside that.
+#[tactic(auto, using(std::proofs::lemmas::Bool::Decides::nat_tests), unfolding(crate::specs::Open::ends_at))]
+fn ends_at(word: u64, depth: usize) -> bool
+    ensures { result ≡ ends_at (kind_of word) depth }
+{
+    depth == 0 && is_block_end(word)
+}
+
+// The label that an item is, where it stands directly in that block.
+#[tactic(auto, using(std::proofs::lemmas::Bool::Decides::nat_tests), unfolding(crate::specs::Open::labels_here))]
+fn label_here(word: u64, depth: usize) -> Option<u64>
+    ensures { labels_here word depth ≡ option_to_list result }
+{
+    if depth == 0 && is_label(word) {
+        Some(word / ARGUMENT)
+    } else {
+        None
+    }
+}
+
+// How deep a scan is past an item.
 #[tactic(auto, using(std::proofs::lemmas::Bool::Decides::nat_tests), unfolding(crate::specs::Open::depth_after))]
 fn depth_after(word: u64, depth: usize) -> usize
     requires { depth + 1 < 2 ^ 64 }
@@ -58,18 +78,18 @@ impl<'a> Iterator for BlockLabels<'a> {
     ghost remaining = { item_count (λ labels. labels) };
 
     fn next(&mut self) -> Option<u64> {
+        // No `for`: it would borrow the field that the end of the block empties.
         while let Some((&word, rest)) = self.kinds.split_first() {
-            self.kinds = rest;
-            if self.depth == 0 {
-                if is_block_end(word) {
-                    self.kinds = &[];
-                    return None;
-                }
-                if is_label(word) {
-                    return Some(word / ARGUMENT);
-                }
+            if ends_at(word, self.depth) {
+                self.kinds = &[];
+                return None;
             }
-            self.depth = depth_after(word, self.depth);
+            let depth = self.depth;
+            self.kinds = rest;
+            self.depth = depth_after(word, depth);
+            if let Some(label) = label_here(word, depth) {
+                return Some(label);
+            }
         }
         None
     }

@@ -2,37 +2,40 @@
 -- Assumes nothing.
 use Prim.Native.Nat.{ℕ}
 use mathlib.Core.Path.{◌≡◌, refl, sym, ap, ◌∙◌}
-use mathlib.Core.List.{List, [], ◌∷◌}
-use mathlib.Core.Bool.{false}
+use mathlib.Core.List.{List, [], ◌∷◌, ◌++◌}
 use native.Mathlib.Omega.{arith}
 use lib.ListN.{length}
-use Rattle.std.proofs.lemmas.Grind.{common_steps}
-use Rattle.flow.specs.Sheet.{kind_of}
-use Rattle.kinds.specs.Ends.{ends_block}
-use Rattle.kinds.specs.Label.{is_label}
 use Rattle.blocks.specs.Open.{labels_in}
-use Rattle.blocks.proofs.Scan.{in_none, in_end, in_label, in_passed, depth_most, ends_here}
+use Rattle.blocks.proofs.Scan.{in_none, in_end, in_next, depth_most}
 use Rattle.blocks.proofs.BlockLabelsIterator.next.Goals as goal
+use Rattle.blocks.proofs.BlockLabelsIterator.next.Goals.{In-Some-label_here}
 
-pub returns-then-is_block_end-clause-steps : goal.returns-then-is_block_end-clause-steps
-returns-then-is_block_end-clause-steps c =
-    let e = in_end _ c.in-Some.ensures.cases.0 (sym (ends_here _ _ c.if-self-eq0.true) ∙ sym c.is_block_end.ensures ∙ c.if-is_block_end.true) in
-    (sym c.self.view_is ∙ sym c.loop-word.invariant.left ∙ e, in_none _ refl)
+pub returns-then-ends_at-clause-steps : goal.returns-then-ends_at-clause-steps
+returns-then-ends_at-clause-steps c = (sym c.self.view_is ∙ sym c.loop-word.invariant.left ∙ in_end _ c.in-Some.ensures.cases.0 (sym c.ends_at.ensures ∙ c.if-ends_at.true), in_none _ refl)
 
-pub returns-then-is_label-clause-steps : goal.returns-then-is_label-clause-steps
-returns-then-is_label-clause-steps c =
-    sym c.self.view_is ∙ sym c.loop-word.invariant.left ∙ in_label _ c.in-Some.ensures.cases.0 c.if-self-eq0.true (sym c.is_block_end.ensures ∙ c.if-is_block_end.false) (sym c.is_label.ensures ∙ c.if-is_label.true)
+-- the item that is looked at gives the label that it is
+label_first : (c : In-Some-label_here) → c.args.self.now ≡ c.in-Some-label_here.label ∷ labels_in c.in-Some.rest.now c.depth_after-self-inside.result
+label_first c =
+    sym c.self.view_is ∙ sym c.loop-word.invariant.left
+    ∙ in_next _ c.in-Some.ensures.cases.0 (sym c.ends_at.ensures ∙ c.if-ends_at.false) c.depth_after-self-inside.ensures
+    ∙ ap (λ (z : List ℕ). z ++ labels_in c.in-Some.rest.now c.depth_after-self-inside.result) c.in-Some-label_here.ensures
 
-pub returns-then-is_label-clause-goes : goal.returns-then-is_label-clause-goes
-returns-then-is_label-clause-goes c =
-    let e = sym c.self.view_is ∙ sym c.loop-word.invariant.left ∙ in_label _ c.in-Some.ensures.cases.0 c.if-self-eq0.true (sym c.is_block_end.ensures ∙ c.if-is_block_end.false) (sym c.is_label.ensures ∙ c.if-is_label.true) in
+pub invariant_of-self-in-Some-label_here : goal.invariant_of-self-in-Some-label_here
+invariant_of-self-in-Some-label_here c = omega (arith, c.in-Some.ensures.cases.1, depth_most _ _ c.depth_after-self-inside.ensures)
+
+pub returns-in-Some-label_here-clause-steps : goal.returns-in-Some-label_here-clause-steps
+returns-in-Some-label_here-clause-steps c = label_first (goal.at.returns-in-Some-label_here-clause-steps c).In-Some-label_here
+
+pub returns-in-Some-label_here-clause-goes : goal.returns-in-Some-label_here-clause-goes
+returns-in-Some-label_here-clause-goes c =
+    let e = label_first (goal.at.returns-in-Some-label_here-clause-goes c).In-Some-label_here in
     record { on = λ f. (tt, tt, omega (arith, ap length e)); keeps = tt; rests = λ f. tt }
 
 pub loop-word-preserved : goal.loop-word-preserved
 loop-word-preserved c =
-    let q : c.loop-word.self-inside.depth ≡ 0 → (ends_block (kind_of c.in-Some.field-0-0.now) ≡ false) × (is_label c.in-Some.field-0-0.now ≡ false) = grind (arith, common_steps) in
+    let e = in_next _ c.in-Some.ensures.cases.0 (sym c.ends_at.ensures ∙ c.if-ends_at.false) c.depth_after-self-inside.ensures in
     record {
-      left = sym (in_passed _ c.in-Some.ensures.cases.0 q c.depth_after-self-inside.ensures) ∙ c.loop-word.invariant.left;
+      left = sym (e ∙ ap (λ (z : List ℕ). z ++ labels_in c.in-Some.rest.now c.depth_after-self-inside.result) c.in_default-label_here.ensures) ∙ c.loop-word.invariant.left;
       fits = omega (arith, c.in-Some.ensures.cases.1, depth_most _ _ c.depth_after-self-inside.ensures);
     }
 
