@@ -18,8 +18,9 @@ use Rattle.flow.proofs.Lookup.{one_of_append}
 use Rattle.blocks.specs.Open.{item_at, open_at, labels_at}
 use Rattle.blocks.proofs.Parse.{read_at, read_end, read_close, read_simple, read_opener}
 use Rattle.label_sight.specs.declared.Sight.{Sight}
-use Rattle.label_sight.specs.Labels.{labels_to_come, nothing_seen, opened_sight, next_arm, closed_sight, in_block, Entered}
-use Rattle.label_sight.proofs.Scan.{entered_length, entered_block}
+use Rattle.label_sight.specs.Labels.{labels_to_come, nothing_seen, opened_sight, next_arm, closed_sight, in_block, none_repeats, Entered}
+use Rattle.label_sight.proofs.Names.{none_distinct}
+use Rattle.label_sight.proofs.Scan.{entered_length}
 use Rattle.label_check.specs.Walk.{visible, flat, bases, Holds, whole_fine, open_fine, outside_fine, Checkable, Entering, Walking, After}
 use Rattle.label_sight.proofs.Named.{made_names, outer_to_come, front_to_come, opened_to_come, simple_few, few_to_come}
 use Rattle.label_check.proofs.Fine.{Enters, front_fine, opener_fine, arm_fine, close_fine, end_fine, opener_enters, arm_enters, goto_fine, simple_fine}
@@ -109,10 +110,10 @@ module _ {ks ss : List ℕ} {j : ℕ} {x : Sight} (n : Entering ks ss j x) where
       ∙ ap (λ (z : ℕ). drop z (flat n.around)) n.holds.base
       ∙ drop-length (flat n.around)
 
-  pub entered_after : {r : Sight} {fine : Bool} → Entered (labels_at ks ss j) x r → (distinct (in_block x) ≡ true → fine ≡ distinct (in_block r)) → After ks ss j fine r
+  pub entered_after : {r : Sight} {fine : Bool} → Entered (labels_at ks ss j) x r → fine ≡ none_repeats (in_block x) (labels_at ks ss j) → After ks ss j fine r
   unfolding distinct
   entered_after {r} {fine} e o =
-      let once : fine ≡ distinct (labels_at ks ss j) = o (ap distinct none_yet) ∙ ap distinct (entered_block (base_count n.holds) e ∙ ap (λ (z : List ℕ). z ++ labels_at ks ss j) none_yet) in
+      let once : fine ≡ distinct (labels_at ks ss j) = o ∙ ap (λ (z : List ℕ). none_repeats z (labels_at ks ss j)) none_yet ∙ none_distinct [] (labels_at ks ss j) in
       let left : (b : Bool) → fine ≡ b → whole_fine (tree (zip ks ss)) ≡ (b && open_fine (open_at ks ss j) (labels_at ks ss j) n.around) = λ b t. n.left ∙ ap (λ (b : Bool). b && open_fine (open_at ks ss j) (labels_at ks ss j) n.around) (sym once ∙ t) in
       record {
         walking = λ t. record {

@@ -62,6 +62,13 @@ read_to_come {o = o} (arm as') = omega (arith, opened_to_come as' 0 (outer o), o
 read_to_come {i} {o} closer = omega (arith, opened_to_come no_more i.span o)
 read_to_come {i} {o} other = omega (arith, front_to_come (simple i.word i.span) o, simple_to_come i.word i.span)
 
+-- those of one of the blocks are among them
+pub frames_labels_law : (d : ℕ) (fs : List Frame) → length (labels_of (get_or fs d nothing_read).body) ≤ frames_labels fs
+unfolding frames_labels labels_of
+frames_labels_law d [] = omega arith
+frames_labels_law zero (f ∷ fs) = omega arith
+frames_labels_law (suc d) (f ∷ fs) = omega (arith, frames_labels_law d fs)
+
 -- ---- what is left
 
 to_come_law : (ks ss : List ℕ) → length ss ≡ length ks → labels_to_come (parse (zip ks ss)) ≤ named ks

@@ -1,8 +1,8 @@
 -- Names in lists: which of them stand in a joined list, and when one stands there twice.
 -- Assumes nothing.
 use mathlib.Core.Path.{◌≡◌, refl, sym, ap, ◌∙◌}
-use mathlib.Core.List.{List, [], ◌∷◌, ◌++◌}
-use mathlib.Core.Bool.{Bool, true, false, ◌&&◌, ◌||◌, not, or-true, or-false}
+use mathlib.Core.List.{List, [], ◌∷◌, ◌++◌, append_assoc, append-nil}
+use mathlib.Core.Bool.{Bool, true, false, ◌&&◌, ◌||◌, not, and_assoc, and-true, or-true, or-false}
 use Prim.Native.Nat.{ℕ, suc, ◌-◌, ◌≤◌, ◌<◌}
 use native.Mathlib.Omega.{arith}
 use native.Mathlib.Decide.{ℕ_discrete}
@@ -13,6 +13,7 @@ use borrow.Author.Tests.{eq-eqb, ne_eqb}
 use Rattle.flow.specs.Sheet.{member}
 use Rattle.flow.specs.Labels.{distinct}
 use Rattle.flow.proofs.Lookup.{one_of_append}
+use Rattle.label_sight.specs.Labels.{none_repeats}
 
 eqb_comm : (a b : ℕ) → eqb a b ≡ eqb b a
 eqb_comm a b = elim (ℕ_discrete a b) [ yes e ↦ eq-eqb a b e ∙ sym (eq-eqb b a (sym e)) | no q ↦ ne_eqb a b q ∙ sym (ne_eqb b a (λ e. q (sym e))) ]
@@ -29,6 +30,25 @@ distinct_more (x ∷ xs) a =
     go false true true r = refl
     go false true false r = refl
     go false false q r = refl
+
+-- ---- names that come one after the other
+
+-- the last of them
+pub none_more : (xs ys : List ℕ) (a : ℕ) → none_repeats xs (ys ++ (a ∷ [])) ≡ (none_repeats xs ys && not (member a (xs ++ ys)))
+unfolding none_repeats
+none_more xs [] a = rw (append-nil xs) (and-true (not (member a xs)))
+none_more xs (y ∷ ys) a =
+    rw (none_more (xs ++ (y ∷ [])) ys a, append_assoc xs (y ∷ []) ys) (sym (and_assoc (not (member y xs)) (none_repeats (xs ++ (y ∷ [])) ys) (not (member a (xs ++ (y ∷ ys))))))
+
+-- in a block without a repeat they leave none exactly where none of them is one
+pub none_distinct : (xs as' : List ℕ) → (distinct xs && none_repeats xs as') ≡ distinct (xs ++ as')
+unfolding none_repeats
+none_distinct xs [] = rw (append-nil xs) (and-true (distinct xs))
+none_distinct xs (a ∷ as') =
+    sym (and_assoc (distinct xs) (not (member a xs)) (none_repeats (xs ++ (a ∷ [])) as'))
+    ∙ ap (λ (b : Bool). b && none_repeats (xs ++ (a ∷ [])) as') (sym (distinct_more xs a))
+    ∙ none_distinct (xs ++ (a ∷ [])) as'
+    ∙ ap distinct (append_assoc xs (a ∷ []) as')
 
 -- ---- the search for a name, from the end of a list
 

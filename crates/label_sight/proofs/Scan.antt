@@ -9,10 +9,9 @@ use lib.ListN.{length, length-append}
 use lib.Seq.{drop-append-le}
 use Rattle.arrayvec.specs.ArrayVec.{array_vec_len}
 use Rattle.flow.specs.Sheet.{member}
-use Rattle.flow.specs.Labels.{distinct}
 use Rattle.label_sight.specs.declared.Sight.{Sight}
-use Rattle.label_sight.specs.Labels.{in_block, Entered}
-use Rattle.label_sight.proofs.Names.{distinct_more}
+use Rattle.label_sight.specs.Labels.{in_block, none_repeats, Entered}
+use Rattle.label_sight.proofs.Names.{none_more}
 
 pub entered_none : (x : Sight) → Entered [] x x
 entered_none x = record { labels = sym (append-nil _); marks = refl; base = refl }
@@ -32,6 +31,6 @@ entered_length {as'} {x} e = omega (arith, ap length e.labels, length-append x.l
 pub entered_block : {as' : List ℕ} {x r : Sight} → x.base ≤ array_vec_len x.labels → Entered as' x r → in_block r ≡ in_block x ++ as'
 entered_block {as'} {x} {r} h e = rw (e.labels, e.base) (drop-append-le x.base x.labels.items as' h)
 
--- and none is a repeat where none of the others is, and the last is not
-pub entered_once : {a : ℕ} {x r : Sight} {b f t : Bool} → x.base ≤ array_vec_len x.labels → Entered (a ∷ []) x r → b ≡ distinct (in_block x) → f ≡ not (member a (in_block x)) → t ≡ (b && f) → t ≡ distinct (in_block r)
-entered_once {a} {x} {r} {b} {f} h e p q s = s ∙ rw (p, q) (sym (ap distinct (entered_block h e) ∙ distinct_more (in_block x) a))
+-- and one label more is the first of its name or a repeat
+pub entered_more : {as' : List ℕ} {x t : Sight} (a : ℕ) {b f r : Bool} → x.base ≤ array_vec_len x.labels → Entered as' x t → b ≡ none_repeats (in_block x) as' → f ≡ not (member a (in_block t)) → r ≡ (b && f) → r ≡ none_repeats (in_block x) (as' ++ (a ∷ []))
+entered_more {as'} {x} a h e p q s = s ∙ rw (p, q, entered_block h e) (sym (none_more (in_block x) as' a))

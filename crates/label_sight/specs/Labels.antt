@@ -1,6 +1,7 @@
 -- The labels in sight at an item: how many are to come, and what a block entered or left, a label or a GOTO makes of them.
 -- Assumes nothing: these are definitions.
-use Rattle.std.specs.Prelude.{◌≡◌, List, [], ◌∷◌, ◌++◌, ℕ, ◌+◌, ◌-◌, ◌≤◌, length, take, drop, get_or}
+use Rattle.std.specs.Prelude.{◌≡◌, Bool, true, ◌&&◌, not, List, [], ◌∷◌, ◌++◌, ℕ, ◌+◌, ◌-◌, ◌≤◌, length, take, drop, get_or}
+use Rattle.flow.specs.Sheet.{member}
 use Rattle.flow.specs.Refusals.{one}
 use Rattle.flow.specs.Tree.{Frame, Open, labels_of}
 use Rattle.arrayvec.specs.ArrayVec.{array_vec_len}
@@ -46,6 +47,11 @@ closed_sight x = record { labels = record { items = take x.base x.labels.items }
 -- the labels of the innermost block that are found so far
 abbrev pub in_block : Sight → List ℕ
 in_block x = drop x.base x.labels.items
+
+-- of names that come one after the other into a block of the labels xs, whether none repeats one that stands there by then
+unfoldable pub none_repeats : List ℕ → List ℕ → Bool
+none_repeats xs [] = true
+none_repeats xs (a ∷ as') = not (member a xs) && none_repeats (xs ++ (a ∷ [])) as'
 
 -- the names as' are in sight besides, as labels of the innermost block
 pub record Entered (as' : List ℕ) (x r : Sight) : Type 0 where

@@ -1,12 +1,11 @@
 // The labels in sight at an item of a walk over a sheet.
 #![tactic(auto)]
 
-ghost use Rattle.std.specs.Prelude.{◌≡◌, true, not, ◌++◌, [], ◌∷◌, List, ℕ, ◌+◌, ◌≤◌, ◌<◌, length};
+ghost use Rattle.std.specs.Prelude.{◌≡◌, not, ◌++◌, [], ◌∷◌, List, ℕ, ◌+◌, ◌≤◌, ◌<◌, length};
 ghost use Rattle.arrayvec.specs.ArrayVec.{array_vec_len};
 ghost use Rattle.flow.specs.Sheet.{member};
-ghost use Rattle.flow.specs.Labels.{distinct};
 ghost use Rattle.blocks.specs.Open.{labels_at};
-ghost use Rattle.label_sight.specs.Labels.{Unlabelled, nothing_seen, opened_sight, next_arm, closed_sight, in_block, Entered};
+ghost use Rattle.label_sight.specs.Labels.{Unlabelled, nothing_seen, opened_sight, next_arm, closed_sight, in_block, none_repeats, Entered};
 
 use arrayvec::ArrayVec;
 use blocks::block_labels;
@@ -76,7 +75,7 @@ impl Sight {
         requires base_le_count { self.old.base ≤ array_vec_len self.old.labels }
         requires by_index { (ss : List ℕ) → length ss ≡ length kinds.now → array_vec_len self.old.labels + length (labels_at kinds.now ss from) ≤ 1024 }
         ensures by_index { (ss : List ℕ) → length ss ≡ length kinds.now → Entered (labels_at kinds.now ss from) self.old self.new }
-        ensures once { distinct (in_block self.old) ≡ true → result ≡ distinct (in_block self.new) }
+        ensures once { (ss : List ℕ) → length ss ≡ length kinds.now → result ≡ none_repeats (in_block self.old) (labels_at kinds.now ss from) }
     {
         let mut once = true;
         for name in block_labels(&kinds[..end], from) {

@@ -26,7 +26,7 @@ pub enter-requires-clause-by_index : goal.enter-requires-clause-by_index
 enter-requires-clause-by_index c = enter_room c.requires.checkable.0 (omega arith) (opening (goal.at.enter-requires-clause-by_index c).After-open)
 
 pub returns-in-Some-Do : goal.returns-in-Some-Do
-returns-in-Some-Do c = λ ss e. entered_after (opening (goal.at.returns-in-Some-Do c).After-open ss e) (c.enter.ensures.by_index ss e) c.enter.ensures.once
+returns-in-Some-Do c = λ ss e. entered_after (opening (goal.at.returns-in-Some-Do c).After-open ss e) (c.enter.ensures.by_index ss e) (c.enter.ensures.once ss e)
 
 -- ---- ELSEIF and ELSE
 arming : (c : After-next_arm) (ss : List ℕ) → length ss ≡ length c.args.kinds.now → Entering c.args.kinds.now ss (c.args.j + 1) c.next_arm.new.self
@@ -39,7 +39,7 @@ enter-requires-in-Some-ElseIf-clause-by_index c = enter_room c.requires.checkabl
 
 pub returns-in-Some-ElseIf : goal.returns-in-Some-ElseIf
 returns-in-Some-ElseIf c =
-    λ ss e. entered_after (arming (goal.at.returns-in-Some-ElseIf c).After-next_arm ss e) (c.enter-in-Some-ElseIf.ensures.by_index ss e) c.enter-in-Some-ElseIf.ensures.once
+    λ ss e. entered_after (arming (goal.at.returns-in-Some-ElseIf c).After-next_arm ss e) (c.enter-in-Some-ElseIf.ensures.by_index ss e) (c.enter-in-Some-ElseIf.ensures.once ss e)
 
 -- ---- a closer
 pub close-requires : goal.close-requires

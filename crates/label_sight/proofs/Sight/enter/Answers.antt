@@ -8,11 +8,11 @@ use native.Mathlib.Omega.{arith}
 use lib.ListN.{length, length-append}
 use Rattle.blocks.specs.Open.{labels_at}
 use Rattle.blocks.proofs.Scan.{labels_law}
-use Rattle.label_sight.specs.Labels.{Entered}
+use Rattle.label_sight.specs.Labels.{in_block, none_repeats, Entered}
 use Rattle.label_sight.proofs.Named.{labels_cut}
-use Rattle.label_sight.proofs.Scan.{entered_none, entered_trans, entered_once, entered_length}
+use Rattle.label_sight.proofs.Scan.{entered_none, entered_trans, entered_more, entered_length}
 use Rattle.label_sight.proofs.Sight.enter.Goals as goal
-use Rattle.label_sight.proofs.Sight.enter.Goals.{After-into_iter-name-iterator}
+use Rattle.label_sight.proofs.Sight.enter.Goals.{After-into_iter-name-iterator, In-None}
 
 -- what the iterator gives are the labels of the block
 gives : (c : After-into_iter-name-iterator) (ss : List ℕ) → length ss ≡ length c.args.kinds.now → c.into_iter-name-iterator.result ≡ labels_at c.args.kinds.now ss c.args.from
@@ -23,7 +23,8 @@ gives c ss e =
     ∙ labels_law c.args.kinds.now ss e c.args.from
 
 pub loop-name-init : goal.loop-name-init
-loop-name-init c = record { can = tt; finite = tt; left = refl; entered = entered_none c.args.self.now; once = λ d. sym d }
+unfolding none_repeats
+loop-name-init c = record { can = tt; finite = tt; left = refl; entered = entered_none c.args.self.now; once = refl }
 
 pub add-requires : goal.add-requires
 add-requires c =
@@ -41,7 +42,7 @@ loop-name-preserved-then-not-add c =
       finite = tt;
       left = c.loop-name.invariant.left ∙ ap (λ (z : List ℕ). c.loop-name.yielded ++ z) c.in-Some.ensures.steps ∙ sym (append_assoc c.loop-name.yielded (c.in-Some.name ∷ []) c.next.new.self);
       entered = entered_trans e c.add.ensures.entered;
-      once = λ d. entered_once (omega (arith, entered_length e, e.base)) c.add.ensures.entered (c.loop-name.invariant.once d) c.add.ensures.first (rw c.if-not-add.true (sym (and-false c.loop-name.once)));
+      once = entered_more c.in-Some.name c.requires.base_le_count e c.loop-name.invariant.once c.add.ensures.first (rw c.if-not-add.true (sym (and-false c.loop-name.once)));
     }
 
 pub loop-name-preserved : goal.loop-name-preserved
@@ -52,11 +53,16 @@ loop-name-preserved c =
       finite = tt;
       left = c.loop-name.invariant.left ∙ ap (λ (z : List ℕ). c.loop-name.yielded ++ z) c.in-Some.ensures.steps ∙ sym (append_assoc c.loop-name.yielded (c.in-Some.name ∷ []) c.next.new.self);
       entered = entered_trans e c.add.ensures.entered;
-      once = λ d. entered_once (omega (arith, entered_length e, e.base)) c.add.ensures.entered (c.loop-name.invariant.once d) c.add.ensures.first (rw c.if-not-add.false (sym (and-true c.loop-name.once)));
+      once = entered_more c.in-Some.name c.requires.base_le_count e c.loop-name.invariant.once c.add.ensures.first (rw c.if-not-add.false (sym (and-true c.loop-name.once)));
     }
 
+-- all of them are entered at the end
+all_given : (c : In-None) (ss : List ℕ) → length ss ≡ length c.args.kinds.now → c.loop-name.yielded ≡ labels_at c.args.kinds.now ss c.args.from
+all_given c ss e =
+    sym (append-nil c.loop-name.yielded) ∙ ap (λ (z : List ℕ). c.loop-name.yielded ++ z) (sym c.in-None.ensures.steps.0) ∙ sym c.loop-name.invariant.left ∙ gives (goal.at.In-None c).After-into_iter-name-iterator ss e
+
 pub returns-clause-by_index : goal.returns-clause-by_index
-returns-clause-by_index c =
-    λ ss e.
-    let all = sym (append-nil c.loop-name.yielded) ∙ ap (λ (z : List ℕ). c.loop-name.yielded ++ z) (sym c.in-None.ensures.steps.0) ∙ sym c.loop-name.invariant.left ∙ gives (goal.at.returns-clause-by_index c).After-into_iter-name-iterator ss e in
-    subst (λ (z : List ℕ). Entered z c.args.self.now c.loop-name.self) all c.loop-name.invariant.entered
+returns-clause-by_index c = λ ss e. subst (λ (z : List ℕ). Entered z c.args.self.now c.loop-name.self) (all_given (goal.at.returns-clause-by_index c).In-None ss e) c.loop-name.invariant.entered
+
+pub returns-clause-once : goal.returns-clause-once
+returns-clause-once c = λ ss e. c.loop-name.invariant.once ∙ ap (none_repeats (in_block c.args.self.now)) (all_given (goal.at.returns-clause-once c).In-None ss e)

@@ -1,10 +1,8 @@
--- `label_sight::Sight::enter` meets its contract: the labels so far are in sight.
+-- `label_sight::Sight::enter` meets its contract: the labels so far are in sight, and whether one is a repeat is told.
 -- Assumes nothing.
 use mathlib.Core.Path.{◌≡◌}
 use mathlib.Core.List.{◌++◌}
-use mathlib.Core.Bool.{true}
-use Rattle.flow.specs.Labels.{distinct}
-use Rattle.label_sight.specs.Labels.{in_block, Entered}
+use Rattle.label_sight.specs.Labels.{in_block, none_repeats, Entered}
 use Rattle.label_sight.proofs.Sight.enter.Given as goal
 
 abbrev pub invariant-loop-name : goal.invariant-loop-name
@@ -13,5 +11,5 @@ invariant-loop-name l = record {
   finite : (goal.iterator-loop-name).is_finite l.name-iterator;
   left : l.initial.name-iterator ≡ l.yielded ++ l.name-iterator;
   entered : Entered l.yielded l.initial.self l.self;
-  once : distinct (in_block l.initial.self) ≡ true → l.once ≡ distinct (in_block l.self);
+  once : l.once ≡ none_repeats (in_block l.initial.self) l.yielded;
 }
