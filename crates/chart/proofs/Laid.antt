@@ -5,10 +5,10 @@ use mathlib.Core.List.{List, ◌++◌, map}
 use Prim.Native.Nat.{ℕ, ◌≤◌, ◌<◌}
 use native.Mathlib.Omega.{arith}
 use lib.ListN.{length, get_or, take, drop, replicate, length-map, length-replicate, get_or-map}
-use lib.Seq.{length-take-le, get_or-take}
+use lib.Seq.{length-take-le, get_or-take, take_at, drop_at}
 use Rattle.flow.specs.declared.Counts.{Counts}
 use Rattle.flow.specs.Sheet.{kind_words, span_words}
-use Rattle.flow.specs.Graph.{Graph, node_count, entry_node, graph}
+use Rattle.flow.specs.Graph.{Graph, node_count, graph}
 use Rattle.flow.specs.Reachable.{reachable, counts_of}
 use Rattle.flow.specs.Admitted.{AdmittedSheet}
 use Rattle.flow.proofs.Flags.{reachable_length}
@@ -18,12 +18,13 @@ use Rattle.cfg_steps.proofs.Ops.{painted_length}
 use Rattle.cfg.specs.Steps.{Sane, Wide as WideWords, WholeRoom, Whole, counted}
 use Rattle.cfg.proofs.Sanity.{sane, whole_room}
 use Rattle.cfg.proofs.Sheets.{is_graph}
+use Rattle.reach.specs.Columns.{Flags}
 use Rattle.code_columns.specs.Words.{CodeWithin}
-use Rattle.chart.specs.Lent.{overlay, PartsOf, columns, Wide, chart_of, Charted}
+use Rattle.chart.specs.Lent.{overlay, PartsOf, columns, chart_of, Charted}
 
 -- a column that begins with n entries and is past them as it was
-pub laid : {n : ℕ} {entries entries' col : List ℕ} (old mid : List ℕ) → entries ≡ entries' → length entries ≡ n → drop n mid ≡ drop n old → col ≡ entries' ++ drop n mid → col ≡ overlay entries old
-laid {n} {entries} {entries'} {col} old mid e l d q = q ∙ ap (λ (t : List ℕ). entries' ++ t) d ∙ ap (λ (t : List ℕ). t ++ drop n old) (sym e) ∙ ap (λ (k : ℕ). entries ++ drop k old) (sym l)
+pub laid : {n : ℕ} {entries entries' front : List ℕ} (old mid : List ℕ) → entries ≡ entries' → length entries ≡ n → drop n mid ≡ drop n old → front ≡ entries' → front ++ drop n mid ≡ overlay entries old
+laid {n} {entries} {front = front} old mid e l d q = (λ i. (q ∙ sym e) i ++ d i) ∙ ap (λ (k : ℕ). entries ++ drop k old) (sym l)
 
 -- the parts of a sheet
 pub sheet_parts : (S : List ℕ) → AdmittedSheet S → {ks ss : List ℕ} → ks ≡ kind_words S → ss ≡ span_words S → PartsOf S ks ss (get_or S 1 0)
@@ -75,17 +76,11 @@ module _ {S ks ss : List ℕ} {e : ℕ} (p : PartsOf S ks ss e) {f cn nn r f' cn
   names_many h = length-map (take b.names nn') h ∙ length-take-le b.names nn' names_long
 
   -- what the callees ask for
-  module _ {s t cs ns ne : List ℕ} (x : Wide (columns f s t r cs cn ns nn ne)) where
-    pub nodes_ask : (entry_node < b.nodes) × (b.nodes ≤ length f') × (b.nodes ≤ length s) × (b.nodes ≤ length t) × (b.nodes ≤ length r')
-    nodes_ask =
-        let few = w.good.nodes in
-        (omega (arith, w.good.exits), nodes_long, omega (arith, x.second), omega (arith, x.start), omega (arith, w.good.wide_labels))
+  pub codes_ask : (t : List ℕ) → length t ≡ b.nodes → (k : ℕ) → k < length (take b.codes cn') → CodeWithin (length t) ks ss (get_or (take b.codes cn') k 0)
+  codes_ask t q k h = let g : k < b.codes = omega (arith, length-take-le b.codes cn' codes_long) in rw (q, get_or-take b.codes cn' k 0 g) (codes_within k g)
 
-    pub codes_ask : (t' : List ℕ) → length t' ≡ length t → ((b.codes ≤ length cn') × (b.codes ≤ length cs) × (b.nodes ≤ length t')) × ((k : ℕ) → k < b.codes → CodeWithin b.nodes ks ss (get_or cn' k 0))
-    codes_ask t' q = ((codes_long, omega (arith, w.good.codes, w.good.items, x.code_span), omega (arith, w.good.nodes, x.start)), codes_within)
-
-    pub names_ask : ((b.names ≤ length nn') × (b.names ≤ length ns) × (b.names ≤ length ne)) × ((k : ℕ) → k < b.names → name_item (get_or nn' k 0) < length ss)
-    names_ask = let few : b.names ≤ 1024 = omega (arith, w.good.names, w.good.items) in ((names_long, omega (arith, x.name_span), omega (arith, x.name_end)), names_within)
+  pub names_ask : (k : ℕ) → k < length (take b.names nn') → name_item (get_or (take b.names nn') k 0) < length ss
+  names_ask k h = let g : k < b.names = omega (arith, length-take-le b.names nn' names_long) in rw (get_or-take b.names nn' k 0 g) (names_within k g)
 
   pub firsts : (graph S).nodes.first ≡ map lo (take b.nodes f')
   unfolding graph_of
@@ -138,20 +133,24 @@ module _ {S ks ss : List ℕ} {e : ℕ} (p : PartsOf S ks ss e) {f cn nn r f' cn
   node_below i h = rw (code_nodes_law, get_or-map lo (take b.codes cn') i 0, get_or-take b.codes cn' i 0 h) (w.good.code_nodes i h)
 
   -- the columns as `write_chart` leaves them
-  pub charted : (s t t' cs ns ne : List ℕ) {f'' s'' t'' r'' cs'' cn'' ns'' nn'' ne'' : List ℕ}
-      → f'' ≡ map lo (take b.nodes f') ++ drop b.nodes f' → s'' ≡ map hi (take b.nodes f') ++ drop b.nodes s → drop b.nodes t' ≡ drop b.nodes t
-      → r'' ≡ reachable (graph S) ++ drop b.nodes r'
-      → cn'' ≡ map lo (take b.codes cn') ++ drop b.codes cn' → cs'' ≡ map (λ c. get_or ss (hi c) 0) (take b.codes cn') ++ drop b.codes cs
-      → t'' ≡ painted ks ss (take b.codes cn') (replicate b.nodes 0) ++ drop b.nodes t'
-      → nn'' ≡ map node_of_name (take b.names nn') ++ drop b.names nn' → ns'' ≡ map (λ c. get_or ss (name_item c) 0) (take b.names nn') ++ drop b.names ns
-      → ne'' ≡ map hi (take b.names nn') ++ drop b.names ne
-      → Charted S (record { nodes = b.nodes; codes = b.codes; names = b.names }) (record { before = columns f s t r cs cn ns nn ne; after = columns f'' s'' t'' r'' cs'' cn'' ns'' nn'' ne'' })
+  pub charted : (s t t' cs ns ne : List ℕ) {f'' s'' t'' r'' cs'' cn'' ns'' nn'' ne'' : List ℕ} → length t' ≡ b.nodes
+      → f'' ≡ map lo (take b.nodes f') → s'' ≡ map hi (take b.nodes f') → Flags (map lo (take b.nodes f')) (map hi (take b.nodes f')) r''
+      → cn'' ≡ map lo (take b.codes cn') → cs'' ≡ map (λ c. get_or ss (hi c) 0) (take b.codes cn')
+      → t'' ≡ painted ks ss (take b.codes cn') (replicate (length (take b.nodes (t' ++ drop b.nodes t))) 0)
+      → nn'' ≡ map node_of_name (take b.names nn') → ns'' ≡ map (λ c. get_or ss (name_item c) 0) (take b.names nn') → ne'' ≡ map hi (take b.names nn')
+      → Charted S (record { nodes = b.nodes; codes = b.codes; names = b.names })
+      (record {
+        before = columns f s t r cs cn ns nn ne;
+        after = columns (f'' ++ drop b.nodes f') (s'' ++ drop b.nodes s) (t'' ++ drop b.nodes (t' ++ drop b.nodes t)) (r'' ++ drop b.nodes r') (cs'' ++ drop b.codes cs) (cn'' ++ drop b.codes cn') (ns'' ++ drop b.names ns) (nn'' ++ drop b.names nn') (ne'' ++ drop b.names ne);
+      })
   unfolding chart_of
-  charted s t t' cs ns ne ef es dt er ecn ecs et enn ens ene =
+  charted s t t' cs ns ne lt ef es er ecn ecs et enn ens ene =
+      let past = drop_at t' (drop b.nodes t) b.nodes lt in
+      let long : length (take b.nodes (t' ++ drop b.nodes t)) ≡ b.nodes = ap length (take_at t' (drop b.nodes t) b.nodes lt) ∙ lt in
       let first = laid f f' firsts (ap length firsts ∙ edges_many lo) w.edges_past ef in
       let second = laid s s seconds (ap length seconds ∙ edges_many hi) refl es in
-      let start = laid t t' starts start_many dt et in
-      let flags = laid {entries = reachable (graph S)} r r' refl flags_many w.labels_past er in
+      let start = laid t (t' ++ drop b.nodes t) starts start_many past (rw long at et) in
+      let flags = laid {entries = reachable (graph S)} r r' refl flags_many w.labels_past (er (graph S) firsts seconds) in
       let code_span = laid cs cs code_spans_law (ap length code_spans_law ∙ codes_many _) refl ecs in
       let code_node = laid cn cn' code_nodes_law (ap length code_nodes_law ∙ codes_many lo) w.codes_past ecn in
       let name_span = laid ns ns name_spans_law (ap length name_spans_law ∙ names_many _) refl ens in

@@ -128,27 +128,23 @@ fn write_chart(kinds: &[u64], spans: &[u64], scope_end: u64, chart: &mut ChartCo
         scope_end,
     );
     split_nodes(
-        chart.first,
-        chart.second,
-        chart.start,
-        chart.reachable,
-        counts.nodes,
+        &mut chart.first[..counts.nodes],
+        &mut chart.second[..counts.nodes],
+        &mut chart.start[..counts.nodes],
+        &mut chart.reachable[..counts.nodes],
     );
     split_codes(
         kinds,
         spans,
-        chart.code_node,
-        chart.code_span,
-        chart.start,
-        counts.codes,
-        counts.nodes,
+        &mut chart.code_node[..counts.codes],
+        &mut chart.code_span[..counts.codes],
+        &mut chart.start[..counts.nodes],
     );
     split_names(
         spans,
-        chart.name_node,
-        chart.name_span,
-        chart.name_end,
-        counts.names,
+        &mut chart.name_node[..counts.names],
+        &mut chart.name_span[..counts.names],
+        &mut chart.name_end[..counts.names],
     );
     counts
 }

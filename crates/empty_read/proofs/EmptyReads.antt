@@ -16,7 +16,7 @@ use Rattle.flow.specs.Locals.{only_if}
 use Rattle.flow.specs.Findings.{Use, node, is_read, is_write, is_empty_read, first_empty_read}
 use Rattle.flow.proofs.Members.{in_append, in_member}
 use Rattle.std.specs.Prelude.{Some, None}
-use Rattle.search.specs.declared.Search.{Search}
+use Rattle.search.specs.Running.{NumberSearch as Search}
 use Rattle.search.specs.Running.{SameColumns}
 use Rattle.search.proofs.Running.{same_none, same_on}
 use Rattle.search.specs.Stamps.{flag_of, flags_of, Stamped}

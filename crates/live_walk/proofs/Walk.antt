@@ -10,7 +10,7 @@ use lib.ListN.{length, get_or, drop, drop_of_length-le}
 use Rattle.search.specs.Search.{closure}
 use Rattle.search.specs.Worklist.{State, st, topmost, pop}
 use Rattle.search.specs.Stamps.{stamp_all, Ready, Unmarked, flagged}
-use Rattle.search.specs.declared.Search.{Search as Running}
+use Rattle.search.specs.Running.{NumberSearch as Running}
 use Rattle.search.specs.Running.{state_of, SameColumns}
 use Rattle.search.proofs.Running.{same_none, same_on}
 use Rattle.search.proofs.Closure.{Nodes}

@@ -5,7 +5,7 @@ use mathlib.Core.Path.{◌≡◌, ◌∙◌}
 use mathlib.Core.List.{List}
 use native.Mathlib.Omega.{arith}
 use lib.ListN.{length}
-use Rattle.search.specs.declared.Search.{Search as Running}
+use Rattle.search.specs.Running.{NumberSearch as Running}
 use Rattle.search.specs.Search.{filter}
 use Rattle.search.specs.Worklist.{st, pop, topmost}
 use Rattle.search.specs.Stamps.{Ready, Unmarked, Stamped, stamp_all, flagged}

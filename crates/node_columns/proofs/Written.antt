@@ -5,11 +5,10 @@
 -- Assumes nothing.
 use mathlib.Core.Path.{◌≡◌, refl, ap, ◌∙◌}
 use mathlib.Core.List.{List, [], ◌∷◌, ◌++◌, map}
-use Prim.Native.Nat.{ℕ, zero, suc, ◌+◌, ◌≤◌, ◌<◌}
+use Prim.Native.Nat.{ℕ, zero, suc, ◌+◌, ◌<◌}
 use native.Mathlib.Nat.{not-suc-le-zero, le_of_suc-le-suc}
 use native.Mathlib.Numerals.{add-one}
-use lib.ListN.{length, get_or, set, take, drop, length-set, length-map}
-use lib.Seq.{length-take-le, take_at}
+use lib.ListN.{length, get_or, set, take, drop, length-set}
 
 -- the column `col`, which was `old`, when i of the words ws are passed
 pub record Written (f : ℕ → ℕ) (i : ℕ) (ws old col : List ℕ) : Type 0 where
@@ -40,7 +39,3 @@ turn {f} {g} {i} {ws} {old} {cur} {col} w v h q e = record {
   long = ap length e ∙ length-set col i (f (get_or cur i 0)) ∙ v.long;
   cells = rw (e, v.cells, still w, add-one) (one_more f i ws old h q);
 }
-
--- the first n cells of a column that begins with f of n words
-pub front : (f : ℕ → ℕ) (n : ℕ) (ws rest : List ℕ) → n ≤ length ws → take n (map f (take n ws) ++ rest) ≡ map f (take n ws)
-front f n ws rest h = take_at (map f (take n ws)) rest n (length-map (take n ws) f ∙ length-take-le n ws h)

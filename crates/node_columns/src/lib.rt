@@ -1,50 +1,34 @@
 // The words of a built graph's nodes, taken apart in place into the columns of its chart: successors, and reachable flags.
 #![tactic(auto)]
 
-ghost use Rattle.std.specs.Prelude.{◌≡◌, ◌++◌, map, ◌≤◌, ◌<◌, length, get_or, set, take, drop};
+ghost use Rattle.std.specs.Prelude.{◌≡◌, map, ◌<◌, length};
 ghost use Rattle.flow.specs.Graph.{entry_node};
 ghost use Rattle.cfg_edges.specs.Halves.{lo, hi};
-ghost use Rattle.reach.specs.Columns.{FlagsOver};
+ghost use Rattle.reach.specs.Columns.{Flags};
 
 use reach::reach;
 use words::HALF;
 
-// The word of node i: its first successor stays in the column, and its second goes to the other.
-fn split_edge(first: &mut [u64], second: &mut [u64], i: usize)
-    requires { (i < length first.old) × (i < length second.old) }
-    ensures first_after { first.new ≡ set first.old i (lo (get_or first.old i 0)) }
-    ensures second_after { second.new ≡ set second.old i (hi (get_or first.old i 0)) }
+// The successors of nodes, whose words stand in `first`: of each the lower half stays, and the upper goes to `second`.
+fn split_edges(first: &mut [u64], second: &mut [u64])
+    requires { length second.old ≡ length first.old }
+    ensures first_after { first.new ≡ map lo first.old }
+    ensures second_after { second.new ≡ map hi first.old }
 {
-    let w = first[i];
-    first[i] = w % HALF;
-    second[i] = w / HALF;
-}
-
-// The successors of n nodes, whose words stand in `first`.
-fn split_edges(first: &mut [u64], second: &mut [u64], n: usize)
-    requires { (n ≤ length first.old) × (n ≤ length second.old) }
-    ensures first_after { first.new ≡ map lo (take n first.old) ++ drop n first.old }
-    ensures second_after { second.new ≡ map hi (take n first.old) ++ drop n second.old }
-{
-    for i in 0..n {
-        split_edge(first, second, i);
+    for (i, word) in first.iter_mut().enumerate() {
+        second[i] = *word / HALF;
+        *word %= HALF;
     }
 }
 
-// The successors of n nodes, whose words stand in `first`, and their reachable flags. `start` is scratch memory here.
-pub fn split_nodes(
-    first: &mut [u64],
-    second: &mut [u64],
-    start: &mut [u64],
-    reachable: &mut [u64],
-    n: usize,
-)
-    requires { (entry_node < n) × (n ≤ length first.old) × (n ≤ length second.old) × (n ≤ length start.old) × (n ≤ length reachable.old) }
-    ensures first_after { first.new ≡ map lo (take n first.old) ++ drop n first.old }
-    ensures second_after { second.new ≡ map hi (take n first.old) ++ drop n second.old }
-    ensures start_unchanged { (drop n start.new ≡ drop n start.old) × (length start.new ≡ length start.old) }
-    ensures flags_over { FlagsOver (map lo (take n first.old)) (map hi (take n first.old)) n reachable.old reachable.new }
+// The successors of nodes, whose words stand in `first`, and their reachable flags. `start` is scratch memory here.
+pub fn split_nodes(first: &mut [u64], second: &mut [u64], start: &mut [u64], reachable: &mut [u64])
+    requires entry_in_bounds { entry_node < length first.old }
+    requires same_length { (length second.old ≡ length first.old) × (length start.old ≡ length first.old) × (length reachable.old ≡ length first.old) }
+    ensures first_after { first.new ≡ map lo first.old }
+    ensures second_after { second.new ≡ map hi first.old }
+    ensures flags { Flags (map lo first.old) (map hi first.old) reachable.new }
 {
-    split_edges(first, second, n);
-    reach(first, second, reachable, start, n);
+    split_edges(first, second);
+    reach(first, second, reachable, start);
 }

@@ -1,58 +1,55 @@
 // What can run: the nodes that a path from the entry reaches (cfg.rs).
 #![tactic(auto)]
 
-ghost use Rattle.std.specs.Prelude.{◌≡◌, ◌<◌, ◌≤◌, length, take, drop, ltb};
-ghost use Rattle.search.specs.Worklist.{st, push_all, push_if, Room};
+ghost use Rattle.std.specs.Prelude.{◌≡◌, ◌<◌, length, ltb};
+ghost use Rattle.search.specs.Stamps.{Ready, stamp_when, stamp_all};
+ghost use Rattle.search.specs.Running.{state_of, SameColumns};
 ghost use Rattle.flow.specs.Graph.{entry_node};
-ghost use Rattle.reach.specs.Columns.{edges, FlagsOver};
+ghost use Rattle.reach.specs.Columns.{edges, Flags};
 
-use search::{at, clear, push_if_new};
+use search::Search;
 use words::exit::ENTRY;
 
+// The flag of a node that is reached.
+const REACHED: u64 = 1;
+
 // v pushed; what is no node is passed over.
-fn push_node(marks: &mut [u64], stack: &mut [u64], n: usize, top: usize, v: usize) -> usize
-    requires { Room n (st marks.old stack.old top) }
-    ensures { st marks.new stack.new result ≡ push_if (λ x. ltb x n) v (st marks.old stack.old top) }
+fn push_node(search: &mut Search<'_, u64>, v: usize)
+    requires { Ready search.old.stamp (length search.old.marks.now) (state_of search.old) }
+    ensures same { SameColumns search.old search.new × (search.new.stamp ≡ search.old.stamp) }
+    ensures pushed { state_of search.new ≡ stamp_when search.old.stamp (ltb v (length search.old.marks.now)) v (state_of search.old) }
 {
-    if v < n {
-        push_if_new(marks, stack, n, top, v)
-    } else {
-        top
+    if v < search.marks.len() {
+        search.insert(v);
     }
 }
 
 // The successors of u pushed.
-fn expand(
-    first: &[u64],
-    second: &[u64],
-    marks: &mut [u64],
-    stack: &mut [u64],
-    n: usize,
-    top: usize,
-    u: usize,
-) -> usize
-    requires room { Room n (st marks.old stack.old top) }
-    requires n_in_bounds { (n ≤ length first.now) × (n ≤ length second.now) × (u < n) }
-    ensures { st marks.new stack.new result ≡ push_all (edges first.now second.now n u) (st marks.old stack.old top) }
+fn expand(first: &[u64], second: &[u64], search: &mut Search<'_, u64>, u: usize)
+    requires ready { Ready search.old.stamp (length first.now) (state_of search.old) }
+    requires same_length { (length second.now ≡ length first.now) × (length search.old.marks.now ≡ length first.now) × (u < length first.now) }
+    ensures same { SameColumns search.old search.new × (search.new.stamp ≡ search.old.stamp) }
+    ensures pushed { state_of search.new ≡ stamp_all search.old.stamp (edges first.now second.now u) (state_of search.old) }
 {
-    let a = at(first, u);
-    let t = push_node(marks, stack, n, top, a);
-    let b = at(second, u);
-    push_node(marks, stack, n, t, b)
+    push_node(search, first[u] as usize);
+    push_node(search, second[u] as usize);
 }
 
-// The reachable flags of n nodes. The stack is scratch memory: its first n cells may hold anything, before and after.
-pub fn reach(first: &[u64], second: &[u64], reachable: &mut [u64], stack: &mut [u64], n: usize)
-    requires n_in_bounds { (n ≤ length first.now) × (n ≤ length second.now) × (entry_node < n) }
-    requires n_in_bounds_2 { (n ≤ length reachable.old) × (n ≤ length stack.old) }
-    ensures flags_over { FlagsOver (take n first.now) (take n second.now) n reachable.old reachable.new }
-    ensures stack_unchanged { (drop n stack.new ≡ drop n stack.old) × (length stack.new ≡ length stack.old) }
+// The reachable flags of a graph's nodes. The stack is scratch memory: it may hold anything, before and after.
+pub fn reach(first: &[u64], second: &[u64], reachable: &mut [u64], stack: &mut [u64])
+    requires entry_in_bounds { entry_node < length first.now }
+    requires same_length { (length second.now ≡ length first.now) × (length reachable.old ≡ length first.now) × (length stack.old ≡ length first.now) }
+    ensures { Flags first.now second.now reachable.new }
 {
-    clear(reachable, n);
-    let mut top = push_if_new(reachable, stack, n, 0, ENTRY);
-    while 0 < top {
-        top -= 1;
-        let u = at(stack, top);
-        top = expand(first, second, reachable, stack, n, top, u);
+    reachable.fill(0);
+    let mut search = Search {
+        marks: reachable,
+        stack,
+        top: 0,
+        stamp: REACHED,
+    };
+    search.insert(ENTRY);
+    while let Some(u) = search.pop() {
+        expand(first, second, &mut search, u);
     }
 }

@@ -12,7 +12,7 @@ use borrow.Author.Tests.{eq-eqb, ne_eqb, eqb-true, eqb-false}
 use lib.Dec.{eqb}
 use lib.ListN.{length, get_or, set, replicate, length-set, length-replicate}
 use lib.Seq.{get_or-set_same, get_or-set_other, ext_get_or}
-use Rattle.search.specs.Search.{cons_if, zeros}
+use Rattle.search.specs.Search.{cons_if, filter, zeros}
 use Rattle.search.specs.Worklist.{State, st, push, push_all, pop, topmost}
 use Rattle.search.specs.Stamps.{flag_of, flags_of, Fresh, Stamped, Unmarked, stamped, stamp_push, stamp_all, stamp_when, flagged, Ready}
 use Rattle.search.proofs.Count.{zeros_all, zero_at}
@@ -58,6 +58,17 @@ flags_set stamp n m v h l =
       | yes p ↦ rw p (flag_on stamp n (set m v stamp) v h (get_or-set_same m v stamp 0 (omega arith)) ∙ sym (get_or-set_same (flags_of stamp n m) v 1 0 (omega (arith, flags_length stamp n m))))
       | no q ↦ flag_at stamp n (set m v stamp) i j ∙ ap (λ (x : ℕ). flag_of (eqb x stamp)) (get_or-set_other m v i stamp 0 q) ∙ sym (flag_at stamp n m i j) ∙ sym (get_or-set_other (flags_of stamp n m) v i 1 0 q)
     ]
+
+-- where no mark is above 1, the flags of a search by 1 are the marks
+flag_mark : (x : ℕ) → x ≤ 1 → flag_of (eqb x 1) ≡ x
+flag_mark zero h = refl
+flag_mark (suc zero) h = refl
+flag_mark (suc (suc x)) h = absurd (omega arith)
+
+pub flags_marks : (m : List ℕ) → Stamped 1 m → flags_of 1 (length m) m ≡ m
+unfolding flags_of
+flags_marks [] b = refl
+flags_marks (x ∷ m) b = λ i. flag_mark x (b 0) i ∷ flags_marks m (λ v. b (suc v)) i
 
 pub fresh_flags : (stamp n : ℕ) (m : List ℕ) → Fresh stamp m → (v : ℕ) → v < n → get_or (flags_of stamp n m) v 0 ≡ 0
 fresh_flags stamp n m f v h = flag_off stamp n m v h (λ e. omega (arith, f v))
@@ -165,6 +176,11 @@ when_all stamp false v vs s = refl
 
 pub when_one : (stamp : ℕ) (b : Bool) (v : ℕ) (s : State) → stamp_when stamp b v s ≡ stamp_all stamp (cons_if b v []) s
 when_one stamp b v s = when_all stamp b v [] s
+
+-- two nodes, each pushed if it passes the test
+pub two_whens : (stamp : ℕ) (p : ℕ → Bool) (x y : ℕ) (s s₁ s₂ : State) → s₁ ≡ stamp_when stamp (p x) x s → s₂ ≡ stamp_when stamp (p y) y s₁ → s₂ ≡ stamp_all stamp (filter p (x ∷ y ∷ [])) s
+two_whens stamp p x y s s₁ s₂ e f =
+    f ∙ when_one stamp (p y) y s₁ ∙ ap (stamp_all stamp (filter p (y ∷ []))) e ∙ when_all stamp (p x) x (filter p (y ∷ [])) s
 
 pub when_nodes : (n : ℕ) (b : Bool) (v : ℕ) → v < n → Nodes n (cons_if b v [])
 when_nodes n true v h x (inl e) = rw e h

@@ -1,60 +1,29 @@
 // Searches in a graph: definitions and laws that every search of the repository cites, and the worklist that each search drives.
 #![tactic(auto)]
 
-ghost use Rattle.std.specs.Prelude.{◌≡◌, ◌++◌, ◌<◌, ◌≤◌, length, get_or, set, drop, replicate, eqb, MatchOption};
-ghost use Rattle.search.specs.Worklist.{st, push, pop as taken_off, topmost, Room};
+mod cells;
+
+ghost use Rattle.std.specs.Prelude.{◌≡◌, ◌<◌, ◌≤◌, length, get_or, set, eqb};
+ghost use Rattle.search.specs.Worklist.{st};
 ghost use Rattle.search.specs.Stamps.{stamp_push};
-ghost use Rattle.search.specs.Running.{state_of, SameColumns};
+ghost use Rattle.search.specs.Running.{state_by, SameColumns, Popped};
 
-// The number in a cell, as an index.
-pub fn at(s: &[u64], i: usize) -> usize
-    requires { i < length s.now }
-    ensures { result ≡ get_or s.now i 0 }
-{
-    s[i] as usize
-}
-
-// The first n cells set to 0.
-pub fn clear(s: &mut [u64], n: usize)
-    requires { n ≤ length s.old }
-    ensures { s.new ≡ replicate n 0 ++ drop n s.old }
-{
-    let mut i = 0;
-    while i < n {
-        s[i] = 0;
-        i += 1;
-    }
-}
-
-// v marked and pushed, unless it is marked. The result is the stack's height.
-pub fn push_if_new(marks: &mut [u64], stack: &mut [u64], n: usize, top: usize, v: usize) -> usize
-    requires room { Room n (st marks.old stack.old top) }
-    requires v_lt_n { v < n }
-    ensures { st marks.new stack.new result ≡ push v (st marks.old stack.old top) }
-{
-    if marks[v] == 0 {
-        marks[v] = 1;
-        stack[top] = v as u64;
-        top + 1
-    } else {
-        top
-    }
-}
+pub use cells::NodeCell;
 
 // A search by a stamp: a node is marked where its cell holds the stamp, and the stack's first cells hold those that are still to be expanded.
 #[derive(Drop)]
-pub struct Search<'a> {
-    pub marks: &'a mut [u16],
-    pub stack: &'a mut [u16],
+pub struct Search<'a, T = u16> {
+    pub marks: &'a mut [T],
+    pub stack: &'a mut [T],
     pub top: usize,
-    pub stamp: u16,
+    pub stamp: T,
 }
 
-impl Search<'_> {
+impl<T: NodeCell> Search<'_, T> {
     // Another search in the same columns: its stamp is new, so that no node is marked, and the stack is empty.
-    pub fn begin(&mut self, stamp: u16)
+    pub fn begin(&mut self, stamp: T)
         ensures same { SameColumns self.old self.new }
-        ensures begun { (state_of self.new ≡ st self.old.marks.now self.old.stack.now 0) × (self.new.stamp ≡ stamp) }
+        ensures begun { (state_by T.numbers self.new ≡ st (T.numbers self.old.marks.now) (T.numbers self.old.stack.now) 0) × (self.new.stamp ≡ stamp) }
     {
         self.top = 0;
         self.stamp = stamp;
@@ -62,16 +31,16 @@ impl Search<'_> {
 
     pub fn is_marked(&self, v: usize) -> bool
         requires { v < length self.now.marks.now }
-        ensures { result ≡ eqb (get_or self.now.marks.now v 0) self.now.stamp }
+        ensures { result ≡ eqb (get_or (T.numbers self.now.marks.now) v 0) (T.number self.now.stamp) }
     {
-        self.marks[v] == self.stamp
+        self.marks[v].index() == self.stamp.index()
     }
 
     // v marked, and not pushed.
     pub fn mark(&mut self, v: usize)
         requires { v < length self.old.marks.now }
         ensures same { SameColumns self.old self.new × (self.new.stamp ≡ self.old.stamp) }
-        ensures marked { state_of self.new ≡ st (set self.old.marks.now v self.old.stamp) self.old.stack.now self.old.top }
+        ensures marked { state_by T.numbers self.new ≡ st (set (T.numbers self.old.marks.now) v (T.number self.old.stamp)) (T.numbers self.old.stack.now) self.old.top }
     {
         self.marks[v] = self.stamp;
     }
@@ -79,14 +48,14 @@ impl Search<'_> {
     // v marked and pushed, unless it is marked.
     #[tactic(auto, using(std::proofs::lemmas::Bool::Decides::nat_tests), unfolding(crate::specs::Stamps::stamp_push))]
     pub fn insert(&mut self, v: usize)
-        requires v_in_bounds { (v < length self.old.marks.now) × (v < 65536) }
-        requires top_in_bounds { (get_or self.old.marks.now v 0 ≡ self.old.stamp → ⊥) → self.old.top < length self.old.stack.now }
+        requires v_in_bounds { (v < length self.old.marks.now) × (v < T.limit) }
+        requires top_in_bounds { (get_or (T.numbers self.old.marks.now) v 0 ≡ T.number self.old.stamp → ⊥) → self.old.top < length self.old.stack.now }
         ensures same { SameColumns self.old self.new × (self.new.stamp ≡ self.old.stamp) }
-        ensures inserted { state_of self.new ≡ stamp_push self.old.stamp v (state_of self.old) }
+        ensures inserted { state_by T.numbers self.new ≡ stamp_push (T.number self.old.stamp) v (state_by T.numbers self.old) }
     {
-        if self.marks[v] != self.stamp {
+        if !self.is_marked(v) {
             self.marks[v] = self.stamp;
-            self.stack[self.top] = v as u16;
+            self.stack[self.top] = T::of(v);
             self.top += 1;
         }
     }
@@ -95,12 +64,12 @@ impl Search<'_> {
     pub fn pop(&mut self) -> Option<usize>
         requires { self.old.top ≤ length self.old.stack.now }
         ensures same { SameColumns self.old self.new × (self.new.stamp ≡ self.old.stamp) }
-        ensures popped { MatchOption result ((self.old.top ≡ 0) × (state_of self.new ≡ state_of self.old)) (λ u. (0 < self.old.top) × (u ≡ topmost (state_of self.old)) × (state_of self.new ≡ taken_off (state_of self.old))) }
+        ensures popped { Popped result (state_by T.numbers self.old) (state_by T.numbers self.new) }
     {
         if self.top == 0 {
             return None;
         }
         self.top -= 1;
-        Some(self.stack[self.top] as usize)
+        Some(self.stack[self.top].index())
     }
 }

@@ -8,7 +8,7 @@ use native.Mathlib.Numerals.{add-one}
 use native.Mathlib.Decide.{ℕ_discrete}
 use lib.ListN.{length, set, drop, length-set, length-map}
 use lib.Seq.{get_or-set_same, get_or-set_other, drop-set-lt, drop-drop}
-use Rattle.search.specs.declared.Search.{Search}
+use Rattle.search.specs.Running.{NumberSearch as Search}
 use Rattle.search.specs.Stamps.{Stamped, Unmarked}
 use Rattle.search.specs.Running.{SameColumns}
 use Rattle.search.proofs.Stamps.{unmarked_after, unmarked_still}

@@ -3,7 +3,7 @@
 use Prim.Native.Nat.{ℕ}
 use mathlib.Core.Path.{◌≡◌}
 use mathlib.Core.List.{List}
-use lib.ListN.{length, get_or, take}
+use lib.ListN.{get_or, take}
 use Rattle.cfg_edges.specs.Halves.{lo, hi}
 use Rattle.cfg_steps.specs.Columns.{painted}
 use Rattle.node_columns.proofs.Written.{Written}
@@ -16,6 +16,5 @@ abbrev pub invariant-loop-k : goal.invariant-loop-k
 invariant-loop-k l = record {
   nodes : Written lo l.k l.initial.code_node l.initial.code_node l.code_node;
   code_spans : Written (span l.spans) l.k l.initial.code_node l.initial.code_span l.code_span;
-  long : length l.start ≡ length l.initial.start;
   starts : l.start ≡ painted l.kinds l.spans (take l.k l.initial.code_node) l.initial.start;
 }

@@ -1,10 +1,12 @@
--- `reach::push_node` meets its contract: the two cases of the test.
+-- `reach::push_node` meets its contract: a node without a mark has room on the stack.
 -- Assumes nothing.
-use borrow.Author.Tests.{lt-ltb, le-ltb}
+use native.Mathlib.Omega.{arith}
+use lib.ListN.{length}
+use Rattle.search.specs.Running.{state_of}
+use Rattle.search.proofs.Stamps.{push_room}
 use Rattle.reach.proofs.push_node.Goals as goal
 
-pub returns-then-v-n : goal.returns-then-v-n
-returns-then-v-n c = simp (lt-ltb _ _ c.if-v-n.true) c.push_if_new.ensures
-
-pub returns-else-v-n : goal.returns-else-v-n
-returns-else-v-n c = simp (le-ltb _ _ c.if-v-n.false)
+pub insert-requires-clause-top_in_bounds : goal.insert-requires-clause-top_in_bounds
+insert-requires-clause-top_in_bounds c = λ q.
+    let s = c.args.search.now in
+    omega (arith, push_room s.stamp (length s.marks.now) c.args.v {s = state_of s} (omega arith) c.requires q, c.requires.fits.stack_long)
