@@ -11,39 +11,23 @@ ghost use Rattle.empty_read.specs.FirstRead.{mark_if, first_number};
 use search::Search;
 use use_words::PlacedUse;
 
-// Whether a use is an empty read: a read outside closures, which run who knows when, at a node that is not marked.
+// Whether a use is an empty read: a read outside closures, which run who knows when, at a node that is not marked. Then the node of a write is marked, for the reads that follow in its statement.
+// The test comes first: a ReadWrite reads before it writes, so its own mark must not hide its read.
 #[tactic(auto, using(crate::proofs::EmptyReads::asked))]
-fn is_empty_read(search: &Search<'_>, used: PlacedUse) -> bool
-    requires { node_in used < length search.now.marks.now }
-    ensures { (n : ℕ) → node_in used < n → result ≡ is_empty_read (flags_of search.now.stamp n search.now.marks.now) [] (use_of used) }
-{
-    used.is_read() && !used.in_closure && !search.is_marked(used.node as usize)
-}
-
-// The node of a use marked, if it is a write, for the reads that follow in its statement.
-fn mark_write(search: &mut Search<'_>, used: PlacedUse)
-    requires { node_in used < length search.old.marks.now }
-    ensures same { SameColumns search.old search.new × (search.new.stamp ≡ search.old.stamp) }
-    ensures marked { search.new.marks.now ≡ mark_if (is_write (use_of used)) (node_in used) search.old.stamp search.old.marks.now }
-{
-    if used.is_write() {
-        search.mark(used.node as usize);
-    }
-}
-
-// Both of one use, the test first: a ReadWrite reads before it writes, so its own mark must not hide its read.
 fn test_and_mark(search: &mut Search<'_>, used: PlacedUse) -> bool
     requires { node_in used < length search.old.marks.now }
     ensures same { SameColumns search.old search.new × (search.new.stamp ≡ search.old.stamp) }
     ensures tested { (n : ℕ) → node_in used < n → result ≡ is_empty_read (flags_of search.old.stamp n search.old.marks.now) [] (use_of used) }
     ensures marked { search.new.marks.now ≡ mark_if (is_write (use_of used)) (node_in used) search.old.stamp search.old.marks.now }
 {
-    let empty = is_empty_read(search, used);
-    mark_write(search, used);
+    let empty = used.is_read() && !used.in_closure && !search.is_marked(used.node as usize);
+    if used.is_write() {
+        search.mark(used.node as usize);
+    }
     empty
 }
 
-// The number of the first empty read in use order. The marks are those of the local's live walk.
+// The number of the first empty read in use order. The marks are those of the local's live walk. The search's stack is not touched, and nothing is asked of it.
 pub fn first_unassigned_use(mine: &[PlacedUse], search: &mut Search<'_>) -> Option<u16>
     requires { AllPlaced (length search.old.marks.now) mine.now }
     ensures same { SameColumns search.old search.new × (search.new.stamp ≡ search.old.stamp) }

@@ -51,6 +51,8 @@ impl LocalWalk<'_> {
     }
 
     // The nodes that a live path from after a write ends at, marked by the stamp; and how many they are. The stack may hold anything before, and is empty after.
+    // That no node is marked is a clause of each function that begins a walk, and no type: it holds up to the walk's first mark.
+    // A worklist by `pop`: each turn pushes on the stack that the next one takes from, which an iterator over it would hold. So the turns are counted here too.
     pub fn live_walk(&self, search: &mut Search<'_>, stamp: u16) -> usize
         requires { Unmarked stamp (nodes_of self.now.graph) search.old.marks.now search.old.stack.now }
         ensures same { SameColumns search.old search.new × (search.new.stamp ≡ stamp) }

@@ -12,7 +12,7 @@ use use_words::PlacedUse;
 use uses_by_node::AheadMarks;
 use words::finding::{LOCAL, OVERWRITTEN, USE};
 
-// A local whose values are judged: its number, its declaration, whether it has an initial value, and its uses by node.
+// A local whose values are judged: its number, its declaration, whether it has an initial value (a fact of the name, as `NameFacts` holds it), and its uses by node.
 #[derive(Clone, Copy)]
 pub struct JudgedLocal<'a> {
     pub number: usize,

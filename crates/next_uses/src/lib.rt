@@ -19,7 +19,7 @@ use search::Search;
 use use_words::PlacedUse;
 use uses_by_node::{AheadMarks, opens_node};
 
-// What a search back seeks: the nodes that a path to a read begins at, or to a pure write.
+// What a search back seeks: the nodes that a path to a read begins at, or to a pure write. An enum and no closure, since the clauses name the sort that a search finds.
 #[derive(Clone, Copy)]
 pub enum Sought {
     Read,
@@ -75,6 +75,7 @@ impl SearchBack<'_> {
     }
 
     // The nodes that a path which meets a use of the sort begins at, marked. The stack may hold anything, before and after.
+    // A worklist by `pop`: each turn pushes on the stack that the next one takes from, which an iterator over it would hold.
     fn mark(&self, sought: Sought, marks: &mut [u16], stack: &mut [u16])
         requires unmarked { Unmarked self.now.way.stamp (nodes_back self.now.way) marks.old stack.old }
         requires chained { Chained (nodes_back self.now.way) self.now.way.chain.now }

@@ -7,6 +7,7 @@ ghost use Rattle.predecessors.specs.Predecessors.{Blank, Linked, Falls, link_hea
 
 use live_steps::{Edges, LocalDeclaration};
 use search::Search;
+use std::mem::replace;
 
 // What a node keeps of the chains: the last edge to it, and the edges that its own first and second edge follow in their chains.
 // Node u's first edge has the code u + u + 1, its second u + u + 2. 0 is no edge: an Option in its place would make the fixed memory of the chains twice as large.
@@ -25,15 +26,14 @@ pub const UNLINKED: Links = Links {
 };
 
 // An edge put in front of v's chain. The result is the edge that it follows there. What is no node has no chain.
+// A test and an index: of the column that `get_mut` lends a cell of, std's clauses do not say what it holds afterwards, so that the proof did not close.
 fn put_in_front(chain: &mut [Links], v: u64, edge: u16) -> u16
     ensures linked { chain.new ≡ link_head v edge chain.old }
     ensures follows { v < length chain.old → result ≡ head_of chain.old v }
 {
     let v = v as usize;
     if v < chain.len() {
-        let after = chain[v].last;
-        chain[v].last = edge;
-        after
+        replace(&mut chain[v].last, edge)
     } else {
         0
     }

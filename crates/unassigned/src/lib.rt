@@ -17,7 +17,7 @@ use search::Search;
 use words::finding::{LOCAL, USE};
 
 // The finding of a walk, if it found a use.
-#[tactic(auto, using(locals::proofs::Entries::added_none))]
+#[tactic(auto, using(locals::proofs::Entries::added_none, crate::proofs::Words::words_at_one))]
 fn push_found(findings: &mut FindingList<'_>, local: usize, first: Option<u16>)
     requires { (local < 1024) × (findings.old.count < length findings.old.words.now) }
     ensures { AddsTo (words_at local first) findings.old findings.new }

@@ -41,7 +41,7 @@ pub struct PlacedUse {
     pub in_closure: bool,
 }
 
-// What the cells of a column of uses hold at first.
+// What the cells of a column of uses hold at first. It has a name, and is no Default: no kind of use stands for none.
 pub const NO_USE: PlacedUse = PlacedUse {
     number: 0,
     node: 0,
@@ -51,8 +51,8 @@ pub const NO_USE: PlacedUse = PlacedUse {
 };
 
 impl PlacedUse {
-    // The use with this number, at this node, whose word in the use sheet is `word`.
-    #[tactic(auto, unfolding(crate::specs::Words::use_of))]
+    // The use with this number, at this node, whose word in the use sheet is `word`. Whether its local is captured is a value of the local's, and chooses no step.
+    #[tactic(auto, using(crate::proofs::Words::use_inside, crate::proofs::Words::use_uncrossed, crate::proofs::Words::use_uncaptured))]
     pub fn new(number: usize, node: usize, word: u64, captured: bool) -> PlacedUse
         requires { (number < 65536) × (node < 65536) }
         ensures placed { use_of result ≡ record { number = number; span = 0; kind = use_kind_of word; in_closure = captured && eqb (crossing_of word) 1; found = Some node } }

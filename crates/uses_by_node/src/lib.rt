@@ -8,7 +8,7 @@ ghost use Rattle.uses_by_node.specs.Uses.{next_in_node, opens_node};
 use live_steps::Edges;
 use use_words::PlacedUse;
 
-// Whether the next place holds a use at the same node.
+// Whether the next place holds a use at the same node. The index's bound is a clause here and below: a type of places would be one for each slice, and no plainer.
 #[tactic(auto, using(std::proofs::lemmas::Bool::Decides::nat_tests), unfolding(crate::specs::Uses::next_in_node))]
 fn next_in_node(uses: &[PlacedUse], i: usize) -> bool
     requires { i < length uses.now }

@@ -1,10 +1,7 @@
 -- `empty_read::first_unassigned_use` meets its contract: what the marks leave to the uses from the turn's on is what they left to all at the start.
 -- Assumes nothing.
-use Rattle.empty_read.proofs.EmptyReads.{reading_none, reading_turn, reading_found, reading_over}
+use Rattle.empty_read.proofs.EmptyReads.{reading_turn, reading_found, reading_over}
 use Rattle.empty_read.proofs.first_unassigned_use.Goals as goal
-
-pub loop-used-init : goal.loop-used-init
-loop-used-init c = reading_none _ _
 
 pub returns-then-test_and_mark-clause-first : goal.returns-then-test_and_mark-clause-first
 returns-then-test_and_mark-clause-first c =

@@ -15,9 +15,6 @@ use Rattle.next_uses.proofs.SearchBack.push_begins.Goals.{In-loop-i, then-begins
 below : (c : In-loop-i) → node_at c.args.self.now.uses.now c.loop-i.i < nodes_back c.args.self.now.way
 below c = c.args.self.now.placed _ no_use c.loop-i-test.true
 
-pub loop-i-init : goal.loop-i-init
-loop-i-init c = record { same = record { marks_name = refl; stack_name = refl; marks_len = refl; stack_len = refl }; same_stamp = refl; ready = c.requires; pushed = refl }
-
 pub insert-requires-clause-top_in_bounds : goal.insert-requires-clause-top_in_bounds
 insert-requires-clause-top_in_bounds c = λ q.
     let h = below (goal.at.insert-requires-clause-top_in_bounds c).In-loop-i in
