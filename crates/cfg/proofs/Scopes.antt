@@ -30,9 +30,6 @@ good_scope {b} {t} {x} s q hs ok = subst (λ (w : Place). Good w x) (sym q) (goo
 pub entered_scope : (ks ss : List ℕ) (b : Place) {t e : Place} {x y : Cols} (s : ℕ) → t ≡ within (scope_settings s b.settings) b → Entered ks (labels_at ks ss t.item) t x e y → Entered ks (labels_at ks ss b.item) (within (scope_settings s b.settings) b) x e y
 entered_scope ks ss b {e = e} {x = x} {y = y} s q n = subst (λ (w : Place). Entered ks (labels_at ks ss w.item) w x e y) q n
 
-pub good_loop : {b t : Place} {x : Cols} (after next : ℕ) → t ≡ within (loop_settings after next b.settings) b → after < b.nodes → next < b.nodes → Good b x → Good t x
-good_loop {b} {t} {x} after next q ha hn ok = subst (λ (w : Place). Good w x) (sym q) (good_within (loop_settings after next b.settings) (le_refl _) ok.scope_end ha hn ok)
-
 pub scoped_loop : (ks ss : List ℕ) (b : Place) {t r : Place} {x y : Cols} (s after next : ℕ) → t ≡ within (loop_settings after next b.settings) b → Scoped ks ss s t x r y → Scoped ks ss s (within (loop_settings after next b.settings) b) x r y
 scoped_loop ks ss b {r = r} {x = x} {y = y} s after next q f = subst (λ (w : Place). Scoped ks ss s w x r y) q f
 

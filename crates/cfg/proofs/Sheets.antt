@@ -6,16 +6,15 @@ use mathlib.Core.List.{List, [], ◌∷◌, ◌++◌}
 use Prim.Native.Nat.{ℕ, ◌≤◌}
 use native.Mathlib.Omega.{arith}
 use lib.ListN.{length, drop, replicate}
-use lib.Dec.{lit<, lit≤}
 use Rattle.flow.specs.Sheet.{kind_words, span_words, outer_end}
 use Rattle.flow.specs.Tree.{Block, tree}
 use Rattle.flow.specs.Graph.{Graph, Settings, new_node, outside, start_graph, inside, entered, build_block, close_into, graph}
 use Rattle.flow.specs.declared.Counts.{Counts}
 use Rattle.blocks.specs.Open.{open_at}
 use Rattle.cfg_edges.specs.Halves.{label_list}
-use Rattle.cfg_steps.specs.Columns.{Place, Cols, cols, graph_of, settings_of, painted, Good, Did}
+use Rattle.cfg_steps.specs.Columns.{Place, Cols, cols, graph_of, settings_of, painted, Did}
 use Rattle.cfg_steps.proofs.Ops.{drop_more}
-use Rattle.cfg.specs.Steps.{free, Started, Wide, Whole, Scoped, counted}
+use Rattle.cfg.specs.Steps.{free, Started, Whole, Scoped, counted}
 
 pub six : (es : List ℕ) → 6 ≤ length es → Started es (replicate 6 free ++ drop 6 es)
 six [] h = absurd (omega arith)
@@ -30,29 +29,7 @@ six (a ∷ b ∷ c ∷ d ∷ e ∷ f ∷ es) h = record { nodes = refl; past = r
 abbrev pub first : Place
 first = record { item = 0; nodes = 6; codes = 0; names = 0; cursor = Some 5; settings = record { labels = 0; scope_end = 0; break_target = 1; continue_target = 0 } }
 
-module _ (e c n l e' : List ℕ) (w : Wide (cols e c n l)) (s : Started e e') where
-  pub first_good : Good first (cols e' c n l)
-  first_good = record {
-    wide_edges = omega (arith, w.edges, s.size);
-    wide_codes = w.codes;
-    wide_names = w.names;
-    wide_labels = w.labels;
-    items = lit≤ tt;
-    nodes = lit≤ tt;
-    exits = lit≤ tt;
-    codes = lit≤ tt;
-    names = lit≤ tt;
-    labels = lit≤ tt;
-    cursor = lit< tt;
-    break_target = lit< tt;
-    continue_target = lit< tt;
-    scope_end = lit< tt;
-    code_nodes = λ k h. absurd (omega arith);
-    code_items = λ k h. absurd (omega arith);
-    name_items = λ k h. absurd (omega arith);
-    label_nodes = λ k h. absurd (omega arith);
-  }
-
+module _ (e c n l e' : List ℕ) (s : Started e e') where
   first_graph : (ks ss : List ℕ) → graph_of ks ss first (cols e' c n l) ≡ start_graph
   unfolding graph_of painted start_graph new_node
   first_graph ks ss = rw s.nodes

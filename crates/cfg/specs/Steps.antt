@@ -111,23 +111,31 @@ StmtRoom ks i b = (ss : List ℕ) → length ss ≡ length ks → (st : Stmt) (o
 abbrev pub ArmRoom : List ℕ → Place → Type 0
 ArmRoom ks b = (ss : List ℕ) → length ss ≡ length ks → b.nodes + arm_nodes (open_at ks ss b.item).top.arms ≤ 1600
 
--- ---- where a builder stands: in sane kinds, with good columns and room for what it is to build
+-- ---- where a builder stands: in sane kinds, with room for what it is to build
+
+-- at a block, whose scope ends at e
+abbrev pub AtBlock : List ℕ → ℕ → Place → Type 0
+AtBlock ks e b = Sane ks × (b.item ≤ length ks) × BlockRoom ks b × (e < 4294967296)
+
+-- in a block whose labels have their nodes, at a statement or the block's end
+abbrev pub InBlock : List ℕ → Place → Type 0
+InBlock ks b = Sane ks × (b.item ≤ length ks) × EnteredRoom ks b
 
 -- at a statement
-abbrev pub AtStmt : List ℕ → Place → Cols → Type 0
-AtStmt ks b x = Sane ks × Good b x × (b.item < length ks) × (Ender (kind_of (get_or ks b.item 0)) → ⊥) × StmtRoom ks b.item b
+abbrev pub AtStmt : List ℕ → Place → Type 0
+AtStmt ks b = Sane ks × (b.item < length ks) × (Ender (kind_of (get_or ks b.item 0)) → ⊥) × StmtRoom ks b.item b
 
 -- right past item i, of kind k, which begins a statement
-abbrev pub PastHead : List ℕ → ℕ → ℕ → Place → Cols → Type 0
-PastHead ks i k b x = Sane ks × Good b x × (b.item ≡ i + 1) × (b.codes < b.item) × (i < length ks) × (kind_of (get_or ks i 0) ≡ k) × StmtRoom ks i b
+abbrev pub PastHead : List ℕ → ℕ → ℕ → Place → Type 0
+PastHead ks i k b = Sane ks × (b.item ≡ i + 1) × (b.codes < b.item) × (i < length ks) × (kind_of (get_or ks i 0) ≡ k) × StmtRoom ks i b
 
 -- at the item that ends a block, or at the sheet's end
-abbrev pub AtEnd : List ℕ → Place → Cols → Type 0
-AtEnd ks b x = Sane ks × Good b x × (b.item ≤ length ks) × ((b.item < length ks) → Ender (kind_of (get_or ks b.item 0))) × ArmRoom ks b
+abbrev pub AtEnd : List ℕ → Place → Type 0
+AtEnd ks b = Sane ks × (b.item ≤ length ks) × ((b.item < length ks) → Ender (kind_of (get_or ks b.item 0))) × ArmRoom ks b
 
 -- at an arm
-abbrev pub AtArm : List ℕ → Place → Cols → Type 0
-AtArm ks b x = Sane ks × Good b x × (b.item < length ks) × Arm (kind_of (get_or ks b.item 0)) × ArmRoom ks b
+abbrev pub AtArm : List ℕ → Place → Type 0
+AtArm ks b = Sane ks × (b.item < length ks) × Arm (kind_of (get_or ks b.item 0)) × ArmRoom ks b
 
 -- ---- a whole sheet
 

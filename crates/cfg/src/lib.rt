@@ -1,16 +1,17 @@
 // The builders of a sheet's graph: a block holds statements, and a statement holds blocks. They are functions, since methods would have to
-// stand in the crate of the builder's steps.
+// stand in the crate of the builder's steps. That the kinds are sane, and where in them a builder stands, is no fact of its type: its steps
+// ask for neither, and a struct of this crate round it would stand between them.
 #![tactic(auto)]
 
 ghost use Rattle.std.specs.Prelude.{◌≡◌, true, false, ◌+◌, ◌≤◌, ◌<◌, length, get_or};
 ghost use Rattle.flow.specs.Sheet.{kind_of};
 ghost use Rattle.kinds.specs.Ends.{ends_block};
 ghost use Rattle.search.specs.Lent.{held, left};
-ghost use Rattle.cfg_steps.specs.Columns.{cols, cols_at, place, columns, Good, Kept};
-ghost use Rattle.cfg.specs.Steps.{Sane, ForSpans, Stepped, Opened, Finished, Scoped, Looped, Arm, ArmBuilt, Chosen, BlockRoom, EnteredRoom, AtStmt, PastHead, AtEnd, AtArm, Started, Wide, WholeRoom, Whole};
+ghost use Rattle.cfg_steps.specs.Columns.{cols, cols_at, place, columns, Kept, Keeps};
+ghost use Rattle.cfg.specs.Steps.{Sane, ForSpans, Stepped, Opened, Finished, Scoped, Looped, Arm, ArmBuilt, Chosen, AtBlock, InBlock, AtStmt, PastHead, AtEnd, AtArm, Started, Wide, WholeRoom, Whole};
 
 use block_settings::BlockSettings;
-use cfg_steps::GraphBuilder;
+use cfg_steps::{GraphBuilder, SheetBuilder};
 use flow::Counts;
 use if_builder::IfBuilder;
 use kinds::{Kind, is_block_end, literal_truth};
@@ -27,12 +28,12 @@ fn past(at: usize, len: usize) -> usize
 
 // The statements from the builder's item on, up to the item that ends their block. Each says where the next begins: no index is counted.
 #[cycle(arm_arms_block_for_loop_if_stmt_loop_body_repeat_loop_scoped_block_stmt_while_loop)]
-fn block(b: &mut GraphBuilder<'_>)
-    requires { Sane b.old.kinds.now × Good (place b.old) (columns b.old) × (b.old.item ≤ length b.old.kinds.now) × EnteredRoom b.old.kinds.now (place b.old) }
-    ensures kept { Kept b.old b.new }
-    ensures built { ForSpans b.old.kinds.now (λ ks ss. Finished ks ss (place b.old) (columns b.old) (place b.new) (columns b.new)) }
+fn block(b: &mut SheetBuilder<'_, '_>)
+    requires { InBlock b.old.graph.now.kinds.now (place b.old.graph.now) }
+    ensures kept { Keeps Kept b.old.graph b.new.graph }
+    ensures built { ForSpans b.old.graph.now.kinds.now (λ ks ss. Finished ks ss (place b.old.graph.now) (columns b.old.graph.now) (place b.new.graph.now) (columns b.new.graph.now)) }
 {
-    while let Some(&word) = b.kinds.get(b.item) {
+    while let Some(&word) = b.graph.kinds.get(b.graph.item) {
         if is_block_end(word) {
             return;
         }
@@ -42,104 +43,104 @@ fn block(b: &mut GraphBuilder<'_>)
 
 // A block whose scope ends at scope_end, with its own labels in force.
 #[cycle(arm_arms_block_for_loop_if_stmt_loop_body_repeat_loop_scoped_block_stmt_while_loop)]
-fn scoped_block(b: &mut GraphBuilder<'_>, scope_end: u64)
-    requires { Sane b.old.kinds.now × Good (place b.old) (columns b.old) × (b.old.item ≤ length b.old.kinds.now) × BlockRoom b.old.kinds.now (place b.old) × (scope_end < 4294967296) }
-    ensures kept { Kept b.old b.new }
-    ensures built { ForSpans b.old.kinds.now (λ ks ss. Scoped ks ss scope_end (place b.old) (columns b.old) (place b.new) (columns b.new)) }
+fn scoped_block(b: &mut SheetBuilder<'_, '_>, scope_end: u64)
+    requires { AtBlock b.old.graph.now.kinds.now scope_end (place b.old.graph.now) }
+    ensures kept { Keeps Kept b.old.graph b.new.graph }
+    ensures built { ForSpans b.old.graph.now.kinds.now (λ ks ss. Scoped ks ss scope_end (place b.old.graph.now) (columns b.old.graph.now) (place b.new.graph.now) (columns b.new.graph.now)) }
 {
-    let outer = b.settings;
-    b.settings = outer.enter_scope(scope_end);
+    let outer = b.graph.settings;
+    b.graph.settings = outer.enter_scope(scope_end);
     b.enter_block();
     block(b);
-    b.settings = b.settings.return_to(outer);
+    b.graph.settings = b.graph.settings.return_to(outer);
 }
 
 // A loop's body: BREAK goes to its break target, CONTINUE and the body's end to its continue target.
 #[cycle(arm_arms_block_for_loop_if_stmt_loop_body_repeat_loop_scoped_block_stmt_while_loop)]
-fn loop_body(b: &mut GraphBuilder<'_>, scope_end: u64, targets: LoopTargets)
-    requires sane { Sane b.old.kinds.now × Good (place b.old) (columns b.old) × (b.old.item ≤ length b.old.kinds.now) × BlockRoom b.old.kinds.now (place b.old) × (scope_end < 4294967296) }
-    requires break_target_lt_nodes { (targets.break_target < b.old.node_count) × (targets.continue_target < b.old.node_count) }
-    ensures kept { Kept b.old b.new }
-    ensures built { ForSpans b.old.kinds.now (λ ks ss. Looped ks ss scope_end targets.break_target targets.continue_target (place b.old) (columns b.old) (place b.new) (columns b.new)) }
+fn loop_body(b: &mut SheetBuilder<'_, '_>, scope_end: u64, targets: LoopTargets)
+    requires at_block { AtBlock b.old.graph.now.kinds.now scope_end (place b.old.graph.now) }
+    requires break_target_lt_nodes { (targets.break_target < b.old.graph.now.node_count) × (targets.continue_target < b.old.graph.now.node_count) }
+    ensures kept { Keeps Kept b.old.graph b.new.graph }
+    ensures built { ForSpans b.old.graph.now.kinds.now (λ ks ss. Looped ks ss scope_end targets.break_target targets.continue_target (place b.old.graph.now) (columns b.old.graph.now) (place b.new.graph.now) (columns b.new.graph.now)) }
 {
-    let outer = b.settings;
-    b.settings = outer.enter_loop(targets);
+    let outer = b.graph.settings;
+    b.graph.settings = outer.enter_loop(targets);
     scoped_block(b, scope_end);
-    b.close_into(targets.continue_target);
-    b.settings = b.settings.return_to(outer);
+    b.graph.close_into(targets.continue_target);
+    b.graph.settings = b.graph.settings.return_to(outer);
 }
 
 // The WHILE of item i.
 #[cycle(arm_arms_block_for_loop_if_stmt_loop_body_repeat_loop_scoped_block_stmt_while_loop)]
-fn while_loop(b: &mut GraphBuilder<'_>, i: usize)
-    requires { PastHead b.old.kinds.now i 2 (place b.old) (columns b.old) }
-    ensures kept { Kept b.old b.new }
-    ensures built { ForSpans b.old.kinds.now (λ ks ss. Opened ks ss i (place b.old) (columns b.old) (place b.new) (columns b.new)) }
+fn while_loop(b: &mut SheetBuilder<'_, '_>, i: usize)
+    requires { PastHead b.old.graph.now.kinds.now i 2 (place b.old.graph.now) }
+    ensures kept { Keeps Kept b.old.graph b.new.graph }
+    ensures built { ForSpans b.old.graph.now.kinds.now (λ ks ss. Opened ks ss i (place b.old.graph.now) (columns b.old.graph.now) (place b.new.graph.now) (columns b.new.graph.now)) }
 {
-    let argument = b.kinds[i] / ARGUMENT;
+    let argument = b.graph.kinds[i] / ARGUMENT;
     let truth = literal_truth(argument % SCOPE_END);
-    let head = b.node_count;
+    let head = b.graph.node_count;
     b.while_head(i, truth);
     let targets = LoopTargets {
         break_target: head + 1,
         continue_target: head,
     };
     loop_body(b, argument / SCOPE_END, targets);
-    b.item = past(b.item, b.kinds.len());
+    b.graph.item = past(b.graph.item, b.graph.kinds.len());
     b.loop_end(head, truth);
 }
 
 // The REPEAT of item i.
 #[cycle(arm_arms_block_for_loop_if_stmt_loop_body_repeat_loop_scoped_block_stmt_while_loop)]
-fn repeat_loop(b: &mut GraphBuilder<'_>, i: usize)
-    requires { PastHead b.old.kinds.now i 3 (place b.old) (columns b.old) }
-    ensures kept { Kept b.old b.new }
-    ensures built { ForSpans b.old.kinds.now (λ ks ss. Opened ks ss i (place b.old) (columns b.old) (place b.new) (columns b.new)) }
+fn repeat_loop(b: &mut SheetBuilder<'_, '_>, i: usize)
+    requires { PastHead b.old.graph.now.kinds.now i 3 (place b.old.graph.now) }
+    ensures kept { Keeps Kept b.old.graph b.new.graph }
+    ensures built { ForSpans b.old.graph.now.kinds.now (λ ks ss. Opened ks ss i (place b.old.graph.now) (columns b.old.graph.now) (place b.new.graph.now) (columns b.new.graph.now)) }
 {
-    let argument = b.kinds[i] / ARGUMENT;
+    let argument = b.graph.kinds[i] / ARGUMENT;
     let truth = literal_truth(argument % SCOPE_END);
-    let body = b.node_count;
+    let body = b.graph.node_count;
     b.repeat_head();
     loop_body(b, argument / SCOPE_END, repeat_targets(body));
-    let end = b.item;
-    b.item = past(end, b.kinds.len());
+    let end = b.graph.item;
+    b.graph.item = past(end, b.graph.kinds.len());
     b.repeat_end(end, body, truth);
 }
 
 // The FOR of item i.
 #[cycle(arm_arms_block_for_loop_if_stmt_loop_body_repeat_loop_scoped_block_stmt_while_loop)]
-fn for_loop(b: &mut GraphBuilder<'_>, i: usize)
-    requires { PastHead b.old.kinds.now i 4 (place b.old) (columns b.old) }
-    ensures kept { Kept b.old b.new }
-    ensures built { ForSpans b.old.kinds.now (λ ks ss. Opened ks ss i (place b.old) (columns b.old) (place b.new) (columns b.new)) }
+fn for_loop(b: &mut SheetBuilder<'_, '_>, i: usize)
+    requires { PastHead b.old.graph.now.kinds.now i 4 (place b.old.graph.now) }
+    ensures kept { Keeps Kept b.old.graph b.new.graph }
+    ensures built { ForSpans b.old.graph.now.kinds.now (λ ks ss. Opened ks ss i (place b.old.graph.now) (columns b.old.graph.now) (place b.new.graph.now) (columns b.new.graph.now)) }
 {
-    let scope_end = b.kinds[i] / ARGUMENT / SCOPE_END;
-    let head = b.node_count + 1;
+    let scope_end = b.graph.kinds[i] / ARGUMENT / SCOPE_END;
+    let head = b.graph.node_count + 1;
     b.for_head(i);
     let targets = LoopTargets {
         break_target: head + 1,
         continue_target: head,
     };
     loop_body(b, scope_end, targets);
-    b.item = past(b.item, b.kinds.len());
+    b.graph.item = past(b.graph.item, b.graph.kinds.len());
     b.loop_end(head, None);
 }
 
 // The IF of item i.
 #[cycle(arm_arms_block_for_loop_if_stmt_loop_body_repeat_loop_scoped_block_stmt_while_loop)]
-fn if_stmt(b: &mut GraphBuilder<'_>, i: usize)
-    requires { PastHead b.old.kinds.now i 5 (place b.old) (columns b.old) }
-    ensures kept { Kept b.old b.new }
-    ensures built { ForSpans b.old.kinds.now (λ ks ss. Opened ks ss i (place b.old) (columns b.old) (place b.new) (columns b.new)) }
+fn if_stmt(b: &mut SheetBuilder<'_, '_>, i: usize)
+    requires { PastHead b.old.graph.now.kinds.now i 5 (place b.old.graph.now) }
+    ensures kept { Keeps Kept b.old.graph b.new.graph }
+    ensures built { ForSpans b.old.graph.now.kinds.now (λ ks ss. Opened ks ss i (place b.old.graph.now) (columns b.old.graph.now) (place b.new.graph.now) (columns b.new.graph.now)) }
 {
-    let scope_end = b.kinds[i] / ARGUMENT / SCOPE_END;
-    let test = b.node_count;
+    let scope_end = b.graph.kinds[i] / ARGUMENT / SCOPE_END;
+    let test = b.graph.node_count;
     let join = test + 1;
     b.code_and_after(i);
     scoped_block(b, scope_end);
-    b.close_into(join);
+    b.graph.close_into(join);
     arms(b, test, join);
-    b.cursor = Some(join);
+    b.graph.cursor = Some(join);
 }
 
 // Whether ELSEIF or ELSE stands at a place of the sheet.
@@ -155,60 +156,60 @@ fn arm_follows(kinds: &[u64], at: usize) -> bool
 // The arms from the item that ends the block above on, and the last end. Without ELSE the last test goes on to the join.
 // Each arm says where the next begins: no index is counted.
 #[cycle(arm_arms_block_for_loop_if_stmt_loop_body_repeat_loop_scoped_block_stmt_while_loop)]
-fn arms(b: &mut GraphBuilder<'_>, test: usize, join: usize)
-    requires at_end { AtEnd b.old.kinds.now (place b.old) (columns b.old) }
-    requires test_lt_nodes { (test < b.old.node_count) × (join < b.old.node_count) }
-    ensures kept { Kept b.old b.new }
-    ensures built { ForSpans b.old.kinds.now (λ ks ss. Chosen ks ss test join true (place b.old) (columns b.old) (place b.new) (columns b.new)) }
+fn arms(b: &mut SheetBuilder<'_, '_>, test: usize, join: usize)
+    requires at_end { AtEnd b.old.graph.now.kinds.now (place b.old.graph.now) }
+    requires test_lt_nodes { (test < b.old.graph.now.node_count) × (join < b.old.graph.now.node_count) }
+    ensures kept { Keeps Kept b.old.graph b.new.graph }
+    ensures built { ForSpans b.old.graph.now.kinds.now (λ ks ss. Chosen ks ss test join true (place b.old.graph.now) (columns b.old.graph.now) (place b.new.graph.now) (columns b.new.graph.now)) }
 {
     let mut s = IfBuilder { test, falls: true };
-    while arm_follows(b.kinds, b.item) {
+    while arm_follows(b.graph.kinds, b.graph.item) {
         arm(b, &mut s, join);
     }
-    b.item = past(b.item, b.kinds.len());
+    b.graph.item = past(b.graph.item, b.graph.kinds.len());
     b.arms_end(s.test, join, s.falls);
 }
 
 // One arm. ELSEIF brings a test of its own; past ELSE no test goes on to the join.
 #[cycle(arm_arms_block_for_loop_if_stmt_loop_body_repeat_loop_scoped_block_stmt_while_loop)]
-fn arm(b: &mut GraphBuilder<'_>, s: &mut IfBuilder, join: usize)
-    requires at_arm { AtArm b.old.kinds.now (place b.old) (columns b.old) }
-    requires test_lt_nodes { (s.old.test < b.old.node_count) × (join < b.old.node_count) }
-    ensures kept { Kept b.old b.new }
-    ensures built { (b.old.item < b.new.item) × ForSpans b.old.kinds.now (λ ks ss. ArmBuilt ks ss join s.old (place b.old) (columns b.old) s.new (place b.new) (columns b.new)) }
+fn arm(b: &mut SheetBuilder<'_, '_>, s: &mut IfBuilder, join: usize)
+    requires at_arm { AtArm b.old.graph.now.kinds.now (place b.old.graph.now) }
+    requires test_lt_nodes { (s.old.test < b.old.graph.now.node_count) × (join < b.old.graph.now.node_count) }
+    ensures kept { Keeps Kept b.old.graph b.new.graph }
+    ensures built { (b.old.graph.now.item < b.new.graph.now.item) × ForSpans b.old.graph.now.kinds.now (λ ks ss. ArmBuilt ks ss join s.old (place b.old.graph.now) (columns b.old.graph.now) s.new (place b.new.graph.now) (columns b.new.graph.now)) }
 {
-    let at = b.item;
-    let word = b.kinds[at];
+    let at = b.graph.item;
+    let word = b.graph.kinds[at];
     let scope_end = word / ARGUMENT / SCOPE_END;
-    b.item = at + 1;
+    b.graph.item = at + 1;
     if Kind::of(word) == Some(Kind::ElseIf) {
-        let test = b.node_count;
+        let test = b.graph.node_count;
         b.arm_test(at, s.test);
         scoped_block(b, scope_end);
-        b.close_into(join);
+        b.graph.close_into(join);
         s.past_elseif(test);
     } else {
-        b.cursor = Some(s.test);
+        b.graph.cursor = Some(s.test);
         scoped_block(b, scope_end);
-        b.close_into(join);
+        b.graph.close_into(join);
         s.past_else();
     }
 }
 
 // The statement at the builder's item.
 #[cycle(arm_arms_block_for_loop_if_stmt_loop_body_repeat_loop_scoped_block_stmt_while_loop)]
-fn stmt(b: &mut GraphBuilder<'_>)
-    requires { AtStmt b.old.kinds.now (place b.old) (columns b.old) }
-    ensures kept { Kept b.old b.new }
-    ensures built { ForSpans b.old.kinds.now (λ ks ss. Stepped ks ss (place b.old) (columns b.old) (place b.new) (columns b.new)) }
+fn stmt(b: &mut SheetBuilder<'_, '_>)
+    requires { AtStmt b.old.graph.now.kinds.now (place b.old.graph.now) }
+    ensures kept { Keeps Kept b.old.graph b.new.graph }
+    ensures built { ForSpans b.old.graph.now.kinds.now (λ ks ss. Stepped ks ss (place b.old.graph.now) (columns b.old.graph.now) (place b.new.graph.now) (columns b.new.graph.now)) }
 {
-    let i = b.item;
-    let word = b.kinds[i];
-    b.item = i + 1;
+    let i = b.graph.item;
+    let word = b.graph.kinds[i];
+    b.graph.item = i + 1;
     match Kind::of(word) {
         Some(Kind::Do) => {
             scoped_block(b, word / ARGUMENT / SCOPE_END);
-            b.item = past(b.item, b.kinds.len());
+            b.graph.item = past(b.graph.item, b.graph.kinds.len());
         }
         Some(Kind::While) => while_loop(b, i),
         Some(Kind::Repeat) => repeat_loop(b, i),
@@ -239,7 +240,7 @@ pub fn of_block(
     ensures { ForSpans kinds.now (λ ks ss. Whole ks ss scope_end (cols_at held edges codes names labels) result (cols_at left edges codes names labels)) }
 {
     start_nodes(edges);
-    let mut b = GraphBuilder {
+    let mut graph = GraphBuilder {
         kinds,
         edges,
         codes,
@@ -257,11 +258,12 @@ pub fn of_block(
             continue_target: exit::END,
         },
     };
+    let mut b = SheetBuilder { graph: &mut graph };
     scoped_block(&mut b, scope_end);
-    b.close_into(exit::END);
+    b.graph.close_into(exit::END);
     Counts {
-        nodes: b.node_count,
-        codes: b.code_count,
-        names: b.name_count,
+        nodes: b.graph.node_count,
+        codes: b.graph.code_count,
+        names: b.graph.name_count,
     }
 }

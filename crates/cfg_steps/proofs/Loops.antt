@@ -8,14 +8,12 @@ use mathlib.Core.List.{List}
 use mathlib.Core.Bool.{Bool, true, false, cond}
 use Prim.Native.Nat.{ℕ, ◌+◌, ◌<◌}
 use native.Mathlib.Omega.{arith}
-use lib.ListN.{get_or}
 use Rattle.flow.specs.Graph.{Graph, absent, connect, set_current, record_code, enter_when, unless_true, unless_false}
 use Rattle.cfg_edges.specs.Halves.{joined_from}
 use Rattle.kinds.specs.Truths.{may_fail, may_hold}
 use Rattle.cfg_steps.specs.Columns.{Place, Cols, cols, cursor_node, graph_of, settings_of, Good, Did, repeat_end}
 use Rattle.cfg_steps.proofs.Fits.{good_as}
-use Rattle.cfg_steps.proofs.Ops.{edge_did, with_cursor, did_trans, current_of, from_joined}
-use Rattle.cfg_steps.proofs.Simple.{did_as}
+use Rattle.cfg_steps.proofs.Ops.{edge_did, with_cursor, current_of, from_joined}
 
 -- another node is current
 pub move_did : (ks : List ℕ) (b : Place) (e c n l : List ℕ) (ok : Good b (cols e c n l)) (v : Option ℕ) → IfSome v (λ u. u < b.nodes) → Did ks (λ ss. set_current (cursor_node v)) 0 b (cols e c n l) (with_cursor ks b e c n l ok v) (cols e c n l)
@@ -73,12 +71,6 @@ enter_never (Some false) g e = refl
 enter_never (Some true) g e = absurd (let z : ◌≡◌ {A = ℕ} 1 0 = ap (λ (b : Bool). cond b 1 0) e in omega arith)
 enter_never None g e = absurd (let z : ◌≡◌ {A = ℕ} 1 0 = ap (λ (b : Bool). cond b 1 0) e in omega arith)
 
--- the current node is overwritten
-pub moved_twice : (u v : ℕ) (w : Bool) (a b : ℕ) (g : Graph) → set_current v (cond w (connect a b (set_current u g)) (set_current u g)) ≡ set_current v (cond w (connect a b g) g)
-unfolding set_current connect
-moved_twice u v true a b g = refl
-moved_twice u v false a b g = refl
-
 -- a span and edges leave each other alone
 span_last : (t : Option Bool) (body s : ℕ) (g : Graph)
     → set_current (body + 2) (unless_false t (connect (body + 1) (body + 2)) (unless_true t (connect (body + 1) body) (record_code s (body + 1) g))) ≡ repeat_end t body s g
@@ -87,18 +79,15 @@ span_last (Some false) body s g = refl
 span_last (Some true) body s g = refl
 span_last None body s g = refl
 
-pub repeat_did : (ks e c n l : List ℕ) {b : Place} {x : Cols} (t : Place) (body j : ℕ) (truth : Option Bool) (e1 e2 : List ℕ) {p q : Bool}
-    → (d : Did ks (λ ss. record_code (get_or ss j 0) (body + 1)) 0 b x t (cols e c n l)) → p ≡ may_fail truth → q ≡ may_hold truth → e1 ≡ joined_from (then_some p (body + 1)) body e → e2 ≡ joined_from (then_some q (body + 1)) (body + 2) e1 → body + 2 < t.nodes
-    → Did ks (λ ss. repeat_end truth body (get_or ss j 0)) 0 b x (with_cursor ks t e c n l d.good (Some (body + 2))) (cols e2 c n l)
-repeat_did ks e c n l t body j truth e1 e2 {p} {q} d ep eq h1 h2 hb =
-    let d1 = if_did ks t e c n l d.good (body + 1) body (Some (body + 2)) p e1 h1 (omega arith) (omega arith) hb in
-    let d2 = if_did ks _ e1 c n l d1.good (body + 1) (body + 2) (Some (body + 2)) q e2 h2 (omega arith) hb hb in
-    did_as (omega arith) (λ ss g. moved_twice (body + 2) (body + 2) q (body + 1) (body + 2) _ ∙ ap (set_current (body + 2)) (same_edges truth p q ep eq (record_code (get_or ss j 0) (body + 1) g)) ∙ span_last truth body (get_or ss j 0) g) (did_trans (did_trans d d1) d2)
+-- UNTIL's span, and its condition's edges where they are wanted
+pub repeat_ends : (t : Option Bool) {p q : Bool} (body s : ℕ) (g : Graph) → p ≡ may_fail t → q ≡ may_hold t
+    → set_current (body + 2) (cond q (connect (body + 1) (body + 2) (cond p (connect (body + 1) body (record_code s (body + 1) g)) (record_code s (body + 1) g))) (cond p (connect (body + 1) body (record_code s (body + 1) g)) (record_code s (body + 1) g)))
+    ≡ repeat_end t body s g
+repeat_ends t {p} {q} body s g ep eq = ap (set_current (body + 2)) (same_edges (record_code s (body + 1) g)) ∙ span_last t body s g
   where
-    same_edges : (t : Option Bool) (p q : Bool) → p ≡ may_fail t → q ≡ may_hold t → (g : Graph)
-        → cond q (connect (body + 1) (body + 2) (cond p (connect (body + 1) body g) g)) (cond p (connect (body + 1) body g) g)
-        ≡ unless_false t (connect (body + 1) (body + 2)) (unless_true t (connect (body + 1) body) g)
-    same_edges t p q ep eq g = rw (ep, eq, fails_edge t (body + 1) body g) (holds_edge t (body + 1) (body + 2) _)
+    same_edges : (h : Graph) → cond q (connect (body + 1) (body + 2) (cond p (connect (body + 1) body h) h)) (cond p (connect (body + 1) body h) h)
+        ≡ unless_false t (connect (body + 1) (body + 2)) (unless_true t (connect (body + 1) body) h)
+    same_edges h = rw (ep, eq, fails_edge t (body + 1) body h) (holds_edge t (body + 1) (body + 2) _)
 
 -- where the node is current already
 stay : (v : ℕ) (g : Graph) → g.current ≡ v → set_current v g ≡ g
@@ -110,9 +99,9 @@ unfolding connect
 connect_current true a b g = refl
 connect_current false a b g = refl
 
-pub arms_end_did : (ks : List ℕ) (b : Place) (e c n l : List ℕ) (ok : Good b (cols e c n l)) (a t : ℕ) (wanted : Bool) (e' : List ℕ) → e' ≡ joined_from (then_some wanted a) t e → a < b.nodes → t < b.nodes
+pub connected_did : (ks : List ℕ) (b : Place) (e c n l : List ℕ) (ok : Good b (cols e c n l)) (a t : ℕ) (wanted : Bool) (e' : List ℕ) → e' ≡ joined_from (then_some wanted a) t e → a < b.nodes → t < b.nodes
     → Did ks (λ ss g. cond wanted (connect a t g) g) 0 b (cols e c n l) b (cols e' c n l)
-arms_end_did ks b e c n l ok a t wanted e' q ha ht =
+connected_did ks b e c n l ok a t wanted e' q ha ht =
     let d = if_did ks b e c n l ok a t b.cursor wanted e' q ha ht ok.cursor in
     record {
       good = d.good;

@@ -17,7 +17,7 @@ use Rattle.std.specs.Prelude.{Option, Some, None, IfSome}
 use Rattle.cfg_edges.specs.Halves.{lo, hi, joined, joined_from, label_list}
 use Rattle.cfg_edges.proofs.Lookup.{is_node}
 use Rattle.kinds.specs.Starts.{has_start}
-use Rattle.cfg_steps.specs.Columns.{Place, Cols, cols, cursor_node, painted, node_of_name, name_item, graph_of, settings_of, Good, Standing, Grown, Did}
+use Rattle.cfg_steps.specs.Columns.{Place, Cols, cols, cursor_node, painted, node_of_name, name_item, graph_of, settings_of, Good, Grown, Did}
 use Rattle.cfg_steps.proofs.Fits.{each_more, good_of, good_as}
 
 -- one place more
@@ -139,15 +139,6 @@ pub from_joined : (o : Option ℕ) (t n : ℕ) (es : List ℕ) → IfSome o (λ 
 unfolding joined
 from_joined None t n es h k = refl
 from_joined (Some a) t n es h k = rw (ne_eqb a absent (λ z. omega arith))
-
-pub from_length : (o : Option ℕ) (t : ℕ) (es : List ℕ) → length (joined_from o t es) ≡ length es
-from_length None t es = refl
-from_length (Some a) t es = go (eqb (lo (get_or es a 0)) absent) (eqb (hi (get_or es a 0)) absent)
-  where
-    go : (u v : Bool) → length (cond u (set es a (t + hi (get_or es a 0) * 2 ^ 32)) (cond v (set es a (lo (get_or es a 0) + t * 2 ^ 32)) es)) ≡ length es
-    go true v = length-set es a _
-    go false true = length-set es a _
-    go false false = refl
 
 -- ---- the graph that columns stand for
 
@@ -386,7 +377,7 @@ module _ (ks : List ℕ) (b : Place) (e c n l : List ℕ) (ok : Good b (cols e c
   abbrev pub code_word : ℕ → ℕ → ℕ
   code_word i v = v + i * 2 ^ 32
 
-  good_code : (i v : ℕ) → i < b.item → b.codes < b.item → v < b.nodes → Good (with_counts b.nodes (b.codes + 1) b.names b.cursor) (cols e (set c b.codes (code_word i v)) n l)
+  pub good_code : (i v : ℕ) → i < b.item → b.codes < b.item → v < b.nodes → Good (with_counts b.nodes (b.codes + 1) b.names b.cursor) (cols e (set c b.codes (code_word i v)) n l)
   good_code i v hi' h hv =
       let long : b.codes < length c = omega (arith, ok.wide_codes, ok.items) in
       good_of (omega (arith, ok, length-set c b.codes (code_word i v))) ok.cursor
@@ -532,16 +523,3 @@ unfolding jump
 jump_did e c n l i v p q =
     let d = did_trans p q in
     record { good = d.good; grown = d.grown; item = d.item; nodes = omega arith; labels = d.labels; settings = d.settings; built = d.built }
-
-pub standing : {b : Place} {es : List ℕ} → Standing b es → IfSome b.cursor (λ a. a < length es)
-standing {b} {es} s = go b.cursor s.cursor
-  where
-    go : (o : Option ℕ) → IfSome o (λ a. a < b.nodes) → IfSome o (λ a. a < length es)
-    go None h = tt
-    go (Some v) h = omega (arith, s.nodes)
-
-pub standing_set : {b : Place} {es : List ℕ} (i v : ℕ) → Standing b es → IfSome b.cursor (λ a. a < length (set es i v))
-standing_set {b} {es} i v s = rw (length-set es i v) (standing s)
-
-pub joined_size : (o : Option ℕ) (t i v : ℕ) (es es' : List ℕ) → es' ≡ joined_from o t (set es i v) → length es' ≡ length es
-joined_size o t i v es es' q = ap length q ∙ from_length o t (set es i v) ∙ length-set es i v

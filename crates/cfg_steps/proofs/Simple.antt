@@ -49,10 +49,6 @@ did_as q e d = record {
 pub stands : {b : Place} {e c n l : List ℕ} → Good b (cols e c n l) → Standing b e
 stands ok = record { cursor = ok.cursor; nodes = omega (arith, ok.wide_edges, ok.nodes); few = ok.nodes }
 
-pub may_code : {b : Place} {e c n l : List ℕ} (i : ℕ) → Good b (cols e c n l) → b.nodes < 1600 → b.codes < b.item → i < b.item
-    → Standing b e × (((b.nodes < length e) × (b.nodes < 1600)) × ((b.codes < length c) × (b.codes < b.item) × (i < b.item) × (b.item ≤ 1024)))
-may_code i ok hn hc hi' = (stands ok, ((omega (arith, ok.wide_edges), hn), (omega (arith, ok.wide_codes, ok.items), hc, hi', ok.items)))
-
 pub may_jump : {b : Place} {e c n l : List ℕ} (i t : ℕ) → Good b (cols e c n l) → b.nodes < 1600 → b.codes < b.item → i < b.item → t < b.nodes
     → Standing b e × (((b.nodes < length e) × (b.nodes < 1600) × (t < b.nodes)) × ((b.codes < length c) × (b.codes < b.item) × (i < b.item) × (b.item ≤ 1024)))
 may_jump i t ok hn hc hi' ht = (stands ok, ((omega (arith, ok.wide_edges), hn, ht), (omega (arith, ok.wide_codes, ok.items), hc, hi', ok.items)))
@@ -89,9 +85,6 @@ module _ (a : ℕ) (ls : List Label) (s : ℕ) (g : Graph) where
   labelled_at v q e = rw (ne_eqb a 0 q, e)
 
 -- ---- a statement of one item
-
-pub starts_not : (w : ℕ) → kind_of w ≡ 12 → has_start w ≡ false
-starts_not w e = rw e
 
 pub starts : (w : ℕ) → (kind_of w ≡ 8 → ⊥) → (kind_of w ≡ 9 → ⊥) → (kind_of w ≡ 12 → ⊥) → has_start w ≡ true
 starts w p q r = rw (ne_eqb (kind_of w) 8 p, ne_eqb (kind_of w) 9 q, ne_eqb (kind_of w) 12 r)

@@ -1,6 +1,7 @@
 -- The columns of a graph that is being built, and the graph that they stand for. A word holds both successors of a node; a code's word its node and its item; a name's word its node, item and scope end; a label's word its name and node.
 -- Assumes nothing: these are definitions.
 use Rattle.std.specs.Prelude.{◌≡◌, Bool, cond, List, [], ◌∷◌, map, ℕ, ◌+◌, ◌/◌, ◌%◌, ◌^◌, ◌≤◌, ◌<◌, length, take, drop, get_or, set, replicate, eqb, Option, Some, None, IfSome}
+use Rattle.std.specs.Borrow.{MutBor}
 use Rattle.search.specs.Lent.{Column}
 use Rattle.flow.specs.Sheet.{kind_of, argument_of, start_of, member}
 use Rattle.flow.specs.Kinds.{kinds}
@@ -151,6 +152,10 @@ Does ks f n b r = Good (place b) (columns b) → Did ks f n (place b) (columns b
 abbrev pub DoesCode : List ℕ → ℕ → Bool → (ℕ → Graph → Graph) → ℕ → GraphBuilder → GraphBuilder → Type 0
 DoesCode ks i starts f n b r = Good (place b) (columns b) → has_start (get_or ks i 0) ≡ starts → Did ks (λ ss. f (get_or ss i 0)) n (place b) (columns b) (place r) (columns r)
 
+-- a call that leaves b as r leaves good columns good
+abbrev pub StaysGood : GraphBuilder → GraphBuilder → Type 0
+StaysGood b r = Good (place b) (columns b) → Good (place r) (columns r)
+
 -- "then condition to body unless true, to after unless false. UNTIL records its span at condition": the three nodes stand in a row
 abbrev pub repeat_end : Option Bool → ℕ → ℕ → Graph → Graph
 repeat_end t body s g = set_current (body + 2) (record_code s (body + 1) (unless_false t (connect (body + 1) (body + 2)) (unless_true t (connect (body + 1) body) g)))
@@ -178,6 +183,10 @@ EdgesAndLabels b r = (r.kinds ≡ b.kinds) × (r.edges.ghost_name ≡ b.edges.gh
 
 abbrev pub LabelsKept : GraphBuilder → GraphBuilder → Type 0
 LabelsKept b r = (r.kinds ≡ b.kinds) × (r.edges.ghost_name ≡ b.edges.ghost_name) × (r.codes.ghost_name ≡ b.codes.ghost_name) × (r.names.ghost_name ≡ b.names.ghost_name) × (r.labels ≡ b.labels)
+
+-- the same graph is held on to, and K says what becomes of it
+abbrev pub Keeps : (GraphBuilder → GraphBuilder → Type 0) → MutBor GraphBuilder → MutBor GraphBuilder → Type 0
+Keeps K b r = K b.now r.now × (r.ghost_name ≡ b.ghost_name)
 
 -- ---- the labels standing directly in a block
 

@@ -1,4 +1,4 @@
--- `cfg_steps::GraphBuilder::for_head` meets its contract: a code node, then the nodes head and after.
+-- `cfg_steps::SheetBuilder::for_head` meets its contract: a code node, then the nodes head and after.
 -- Assumes nothing.
 use mathlib.Core.Path.{refl}
 use native.Mathlib.Omega.{arith}
@@ -8,15 +8,15 @@ use Rattle.flow.specs.Graph.{new_node, advance_to, code}
 use Rattle.cfg_steps.proofs.Ops.{did_trans}
 use Rattle.cfg_steps.proofs.Loops.{did_at}
 use Rattle.cfg_steps.proofs.Simple.{stands}
-use Rattle.cfg_steps.proofs.GraphBuilder.for_head.Goals as goal
+use Rattle.cfg_steps.proofs.SheetBuilder.for_head.Goals as goal
 
 pub advance_to-requires : goal.advance_to-requires
 advance_to-requires c =
-    let d = c.code_and_after.ensures.built [] c.requires.good refl in
+    let d = c.code_and_after.ensures.built [] c.args.self.now.good refl in
     record { standing = stands d.good; node_lt_nodes = omega (arith, d.nodes) }
 
 pub new_node-requires : goal.new_node-requires
-new_node-requires c = let d = c.code_and_after.ensures.built [] c.requires.good refl in let e = c.advance_to.ensures.built [] d.good in (omega (arith, e.good.wide_edges, d.nodes, e.nodes), omega (arith, d.nodes, e.nodes))
+new_node-requires c = let d = c.code_and_after.ensures.built [] c.args.self.now.good refl in let e = c.advance_to.ensures.built [] d.good in (omega (arith, e.good.wide_edges, d.nodes, e.nodes), omega (arith, d.nodes, e.nodes))
 
 pub returns-clause-built : goal.returns-clause-built
 returns-clause-built c =

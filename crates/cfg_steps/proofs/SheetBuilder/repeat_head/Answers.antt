@@ -1,21 +1,21 @@
--- `cfg_steps::GraphBuilder::repeat_head` meets its contract: the nodes body, condition and after, and the move to the body.
+-- `cfg_steps::SheetBuilder::repeat_head` meets its contract: the nodes body, condition and after, and the move to the body.
 -- Assumes nothing.
 use native.Mathlib.Omega.{arith}
 use mathlib.Core.List.{[]}
 use Rattle.cfg_steps.proofs.Ops.{did_trans}
 use Rattle.cfg_steps.proofs.Simple.{stands}
-use Rattle.cfg_steps.proofs.GraphBuilder.repeat_head.Goals as goal
+use Rattle.cfg_steps.proofs.SheetBuilder.repeat_head.Goals as goal
 
 pub new_node-requires-2 : goal.new_node-requires-2
 new_node-requires-2 c =
-    let d = c.new_node.ensures.built [] c.requires.good in (omega (arith, d.good.wide_edges, d.nodes), omega (arith, d.nodes))
+    let d = c.new_node.ensures.built [] c.args.self.now.good in (omega (arith, d.good.wide_edges, d.nodes), omega (arith, d.nodes))
 
 pub new_node-requires-3 : goal.new_node-requires-3
-new_node-requires-3 c = let d = c.new_node.ensures.built [] c.requires.good in let e = c.new_node-2.ensures.built [] d.good in (omega (arith, e.good.wide_edges, d.nodes, e.nodes), omega (arith, d.nodes, e.nodes))
+new_node-requires-3 c = let d = c.new_node.ensures.built [] c.args.self.now.good in let e = c.new_node-2.ensures.built [] d.good in (omega (arith, e.good.wide_edges, d.nodes, e.nodes), omega (arith, d.nodes, e.nodes))
 
 pub advance_to-requires : goal.advance_to-requires
 advance_to-requires c =
-    let d = c.new_node.ensures.built [] c.requires.good in
+    let d = c.new_node.ensures.built [] c.args.self.now.good in
     let e = c.new_node-2.ensures.built [] d.good in
     let f = c.new_node-3.ensures.built [] e.good in
     record { standing = stands f.good; node_lt_nodes = omega (arith, d.nodes, e.nodes, f.nodes) }

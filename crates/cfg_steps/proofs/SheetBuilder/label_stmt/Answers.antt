@@ -1,10 +1,10 @@
--- `cfg_steps::GraphBuilder::label_stmt` meets its contract: a named label is stood at, and name 0 does nothing.
+-- `cfg_steps::SheetBuilder::label_stmt` meets its contract: a named label is stood at, and name 0 does nothing.
 -- Assumes nothing.
 use native.Mathlib.Omega.{arith}
 use mathlib.Core.Path.{refl, sym, ◌∙◌}
 use Rattle.cfg_steps.proofs.Simple.{did_none, did_as, stands, stands_as, label_below, labelled_none, labelled_lost, labelled_at}
 use Rattle.cfg_steps.proofs.Ops.{did_trans}
-use Rattle.cfg_steps.proofs.GraphBuilder.label_stmt.Goals as goal
+use Rattle.cfg_steps.proofs.SheetBuilder.label_stmt.Goals as goal
 
 pub returns-then-name-eq0-clause-built : goal.returns-then-name-eq0-clause-built
 returns-then-name-eq0-clause-built c = λ ks ok q. did_as refl (λ ss g. labelled_none _ _ _ g c.if-name-eq0.true) (did_none ks _ _ ok)
@@ -13,10 +13,10 @@ pub returns-in_default-clause-built : goal.returns-in_default-clause-built
 returns-in_default-clause-built c = λ ks ok q. did_as refl (λ ss g. labelled_lost _ _ _ g (sym c.label_node.ensures ∙ c.in_default.is)) (did_none ks _ _ ok)
 
 pub record_code-requires : goal.record_code-requires
-record_code-requires c = record { codes_in_bounds = (omega (arith, c.requires.good.wide_codes, c.requires.good.items), c.requires.codes_lt_item.0); i_lt_item = (c.requires.codes_lt_item.1, label_below c.args.name c.requires.good (sym c.label_node.ensures ∙ c.in-Some.is), c.requires.good.nodes, c.requires.good.items) }
+record_code-requires c = record { codes_in_bounds = (omega (arith, c.args.self.now.good.wide_codes, c.args.self.now.good.items), c.requires.codes_lt_item.0); i_lt_item = (c.requires.codes_lt_item.1, label_below c.args.name c.args.self.now.good (sym c.label_node.ensures ∙ c.in-Some.is), c.args.self.now.good.nodes, c.args.self.now.good.items) }
 
 pub advance_to-requires : goal.advance_to-requires
-advance_to-requires c = record { standing = rw c.record_code.ensures.kept.1 (stands_as c.record_code.ensures.nodes_value.0 c.record_code.ensures.nodes_value.1 (stands c.requires.good)); node_lt_nodes = rw c.record_code.ensures.nodes_value.0 (label_below c.args.name c.requires.good (sym c.label_node.ensures ∙ c.in-Some.is)) }
+advance_to-requires c = record { standing = rw c.record_code.ensures.kept.1 (stands_as c.record_code.ensures.nodes_value.0 c.record_code.ensures.nodes_value.1 (stands c.args.self.now.good)); node_lt_nodes = rw c.record_code.ensures.nodes_value.0 (label_below c.args.name c.args.self.now.good (sym c.label_node.ensures ∙ c.in-Some.is)) }
 
 pub returns-clause-built : goal.returns-clause-built
 returns-clause-built c =
