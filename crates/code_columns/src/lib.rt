@@ -35,6 +35,7 @@ pub fn split_codes(
     ensures start_after { start.new ≡ painted kinds.now spans.now code_node.old (replicate (length start.old) 0) }
 {
     start.fill(0);
+    // By index: of what a zip of `iter_mut` writes a proof knows nothing behind the loop.
     for (k, word) in code_node.iter_mut().enumerate() {
         set_start(kinds, spans, *word, start);
         code_span[k] = spans[(*word / HALF) as usize];

@@ -32,6 +32,7 @@ pub fn split_names(
     ensures name_span_after { name_span.new ≡ map (λ w. get_or spans.now (name_item w) 0) name_node.old }
     ensures name_end_after { name_end.new ≡ map hi name_node.old }
 {
+    // By index: of what a zip of `iter_mut` writes a proof knows nothing behind the loop.
     for (k, word) in name_node.iter_mut().enumerate() {
         name_span[k] = spans[(*word / NAME_ITEM % NAME_ITEM) as usize];
         name_end[k] = *word / HALF;

@@ -15,6 +15,7 @@ fn split_edges(first: &mut [u64], second: &mut [u64])
     ensures first_after { first.new ≡ map lo first.old }
     ensures second_after { second.new ≡ map hi first.old }
 {
+    // By index: of what a zip of `iter_mut` writes a proof knows nothing behind the loop.
     for (i, word) in first.iter_mut().enumerate() {
         second[i] = *word / HALF;
         *word %= HALF;

@@ -105,15 +105,6 @@ unmarked_zeros n k h =
 
 -- ---- a push
 
--- a push by its two cases, for the proofs of code
-pub stamp_marked : (stamp v : ℕ) (s : State) → get_or s.marks v 0 ≡ stamp → s ≡ stamp_push stamp v s
-unfolding stamp_push
-stamp_marked stamp v s e = rw (eq-eqb _ _ e)
-
-pub stamp_new : (stamp v : ℕ) (s : State) → (get_or s.marks v 0 ≡ stamp → ⊥) → stamped stamp false v s ≡ stamp_push stamp v s
-unfolding stamp_push
-stamp_new stamp v s q = rw (ne_eqb _ _ q)
-
 -- what pushes by a stamp leave as it was
 pub record Stamping (stamp : ℕ) (s t : State) : Type 0 where
   pub marks_len : length t.marks ≡ length s.marks

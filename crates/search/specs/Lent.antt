@@ -3,7 +3,6 @@
 use Rattle.std.specs.Prelude.{ℕ, List}
 use Rattle.std.specs.Borrow.{MutBor}
 use denote.Triple.Both.{Both}
-use Rattle.search.specs.Worklist.{State, st}
 
 -- at the call's entry and at its exit
 abbrev pub Column : Type 0
@@ -16,7 +15,3 @@ held c = c.entry.now
 -- what it holds at the exit
 abbrev pub left : Column → List ℕ
 left c = c.exit.now
-
--- a search whose marks and stack are lent, at the entry (`held`) or at the exit (`left`)
-abbrev pub st_at : (Column → List ℕ) → Column → Column → ℕ → State
-st_at at marks stack top = st (at marks) (at stack) top
