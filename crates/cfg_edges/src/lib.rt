@@ -27,7 +27,8 @@ pub fn connect(edges: &mut [u64], from: Option<usize>, to: usize)
     }
 }
 
-// The node of the innermost, then latest, label of a name, among the labels in force.
+// The node of the innermost, then latest, label of a name, among the labels in force. By the index, as the definition goes: with
+// `iter().rev().find` its goal stayed open.
 pub fn label_node(labels: &[u64], name: u64) -> Option<usize>
     ensures { result ≡ label_node name (label_list (length labels.now) labels.now) }
 {

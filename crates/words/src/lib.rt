@@ -28,7 +28,7 @@ pub const HALF: u64 = 0x1_0000_0000;
 // While a graph is built, a name's word is its node + 65,536 × its item + 2^32 × its scope end,
 pub const NAME_ITEM: u64 = 65536;
 
-// and has this for no node.
+// and has this for no node. Here and below none is a number, since a lent word has no room for an Option.
 pub const NAME_WITHOUT_NODE: u64 = NAME_ITEM - 1;
 
 // "Absent successors are stored as 4,294,967,295": as a half of a node's word,

@@ -1,4 +1,4 @@
-// The kinds of a use.
+// The kinds of a use, as a lent word's field has them: `UseKind` is made of these numbers, and a test asks for them as they are.
 pub const READ: u64 = 0;
 
 pub const WRITE: u64 = 1;
