@@ -27,9 +27,6 @@ pub laid : {n : ℕ} {entries entries' front : List ℕ} (old mid : List ℕ) �
 laid {n} {entries} {front = front} old mid e l d q = (λ i. (q ∙ sym e) i ++ d i) ∙ ap (λ (k : ℕ). entries ++ drop k old) (sym l)
 
 -- the parts of a sheet
-pub sheet_parts : (S : List ℕ) → AdmittedSheet S → {ks ss : List ℕ} → ks ≡ kind_words S → ss ≡ span_words S → PartsOf S ks ss (get_or S 1 0)
-sheet_parts S a k s = record { kinds = k; spans = s; outer = refl; admitted = a }
-
 pub as_many : {S ks ss : List ℕ} {e : ℕ} → PartsOf S ks ss e → length ss ≡ length ks
 as_many p = ap length p.spans ∙ p.admitted.spans ∙ sym p.admitted.kinds ∙ sym (ap length p.kinds)
 

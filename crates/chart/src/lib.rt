@@ -2,7 +2,6 @@
 #![tactic(auto)]
 
 ghost use Rattle.std.specs.Prelude.{◌≡◌, List, ℕ, replicate};
-ghost use Rattle.flow.specs.Admitted.{AdmittedSheet};
 ghost use Rattle.chart.specs.Lent.{PartsOf, columns, chart_short, Wide, Charted, ChartedOf};
 ghost use Rattle.chart.specs.Loan.{cells, chart_lent, SameColumns};
 
@@ -12,6 +11,7 @@ use column_lengths::{CODES, LOCALS, NODES};
 use flow::Counts;
 use name_columns::split_names;
 use node_columns::split_nodes;
+use sheet_parts::Sheet;
 
 // The columns that a chart is written to: per node both successors, code start and a reachable flag; per code its span and node; per name
 // its span, node and scope end.
@@ -48,6 +48,13 @@ impl ChartColumns<'_> {
             ],
         )
     }
+}
+
+// Such columns, long enough for a chart of any sheet.
+#[derive(Drop)]
+pub struct WideChart<'a, 'c> {
+    pub columns: &'a mut ChartColumns<'c>,
+    ghost wide: { Wide (cells columns.now) },
 }
 
 // Memory for a chart of any sheet.
@@ -149,15 +156,12 @@ fn write_chart(kinds: &[u64], spans: &[u64], scope_end: u64, chart: &mut ChartCo
     counts
 }
 
-// The chart of a sheet that is admitted.
-pub fn of_sheet(sheet: &[u64], chart: &mut ChartColumns) -> Counts
-    requires admitted_sheet { AdmittedSheet sheet.now }
-    requires wide { Wide (cells chart.old) }
-    ensures charted { Charted sheet.now result (chart_lent chart.old chart.new) }
-    ensures same { SameColumns chart.old chart.new }
+// The chart of a sheet.
+pub fn of_sheet(sheet: Sheet<'_>, chart: WideChart) -> Counts
+    ensures charted { Charted sheet.entry.words.now result (chart_lent chart.entry.columns.now chart.exit.0.now) }
+    ensures same { SameColumns chart.entry.columns.now chart.exit.0.now }
 {
-    let scope_end = sheet[1];
-    let kinds = sheet_parts::kinds(sheet);
-    let spans = sheet_parts::spans(sheet);
-    write_chart(kinds, spans, scope_end, chart)
+    let items = sheet.items();
+    let scope_end = sheet.scope_end();
+    write_chart(items.words, items.spans, scope_end, chart.columns)
 }
