@@ -4,7 +4,7 @@ use mathlib.Core.Bool.{Bool, true, false, cond, ◌||◌}
 use mathlib.Core.List.{List, [], ◌∷◌, ◌++◌}
 use mathlib.Core.Path.{◌≡◌, refl, ap, ◌∙◌}
 use Rattle.std.specs.Prelude.{Ok, Err}
-use Rattle.flow.specs.Refusals.{Verdict, Test, miscount, bad_use, first_applying, item_tests, sheet_tests, pair_tests, sheet_verdict, pair_verdict}
+use Rattle.flow.specs.Refusals.{Verdict, Test, miscount, bad_use, first_applying, leading_tests, item_tests, sheet_tests, pair_tests, sheet_verdict, pair_verdict}
 use Rattle.flow.specs.declared.Refusal.{Refusal}
 use Rattle.flow.specs.declared.Refusal.TheVariants.{BenchTooSmall, Miscount, BadUse}
 
@@ -15,6 +15,18 @@ applies_first t ts e = rw e
 pub passes_first : (t : Test) (ts : List Test) → t.1 ≡ false → first_applying (t ∷ ts) ≡ first_applying ts
 unfolding first_applying
 passes_first t ts e = rw e
+
+-- ---- 1 and 2, and the tests behind them
+
+module _ (short miscounted : Bool) (ws : List ℕ) where
+  pub too_short : short ≡ true → first_applying (leading_tests short miscounted ws) ≡ Err BenchTooSmall
+  too_short e = applies_first _ _ e
+
+  pub wrong_count : short ≡ false → miscounted ≡ true → first_applying (leading_tests short miscounted ws) ≡ Err Miscount
+  wrong_count e q = passes_first _ _ e ∙ applies_first _ _ q
+
+  pub well_counted : short ≡ false → miscounted ≡ false → first_applying (leading_tests short miscounted ws) ≡ first_applying (item_tests ws)
+  well_counted e q = passes_first _ _ e ∙ passes_first _ _ q
 
 -- ---- tests with further tests behind them
 

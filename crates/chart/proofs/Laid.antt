@@ -7,10 +7,8 @@ use native.Mathlib.Omega.{arith}
 use lib.ListN.{length, get_or, take, drop, replicate, length-map, length-replicate, get_or-map}
 use lib.Seq.{length-take-le, get_or-take, take_at, drop_at}
 use Rattle.flow.specs.declared.Counts.{Counts}
-use Rattle.flow.specs.Sheet.{kind_words, span_words}
 use Rattle.flow.specs.Graph.{Graph, node_count, graph}
 use Rattle.flow.specs.Reachable.{reachable, counts_of}
-use Rattle.flow.specs.Admitted.{AdmittedSheet}
 use Rattle.flow.proofs.Flags.{reachable_length}
 use Rattle.cfg_edges.specs.Halves.{lo, hi}
 use Rattle.cfg_steps.specs.Columns.{cols, node_of_name, name_item, painted, graph_of}

@@ -5,7 +5,7 @@ use mathlib.Core.List.{List, ◌++◌}
 use mathlib.Core.Path.{◌≡◌}
 use Prim.Native.Nat.{ℕ, ◌≤◌}
 use native.Mathlib.Omega.{arith}
-use lib.ListN.{length, drop, length-append, length-drop}
+use lib.ListN.{length, length-append, length-drop}
 use Rattle.column_lengths.specs.Lengths.{chart_too_short}
 use Rattle.column_lengths.proofs.Long.{all_long}
 use Rattle.flow.specs.declared.Counts.{Counts}

@@ -3,7 +3,7 @@
 
 ghost use Rattle.std.specs.Prelude.{◌≡◌, List, ℕ, replicate};
 ghost use Rattle.chart.specs.Lent.{PartsOf, columns, chart_short, Wide, Charted, ChartedOf};
-ghost use Rattle.chart.specs.Loan.{cells, chart_lent, SameColumns};
+ghost use Rattle.chart.specs.Loan.{cells, memory_cells, chart_lent, SameColumns};
 
 use cfg::of_block;
 use code_columns::split_codes;
@@ -93,7 +93,7 @@ impl ChartMemory {
 
     pub fn lend(&mut self) -> ChartColumns<'_>
         ensures wide { Wide (cells result) }
-        ensures same_cells { cells result ≡ columns self.old.first self.old.second self.old.start self.old.reachable self.old.code_span self.old.code_node self.old.name_span self.old.name_node self.old.name_end }
+        ensures same_cells { cells result ≡ memory_cells self.old }
     {
         let first = &mut self.first;
         let second = &mut self.second;

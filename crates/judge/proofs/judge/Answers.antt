@@ -2,12 +2,10 @@
 -- Assumes nothing.
 use mathlib.Core.Path.{◌≡◌, sym, ap, ◌∙◌}
 use mathlib.Core.Bool.{Bool}
-use mathlib.Core.List.{List, [], ◌∷◌}
+use mathlib.Core.List.{List}
 use Prim.Native.Nat.{ℕ}
-use lib.ListN.{length}
 use Rattle.std.specs.Prelude.{Ok}
 use Rattle.std.proofs.lemmas.Result.{err_from_is_err_and}
-use Rattle.column_lengths.specs.Lengths.{judge_too_short}
 use Rattle.flow.specs.Scopes.{scoped_verdict}
 use Rattle.sheet_parts.specs.Sheets.{verdict_of}
 use Rattle.chart.specs.Lent.{Columns}

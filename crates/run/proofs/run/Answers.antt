@@ -1,6 +1,6 @@
 -- `run::run` meets its contract: refused by the sheet's verdict, or the answer by a chart in columns of its own.
 -- Assumes nothing.
-use mathlib.Core.Path.{sym, ap, ◌∙◌, subst}
+use mathlib.Core.Path.{sym, ap, ◌∙◌}
 use Rattle.std.proofs.lemmas.Result.{err_from_is_err_and}
 use Rattle.sheet_parts.specs.Sheets.{verdict_of}
 use Rattle.flow.specs.Graph.{graph}
