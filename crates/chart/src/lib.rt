@@ -2,7 +2,7 @@
 #![tactic(auto)]
 
 ghost use Rattle.std.specs.Prelude.{◌≡◌, List, ℕ, replicate};
-ghost use Rattle.chart.specs.Lent.{PartsOf, columns, chart_short, Wide, Charted, ChartedOf};
+ghost use Rattle.chart.specs.Lent.{PartsOf, chart_short, Wide, Charted, ChartedOf};
 ghost use Rattle.chart.specs.Loan.{cells, memory_cells, chart_lent, SameColumns};
 
 use cfg::of_block;
