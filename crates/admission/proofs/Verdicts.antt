@@ -1,12 +1,12 @@
 -- The first of tests that applies: it is the first in the list, or stands behind tests that pass. Assumes nothing.
 use Prim.Native.Nat.{ℕ}
-use mathlib.Core.Bool.{Bool, true, false, cond}
+use mathlib.Core.Bool.{Bool, true, false, cond, ◌||◌}
 use mathlib.Core.List.{List, [], ◌∷◌, ◌++◌}
 use mathlib.Core.Path.{◌≡◌, refl, ap, ◌∙◌}
 use Rattle.std.specs.Prelude.{Ok, Err}
-use Rattle.flow.specs.Refusals.{Verdict, Test, first_applying, leading_tests, item_tests}
+use Rattle.flow.specs.Refusals.{Verdict, Test, miscount, bad_use, first_applying, leading_tests, item_tests, sheet_tests, pair_tests, sheet_verdict, pair_verdict}
 use Rattle.flow.specs.declared.Refusal.{Refusal}
-use Rattle.flow.specs.declared.Refusal.TheVariants.{BenchTooSmall, Miscount}
+use Rattle.flow.specs.declared.Refusal.TheVariants.{BenchTooSmall, Miscount, BadUse}
 
 pub applies_first : (t : Test) (ts : List Test) → t.1 ≡ true → first_applying (t ∷ ts) ≡ Err t.0
 unfolding first_applying
@@ -16,7 +16,7 @@ pub passes_first : (t : Test) (ts : List Test) → t.1 ≡ false → first_apply
 unfolding first_applying
 passes_first t ts e = rw e
 
--- ---- the tests of 1 and 2, and those behind them
+-- ---- 1 and 2, and the tests behind them
 
 module _ (short miscounted : Bool) (ws : List ℕ) where
   pub too_short : short ≡ true → first_applying (leading_tests short miscounted ws) ≡ Err BenchTooSmall
@@ -48,3 +48,30 @@ refused_before xs ts r e = behind xs ts ∙ ap (λ (v : Verdict). or_else v (fir
 
 pub admitted_before : (xs ts : List Test) → first_applying xs ≡ Ok tt → first_applying (xs ++ ts) ≡ first_applying ts
 admitted_before xs ts e = behind xs ts ∙ ap (λ (v : Verdict). or_else v (first_applying ts)) e
+
+-- ---- the tests of a sheet and of a pair, in the turn in which they are made
+
+module _ (short : Bool) (S : List ℕ) where
+  -- 1, and 2 of the sheet
+  abbrev pub from_1 : List Test
+  from_1 = (BenchTooSmall, short) ∷ (Miscount, miscount 2 S) ∷ []
+
+  pub sheet_turns : sheet_verdict short S ≡ first_applying (from_1 ++ item_tests S)
+  unfolding sheet_verdict sheet_tests
+  sheet_turns = refl
+
+  module _ (U : List ℕ) where
+    -- 2 of the use sheet, and 8
+    abbrev pub from_2 : List Test
+    from_2 = (Miscount, miscount 1 U) ∷ []
+
+    abbrev pub from_8 : List Test
+    from_8 = (BadUse, bad_use S U) ∷ []
+
+    one_by_one : (a b : Bool) (v : Verdict) → cond (a || b) (Err Miscount) v ≡ cond a (Err Miscount) (cond b (Err Miscount) v)
+    one_by_one true b v = refl
+    one_by_one false b v = refl
+
+    pub pair_turns : pair_verdict short S U ≡ first_applying (from_1 ++ (from_2 ++ (item_tests S ++ from_8)))
+    unfolding pair_verdict pair_tests first_applying
+    pair_turns = ap (λ (v : Verdict). cond short (Err BenchTooSmall) v) (one_by_one (miscount 2 S) (miscount 1 U) (first_applying (item_tests S ++ from_8)))

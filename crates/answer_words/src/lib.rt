@@ -51,6 +51,7 @@ pub fn chart_word(answer: Result<Counts, Refusal>) -> u64
     }
 }
 
+// Each call's word stands by itself: as one function over the answer's type they would want a trait for what is one line each.
 pub fn judge_word(answer: Result<Judgement, Refusal>) -> u64
     requires { CountsFit (judge_told answer) }
     ensures { (result ≡ counts_word (judge_told answer)) × CountFields result (judge_told answer) }
@@ -61,7 +62,7 @@ pub fn judge_word(answer: Result<Judgement, Refusal>) -> u64
     }
 }
 
-// A node + 1, or 0 for none.
+// A node + 1, or 0 for none: C reads a field of the word, and 0 there is a value and no flag.
 fn node_word(found: Option<usize>) -> u64
     requires { or_none (found_values found) < 2 ^ 32 }
     ensures { (result ≡ or_none (found_values found)) × (result < 2 ^ 32) }

@@ -7,10 +7,8 @@ use native.Mathlib.Omega.{arith}
 use lib.ListN.{length, get_or, take, drop, replicate, length-map, length-replicate, get_or-map}
 use lib.Seq.{length-take-le, get_or-take, take_at, drop_at}
 use Rattle.flow.specs.declared.Counts.{Counts}
-use Rattle.flow.specs.Sheet.{kind_words, span_words}
 use Rattle.flow.specs.Graph.{Graph, node_count, graph}
 use Rattle.flow.specs.Reachable.{reachable, counts_of}
-use Rattle.flow.specs.Admitted.{AdmittedSheet}
 use Rattle.flow.proofs.Flags.{reachable_length}
 use Rattle.cfg_edges.specs.Halves.{lo, hi}
 use Rattle.cfg_steps.specs.Columns.{cols, node_of_name, name_item, painted, graph_of}
@@ -27,9 +25,6 @@ pub laid : {n : ℕ} {entries entries' front : List ℕ} (old mid : List ℕ) �
 laid {n} {entries} {front = front} old mid e l d q = (λ i. (q ∙ sym e) i ++ d i) ∙ ap (λ (k : ℕ). entries ++ drop k old) (sym l)
 
 -- the parts of a sheet
-pub sheet_parts : (S : List ℕ) → AdmittedSheet S → {ks ss : List ℕ} → ks ≡ kind_words S → ss ≡ span_words S → PartsOf S ks ss (get_or S 1 0)
-sheet_parts S a k s = record { kinds = k; spans = s; outer = refl; admitted = a }
-
 pub as_many : {S ks ss : List ℕ} {e : ℕ} → PartsOf S ks ss e → length ss ≡ length ks
 as_many p = ap length p.spans ∙ p.admitted.spans ∙ sym p.admitted.kinds ∙ sym (ap length p.kinds)
 

@@ -2,11 +2,16 @@
 -- Assumes nothing: these are definitions.
 use Rattle.std.specs.Prelude.{◌≡◌}
 use Rattle.chart.specs.declared.ChartColumns.{ChartColumns}
+use Rattle.chart.specs.declared.ChartMemory.{ChartMemory}
 use Rattle.chart.specs.Lent.{Columns, columns, Lent}
 
 -- the lists that stand in them
 abbrev pub cells : ChartColumns → Columns
 cells c = columns c.first.now c.second.now c.start.now c.reachable.now c.code_span.now c.code_node.now c.name_span.now c.name_node.now c.name_end.now
+
+-- those of memory that can be lent
+abbrev pub memory_cells : ChartMemory → Columns
+memory_cells m = columns m.first m.second m.start m.reachable m.code_span m.code_node m.name_span m.name_node m.name_end
 
 -- at a call's entry and at its exit
 abbrev pub chart_lent : ChartColumns → ChartColumns → Lent

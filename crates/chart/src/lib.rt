@@ -2,9 +2,8 @@
 #![tactic(auto)]
 
 ghost use Rattle.std.specs.Prelude.{◌≡◌, List, ℕ, replicate};
-ghost use Rattle.flow.specs.Admitted.{AdmittedSheet};
-ghost use Rattle.chart.specs.Lent.{PartsOf, columns, chart_short, Wide, Charted, ChartedOf};
-ghost use Rattle.chart.specs.Loan.{cells, chart_lent, SameColumns};
+ghost use Rattle.chart.specs.Lent.{PartsOf, chart_short, Wide, Charted, ChartedOf};
+ghost use Rattle.chart.specs.Loan.{cells, memory_cells, chart_lent, SameColumns};
 
 use cfg::of_block;
 use code_columns::split_codes;
@@ -12,6 +11,7 @@ use column_lengths::{CODES, LOCALS, NODES};
 use flow::Counts;
 use name_columns::split_names;
 use node_columns::split_nodes;
+use sheet_parts::Sheet;
 
 // The columns that a chart is written to: per node both successors, code start and a reachable flag; per code its span and node; per name
 // its span, node and scope end.
@@ -50,6 +50,13 @@ impl ChartColumns<'_> {
     }
 }
 
+// Such columns, long enough for a chart of any sheet.
+#[derive(Drop)]
+pub struct WideChart<'a, 'c> {
+    pub columns: &'a mut ChartColumns<'c>,
+    ghost wide: { Wide (cells columns.now) },
+}
+
 // Memory for a chart of any sheet.
 #[derive(Drop)]
 pub struct ChartMemory {
@@ -86,7 +93,7 @@ impl ChartMemory {
 
     pub fn lend(&mut self) -> ChartColumns<'_>
         ensures wide { Wide (cells result) }
-        ensures same_cells { cells result ≡ columns self.old.first self.old.second self.old.start self.old.reachable self.old.code_span self.old.code_node self.old.name_span self.old.name_node self.old.name_end }
+        ensures same_cells { cells result ≡ memory_cells self.old }
     {
         let first = &mut self.first;
         let second = &mut self.second;
@@ -149,15 +156,12 @@ fn write_chart(kinds: &[u64], spans: &[u64], scope_end: u64, chart: &mut ChartCo
     counts
 }
 
-// The chart of a sheet that is admitted.
-pub fn of_sheet(sheet: &[u64], chart: &mut ChartColumns) -> Counts
-    requires admitted_sheet { AdmittedSheet sheet.now }
-    requires wide { Wide (cells chart.old) }
-    ensures charted { Charted sheet.now result (chart_lent chart.old chart.new) }
-    ensures same { SameColumns chart.old chart.new }
+// The chart of a sheet.
+pub fn of_sheet(sheet: Sheet<'_>, chart: WideChart) -> Counts
+    ensures charted { Charted sheet.entry.words.now result (chart_lent chart.entry.columns.now chart.exit.0.now) }
+    ensures same { SameColumns chart.entry.columns.now chart.exit.0.now }
 {
-    let scope_end = sheet[1];
-    let kinds = sheet_parts::kinds(sheet);
-    let spans = sheet_parts::spans(sheet);
-    write_chart(kinds, spans, scope_end, chart)
+    let items = sheet.items();
+    let scope_end = sheet.scope_end();
+    write_chart(items.words, items.spans, scope_end, chart.columns)
 }

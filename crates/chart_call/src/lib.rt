@@ -4,7 +4,7 @@
 ghost use Rattle.chart.specs.Loan.{chart_lent, SameColumns};
 ghost use Rattle.chart_call.specs.Promises.{ChartPromise};
 
-use chart::ChartColumns;
+use chart::{ChartColumns, WideChart};
 use flow::{Counts, Refusal};
 
 // The graph of a sheet, in the columns that are lent.
@@ -12,6 +12,6 @@ pub fn chart(sheet: &[u64], chart: &mut ChartColumns) -> Result<Counts, Refusal>
     ensures promise { ChartPromise sheet.now result (chart_lent chart.old chart.new) }
     ensures same { SameColumns chart.old chart.new }
 {
-    admission::sheet_verdict(chart.is_short(), sheet)?;
-    Ok(chart::of_sheet(sheet, chart))
+    let sheet = admission::admit_sheet(chart.is_short(), sheet)?;
+    Ok(chart::of_sheet(sheet, WideChart { columns: chart }))
 }

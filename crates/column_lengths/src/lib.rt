@@ -32,7 +32,8 @@ pub fn chart_short(nodes: &[usize], codes: &[usize], names: &[usize]) -> bool
     any_below(nodes, NODES) || any_below(codes, CODES) || any_below(names, LOCALS)
 }
 
-// Whether a column that judge is lent is too short, where `chart` says it of chart's: those for findings and for mark figures.
+// Whether a column that judge is lent is too short, where `chart` says it of chart's: those for findings and for mark figures. `chart` is no
+// switch: it is one of three that are joined.
 #[tactic(auto, using(crate::proofs::Any::judge_any))]
 pub fn judge_short(findings: &[usize], marks: &[usize], chart: bool) -> bool
     ensures { result ≡ judge_too_short findings.now marks.now chart }

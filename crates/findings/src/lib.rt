@@ -2,8 +2,7 @@
 #![tactic(auto)]
 
 ghost use Rattle.std.specs.Prelude.{◌≡◌, ◌++◌, ◌≤◌, map, length, take, drop};
-ghost use Rattle.flow.specs.Scopes.{use_sheet};
-ghost use Rattle.flow.specs.Admitted.{AdmittedSheet, AdmittedUses};
+ghost use Rattle.sheet_parts.specs.Sheets.{uses_of};
 ghost use Rattle.chart.specs.Loan.{cells};
 ghost use Rattle.finding_spans.specs.Spans.{span_of, Known};
 ghost use Rattle.findings.specs.Accepted.{found_short, Long, Searchable, FindingsWritten};
@@ -13,9 +12,11 @@ use chart::ChartColumns;
 use flow::Counts;
 use live_steps::{Edges, FlowGraph};
 use locals::DeclarationTable;
+use sheet_parts::SheetPair;
 use tables::{CodeColumns, UseColumns};
 
-// The columns of findings, each with its word and span, and of mark figures, one a local.
+// The columns of findings, each with its word and span, and of mark figures, one a local. That they are long enough stays a clause, `Long`:
+// tried as a type of its own, it could not be moved in a branch, as `find_scoped` has to.
 #[derive(Drop)]
 pub struct FoundColumns<'a> {
     pub word: &'a mut [u64],
@@ -46,22 +47,19 @@ fn write_first_spans(use_spans: &[u64], name_span: &[u64], word: &[u64], span: &
     finding_spans::write_spans(use_spans, name_span, &word[..n], span);
 }
 
-// The findings of a sheet whose graph stands in the columns, with these uses, and a mark figure for each local. The result is the number of findings.
-pub fn find_all<'u>(
-    sheet: &[u64],
-    use_words: &'u [u64],
-    use_spans: &'u [u64],
+// The findings of a pair whose sheet's graph stands in the columns, and a mark figure for each local. The result is the number of findings.
+pub fn find_all(
+    pair: SheetPair<'_>,
     chart: &ChartColumns,
     found: &mut FoundColumns,
     counts: Counts,
 ) -> usize
-    requires admitted_sheet { AdmittedSheet sheet.now × AdmittedUses sheet.now (use_sheet use_words.now use_spans.now) }
-    requires searchable { Searchable sheet.now (use_sheet use_words.now use_spans.now) counts (cells chart.now) }
+    requires searchable { Searchable pair.sheet.words.now (uses_of pair) counts (cells chart.now) }
     requires long { Long (found_cells found.old) }
-    ensures written { FindingsWritten sheet.now (use_sheet use_words.now use_spans.now) result (found_lent found.old found.new) }
+    ensures written { FindingsWritten pair.entry.sheet.words.now (uses_of pair.entry) result (found_lent found.old found.new) }
     ensures same { SameFound found.old found.new }
 {
-    let kinds = sheet_parts::kinds(sheet);
+    let kinds = pair.sheet.items().words;
     let graph = FlowGraph {
         edges: Edges {
             first: &chart.first[..counts.nodes],
@@ -78,11 +76,11 @@ pub fn find_all<'u>(
         scope_end: &chart.name_end[..],
     };
     let uses = UseColumns {
-        words: &use_words[..],
-        spans: &use_spans[..],
+        words: pair.uses.words,
+        spans: pair.uses.spans,
     };
     let listed = local_flow::compute(kinds, graph, codes, names, uses, found.word, found.mark);
     let word = &mut *found.word;
-    write_first_spans(use_spans, chart.name_span, word, found.span, listed);
+    write_first_spans(pair.uses.spans, chart.name_span, word, found.span, listed);
     listed
 }

@@ -24,9 +24,11 @@ use Rattle.flow.proofs.Admission.{admitted, of_pair}
 use Rattle.flow.proofs.Scopes.{crossed_admitted, crossed_replaced, scoped_fits, scoped_pair}
 use Rattle.flow.proofs.Judged.{judged}
 use Rattle.unassigned.proofs.Locals.{figure_few}
-use Rattle.chart.specs.Lent.{overlay, Columns, chart_short, Wide}
+use Rattle.sheet_parts.specs.declared.ScopedPair.{ScopedPair}
+use Rattle.sheet_parts.specs.Sheets.{judged_uses, IsScoped}
+use Rattle.chart.specs.Lent.{overlay, Columns, Lent, chart_short, Wide}
 use Rattle.chart.proofs.Widths.{wide}
-use Rattle.findings.specs.Accepted.{FindingColumns, Long, Accepted}
+use Rattle.findings.specs.Accepted.{FindingColumns, FindingsLent, Long, Accepted}
 use Rattle.judge.specs.Lent.{JudgeLent, judge_short, short, found_in, Judges, JudgePromise}
 
 never : {v : Verdict} {r : Refusal} → v ≡ Err r → v ≡ Ok tt → ⊥
@@ -35,6 +37,10 @@ never p q = let z : ◌≡◌ {A = ℕ} 0 1 = cc in omega arith
 as_supplied : (S U C : List ℕ) → C ≡ [] → crossed S U C ≡ U
 unfolding crossed
 as_supplied S U C e = ap (crossed S U) e
+
+-- what is accepted of the sheets as they are admitted is so of the lent ones
+pub accepted_lent : {S U C : List ℕ} {p : ScopedPair} {r : Judgement} {l : Lent} {f : FindingsLent} → IsScoped S U C p → Accepted p.pair.sheet.words.now (judged_uses p) r l f → Accepted S (crossed S U C) r l f
+accepted_lent {r = r} {l} {f} h a = subst₂ (λ (S U : List ℕ). Accepted S U r l f) h.pair.sheet (λ i. crossed (h.pair.sheet i) (h.pair.uses i) (h.scopes i)) a
 
 module _ (S U C : List ℕ) (x : Columns) (f : FindingColumns) where
   pub judge_refused : {r : Refusal} → scoped_verdict (judge_short x f) S U C ≡ Err r → JudgePromise S U C (Err r) (record { chart = record { before = x; after = x }; found = record { before = f; after = f } })

@@ -5,7 +5,7 @@ ghost use Rattle.chart.specs.Loan.{SameColumns};
 ghost use Rattle.findings.specs.Loan.{SameFound};
 ghost use Rattle.judge.specs.Lent.{JudgePromise, judge_lent_in};
 
-use chart::ChartColumns;
+use chart::{ChartColumns, WideChart};
 use findings::FoundColumns;
 use flow::{Judgement, Refusal};
 
@@ -21,6 +21,7 @@ pub fn judge(
     ensures same { SameColumns chart.old chart.new × SameFound found.old found.new }
 {
     let short = found.is_short(chart.is_short());
-    scoped_admission::scoped_verdict(short, sheet, uses, scopes)?;
-    Ok(judging::of_sheets(sheet, uses, scopes, chart, found))
+    let sheets = scoped_admission::admit_scoped(short, sheet, uses, scopes)?;
+    let wide = WideChart { columns: chart };
+    Ok(judging::of_sheets(sheets, wide, found))
 }

@@ -11,6 +11,6 @@ use flow::Refusal;
 pub fn label_check(sheet: &[u64]) -> Result<bool, Refusal>
     ensures { label_told result ≡ label_check sheet.now }
 {
-    admission::sheet_verdict(false, sheet)?;
-    Ok(label_check::labels_fine(sheet_parts::kinds(sheet)))
+    let sheet = admission::admit_sheet(false, sheet)?;
+    Ok(label_check::labels_fine(sheet.items().words))
 }

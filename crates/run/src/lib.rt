@@ -3,7 +3,7 @@
 
 ghost use Rattle.run.specs.Promises.{RunPromise};
 
-use chart::ChartMemory;
+use chart::{ChartMemory, WideChart};
 use chart_run::run_in;
 use flow::{Ran, Refusal};
 
@@ -11,8 +11,11 @@ use flow::{Ran, Refusal};
 pub fn run(sheet: &[u64], offset: u32) -> Result<Ran, Refusal>
     ensures { RunPromise sheet.now offset result }
 {
-    admission::sheet_verdict(false, sheet)?;
+    let sheet = admission::admit_sheet(false, sheet)?;
     let mut memory = ChartMemory::filled(0);
-    let mut chart = memory.lend();
-    Ok(run_in(sheet, offset, &mut chart))
+    let mut columns = memory.lend();
+    let chart = WideChart {
+        columns: &mut columns,
+    };
+    Ok(run_in(sheet, offset, chart))
 }

@@ -10,6 +10,7 @@ use answer_words::{chart_word, judge_word, label_word, run_word};
 use chart::ChartColumns;
 use findings::FoundColumns;
 
+// C lends each column by itself, as the header has them.
 #[unsafe(no_mangle)]
 pub extern "C" fn waldimu_chart(
     sheet: &[u64],
@@ -39,6 +40,7 @@ pub extern "C" fn waldimu_chart(
     chart_word(chart_call::chart(sheet, &mut chart))
 }
 
+// C lends each column by itself here too.
 #[unsafe(no_mangle)]
 pub extern "C" fn waldimu_judge(
     sheet: &[u64],

@@ -1,82 +1,83 @@
 -- `scoped_findings::find_scoped` meets its contract: the uses that are judged are those of `crossed`.
 -- Assumes nothing.
-use Prim.Native.Nat.{ℕ, ◌≤◌}
-use mathlib.Core.Path.{◌≡◌, refl, sym, ap, ◌∙◌, subst}
+use Prim.Native.Nat.{ℕ}
+use mathlib.Core.Path.{◌≡◌, refl, sym, ◌∙◌, subst}
 use mathlib.Core.List.{List}
 use native.Mathlib.Omega.{arith}
 use lib.ListN.{length, take, length-replicate}
-use lib.Seq.{length-take-le}
-use Rattle.flow.specs.Sheet.{items}
+use Rattle.flow.specs.Sheet.{items, use_words, use_spans}
 use Rattle.flow.specs.Refusals.{name_count}
-use Rattle.flow.specs.Scopes.{use_sheet, crossed}
+use Rattle.flow.specs.Scopes.{use_sheet}
 use Rattle.flow.specs.Admitted.{AdmittedUses}
-use Rattle.flow.proofs.Scopes.{crossed_admitted}
+use Rattle.flow.proofs.Scopes.{crossed_admitted, sheet_words, sheet_spans}
+use Rattle.sheet_parts.specs.Sheets.{uses_of, judged_uses}
 use Rattle.crossing.specs.Tables.{names_before}
 use Rattle.chart.specs.Loan.{cells}
 use Rattle.scoped_findings.proofs.Uses.{as_supplied, as_replaced, scopes_fit_law, names_are, locals_known, searched, written}
 use Rattle.scoped_findings.proofs.find_scoped.Goals as goal
-use Rattle.scoped_findings.proofs.find_scoped.Goals.{After-replace_crossings, After-use_spans-use_spans}
+use Rattle.scoped_findings.proofs.find_scoped.Goals.{Start, After-replace_crossings}
 
--- ---- where the parts are taken
-abbrev S : (c : After-use_spans-use_spans) → List ℕ
-S c = c.args.sheet.now
+-- ---- the sheets, and the uses by their two arrays
+abbrev S : (c : Start) → List ℕ
+S c = c.args.sheets.pair.sheet.words.now
 
-abbrev U : (c : After-use_spans-use_spans) → List ℕ
-U c = c.args.uses.now
+abbrev U : (c : Start) → List ℕ
+U c = uses_of c.args.sheets.pair
 
-abbrev C : (c : After-use_spans-use_spans) → List ℕ
-C c = c.args.scopes.now
+abbrev C : (c : Start) → List ℕ
+C c = c.args.sheets.scopes.now
+
+abbrev ws : (c : Start) → List ℕ
+ws c = c.args.sheets.pair.uses.words.now
+
+abbrev ss : (c : Start) → List ℕ
+ss c = c.args.sheets.pair.uses.spans.now
+
+words_are : (c : Start) → ws c ≡ use_words (U c)
+words_are c = sym (sheet_words (ws c) (ss c))
+
+spans_are : (c : Start) → ss c ≡ use_spans (U c)
+spans_are c = sym (sheet_spans (ws c) (ss c) (sym c.args.sheets.pair.uses.paired))
 
 -- no scope sheet has come
-supplied : (d : After-use_spans-use_spans) → length (C d) ≡ 0 → use_sheet d.use_words-use_words.result.now d.use_spans-use_spans.result.now ≡ crossed (S d) (U d) (C d)
-supplied d none = as_supplied (S d) (U d) (C d) d.requires.admitted_sheet.1 none d.use_words-use_words.ensures d.use_spans-use_spans.ensures
+supplied : (c : Start) → length (C c) ≡ 0 → U c ≡ judged_uses c.args.sheets
+supplied c none = as_supplied (S c) (U c) (C c) c.args.sheets.pair.admitted none (words_are c) (spans_are c)
 
 -- one has
-names : (d : After-use_spans-use_spans) → (length (C d) ≡ 0 → ⊥) → names_before d.use_words-use_words.result.now (C d) ≡ name_count (items (S d))
-names d some = names_are (S d) (U d) (C d) d.requires.admitted_sheet.1 some d.use_words-use_words.ensures d.requires.admitted_sheet.2
+names : (c : Start) → (length (C c) ≡ 0 → ⊥) → names_before (ws c) (C c) ≡ name_count (items (S c))
+names c some = names_are (S c) (U c) (C c) c.args.sheets.pair.admitted some (words_are c) c.args.sheets.fit
 
 -- ---- where the words are replaced
-abbrev ws : (c : After-replace_crossings) → List ℕ
-ws c = c.use_words-use_words.result.now
-
 abbrev column : (c : After-replace_crossings) → List ℕ
 column c = c.replace_crossings.new.words
 
-room : (c : After-replace_crossings) → length (ws c) ≤ length (column c)
-room c = omega (arith, ap length c.use_words-use_words.ensures, length-replicate {A = ℕ} 1024 0)
-
-replaced : (c : After-replace_crossings) → use_sheet (take (length (ws c)) (column c)) c.use_spans-use_spans.result.now ≡ crossed (S (goal.at.After-replace_crossings c).After-use_spans-use_spans) (U (goal.at.After-replace_crossings c).After-use_spans-use_spans) (C (goal.at.After-replace_crossings c).After-use_spans-use_spans)
+replaced : (c : After-replace_crossings) → use_sheet (take (length (ws (goal.at.After-replace_crossings c).Start)) (column c)) (ss (goal.at.After-replace_crossings c).Start) ≡ judged_uses c.args.sheets
 replaced c =
-    let d = (goal.at.After-replace_crossings c).After-use_spans-use_spans in
-    as_replaced (S d) (U d) (C d) c.requires.admitted_sheet.1 c.if-bare.false _ (ws c) _ (names d c.if-bare.false) c.use_words-use_words.ensures c.use_spans-use_spans.ensures c.replace_crossings.ensures refl
+    let d = (goal.at.After-replace_crossings c).Start in
+    as_replaced (S d) (U d) (C d) c.args.sheets.pair.admitted c.if-bare.false _ (ws d) _ (names d c.if-bare.false) (words_are d) (spans_are d) c.replace_crossings.ensures refl
 
 pub find_all-requires : goal.find_all-requires
 find_all-requires c =
-    let d = (goal.at.find_all-requires c).After-use_spans-use_spans in
-    let e = supplied d c.if-bare.true in
-    record { admitted_sheet = (c.requires.admitted_sheet.0, subst (AdmittedUses (S d)) (sym e) (crossed_admitted (S d) (U d) (C d) c.requires.admitted_sheet.1)); searchable = searched c.args.counts (cells c.args.chart.now) e c.requires.searchable; long = c.requires.long }
+    let d = (goal.at.find_all-requires c).Start in
+    record { searchable = searched c.args.counts (cells c.args.chart.now) (supplied d c.if-bare.true) c.requires.searchable; long = c.requires.long }
 
 pub returns-then-bare-clause-written : goal.returns-then-bare-clause-written
-returns-then-bare-clause-written c = written (supplied (goal.at.returns-then-bare-clause-written c).After-use_spans-use_spans c.if-bare.true) c.find_all.ensures.written
+returns-then-bare-clause-written c = written (supplied (goal.at.returns-then-bare-clause-written c).Start c.if-bare.true) c.find_all.ensures.written
 
 pub replace_crossings-requires : goal.replace_crossings-requires
 replace_crossings-requires c =
-    let d = (goal.at.replace_crossings-requires c).After-use_spans-use_spans in
-    let many = ap length c.use_words-use_words.ensures ∙ c.requires.admitted_sheet.1.uses in
+    let d = (goal.at.replace_crossings-requires c).Start in
+    let u = c.args.sheets.pair.admitted in
     let n = names d c.if-bare.false in
-    record { admitted_scopes = scopes_fit_law (S d) (U d) (C d) c.requires.admitted_sheet.1 c.if-bare.false _ n c.use_words-use_words.ensures c.requires.admitted_sheet.2; use_words_in_bounds = (omega (arith, many, length-replicate {A = ℕ} 1024 0), locals_known (S d) (U d) (C d) c.requires.admitted_sheet.1 _ n c.use_words-use_words.ensures) }
+    record { admitted_scopes = scopes_fit_law (S d) (U d) (C d) u c.if-bare.false _ n (words_are d) c.args.sheets.fit; use_words_in_bounds = (omega (arith, c.args.sheets.pair.uses.few, length-replicate {A = ℕ} 1024 0), locals_known (S d) (U d) (C d) u _ n (words_are d)) }
 
-pub slice_bounds-words-end : goal.slice_bounds-words-end
-slice_bounds-words-end c = room (goal.at.slice_bounds-words-end c).After-replace_crossings
-
-pub slice_bounds-find_all-end : goal.slice_bounds-find_all-end
-slice_bounds-find_all-end c = sym (length-take-le _ _ (room (goal.at.slice_bounds-find_all-end c).After-replace_crossings))
+pub invariant_of-find_all : goal.invariant_of-find_all
+invariant_of-find_all c =
+    let d = (goal.at.invariant_of-find_all c).Start in
+    record { admitted = subst (AdmittedUses (S d)) (sym (replaced (goal.at.invariant_of-find_all c).After-replace_crossings)) (crossed_admitted (S d) (U d) (C d) c.args.sheets.pair.admitted) }
 
 pub find_all-requires-2 : goal.find_all-requires-2
-find_all-requires-2 c =
-    let d = (goal.at.find_all-requires-2 c).After-use_spans-use_spans in
-    let e = replaced (goal.at.find_all-requires-2 c).After-replace_crossings in
-    record { admitted_sheet = (c.requires.admitted_sheet.0, subst (AdmittedUses (S d)) (sym e) (crossed_admitted (S d) (U d) (C d) c.requires.admitted_sheet.1)); searchable = searched c.args.counts (cells c.args.chart.now) e c.requires.searchable; long = c.requires.long }
+find_all-requires-2 c = record { searchable = searched c.args.counts (cells c.args.chart.now) (replaced (goal.at.find_all-requires-2 c).After-replace_crossings) c.requires.searchable; long = c.requires.long }
 
 pub returns-clause-written : goal.returns-clause-written
 returns-clause-written c = written (replaced (goal.at.returns-clause-written c).After-replace_crossings) c.find_all-2.ensures.written
