@@ -25,10 +25,10 @@ const PLAIN: u64 = 18;
 // The words of a sheet with one item too many.
 const WORDS: usize = 2 * (ITEMS + 1) + 2;
 
-// What is printed for a no.
+// What is printed for a no: each call prints a number, and no refusal has this one.
 const NO: u64 = 99;
 
-// The sheet of n PLAIN items, one after the other.
+// The sheet of n PLAIN items, one after the other: n is what the sheet is to have, and no length of the room, which is lent whole.
 fn plain_items(room: &mut [u64; WORDS], n: usize) -> &[u64]
     requires { n ≤ 1025 }
 {

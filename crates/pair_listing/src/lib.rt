@@ -10,7 +10,7 @@ use chart::ChartMemory;
 use column_lengths::{FINDINGS, LOCALS};
 use findings::FoundColumns;
 
-// What a sheet and a use sheet print.
+// What a sheet and a use sheet print. The room stays a clause, as `lines::ROOM` says.
 pub fn of_sheets(sheet: &[u64], uses: &[u64], output: &mut [u8]) -> usize
     requires { room_for_all ≤ length output.old }
     ensures { Printed (sheets_print sheet.now uses.now) output.old output.new result }

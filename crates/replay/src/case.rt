@@ -30,7 +30,8 @@ impl fmt::Display for Fault {
     }
 }
 
-// The word that a case holds for the label check: the refusal's number, else its value.
+// The word that a case holds for the label check: the refusal's number, else its value. The stored word does not tell
+// the two apart, so they are compared as numbers.
 fn label_word(answer: Result<bool, Refusal>) -> u64
     ensures { result ≡ (label_told answer).number + get_or (label_told answer).values 0 0 }
 {
