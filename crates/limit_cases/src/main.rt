@@ -5,8 +5,7 @@
 ghost use Rattle.std.specs.Prelude.{◌≤◌};
 
 use chart::ChartMemory;
-use column_lengths::{FINDINGS, LOCALS};
-use findings::FoundColumns;
+use findings::FoundMemory;
 use flow::Refusal;
 use numbers::number_of;
 use std::io;
@@ -79,14 +78,8 @@ fn judge(sheet: &[u64]) -> u64 {
     let scopes = [0u64; 0];
     let mut memory = ChartMemory::filled(0);
     let mut chart = memory.lend();
-    let mut word = [0u64; FINDINGS];
-    let mut span = [0u64; FINDINGS];
-    let mut mark = [0u64; LOCALS];
-    let mut found = FoundColumns {
-        word: &mut word,
-        span: &mut span,
-        mark: &mut mark,
-    };
+    let mut found_memory = FoundMemory::filled(0);
+    let mut found = found_memory.lend();
     number_of(judge::judge(sheet, &uses, &scopes, &mut chart, &mut found))
 }
 
