@@ -2,7 +2,7 @@
 -- Assumes nothing.
 use Rattle.std.specs.Prelude.{◌≡◌, Bool, true, false, ◌||◌, List, [], ◌∷◌, ℕ, ltb, refl}
 use Rattle.std.specs.List.{list_any}
-use mathlib.Core.Path.{ap, sym, ◌∙◌}
+use mathlib.Core.Path.{ap, ◌∙◌}
 use Rattle.column_lengths.specs.Lengths.{any_below, chart_too_short, judge_too_short}
 
 or_assoc : (a b c : Bool) → (a || (b || c)) ≡ (a || b || c)

@@ -1,7 +1,7 @@
 // The findings of an admitted pair of sheets, by the chart of the first.
 #![tactic(auto)]
 
-ghost use Rattle.std.specs.Prelude.{◌≡◌, ◌++◌, ◌≤◌, map, length, take, drop};
+ghost use Rattle.std.specs.Prelude.{◌≡◌, ◌++◌, ◌≤◌, map, length, take, drop, replicate};
 ghost use Rattle.sheet_parts.specs.Sheets.{uses_of};
 ghost use Rattle.chart.specs.Loan.{cells};
 ghost use Rattle.finding_spans.specs.Spans.{span_of, Known};
@@ -9,6 +9,7 @@ ghost use Rattle.findings.specs.Accepted.{found_short, Long, Searchable, Finding
 ghost use Rattle.findings.specs.Loan.{found_cells, found_lent, SameFound};
 
 use chart::ChartColumns;
+use column_lengths::{FINDINGS, LOCALS};
 use flow::Counts;
 use live_steps::{Edges, FlowGraph};
 use locals::DeclarationTable;
@@ -34,6 +35,37 @@ impl FoundColumns<'_> {
             &[self.mark.len()],
             chart,
         )
+    }
+}
+
+// Memory for the findings of any pair.
+#[derive(Drop)]
+pub struct FoundMemory {
+    word: [u64; FINDINGS],
+    span: [u64; FINDINGS],
+    mark: [u64; LOCALS],
+}
+
+impl FoundMemory {
+    // With this word in each cell.
+    pub fn filled(word: u64) -> Self
+        ensures { (result.word ≡ replicate 3072 word) × (result.span ≡ replicate 3072 word) × (result.mark ≡ replicate 1024 word) }
+    {
+        FoundMemory {
+            word: [word; FINDINGS],
+            span: [word; FINDINGS],
+            mark: [word; LOCALS],
+        }
+    }
+
+    pub fn lend(&mut self) -> FoundColumns<'_>
+        ensures long { Long (found_cells result) }
+        ensures same_cells { found_cells result ≡ record { word = self.old.word; span = self.old.span; mark = self.old.mark } }
+    {
+        let word = &mut self.word;
+        let span = &mut self.span;
+        let mark = &mut self.mark;
+        FoundColumns { word, span, mark }
     }
 }
 

@@ -4,36 +4,25 @@
 ghost use Rattle.std.specs.Prelude.{◌≡◌, ◌≤◌};
 ghost use Rattle.flow.specs.Refusals.{number};
 
-// Why a call is refused.
+// Why a call is refused, with the table's number of each.
 #[derive(Clone, Copy)]
 pub enum Refusal {
-    BenchTooSmall,
-    Miscount,
-    BadItem,
-    TooDeep,
-    BadNesting,
-    OffTheLine,
-    BadName,
-    BadUse,
-    BadScope,
+    BenchTooSmall = 1,
+    Miscount = 2,
+    BadItem = 3,
+    TooDeep = 4,
+    BadNesting = 5,
+    OffTheLine = 6,
+    BadName = 7,
+    BadUse = 8,
+    BadScope = 9,
 }
 
-// The table's number of a refusal.
 impl From<Refusal> for u64 {
     ghost from_gives = { λ refusal n. (n ≡ number refusal) × (1 ≤ n) × (n ≤ 15) };
 
     fn from(refusal: Refusal) -> u64 {
-        match refusal {
-            Refusal::BenchTooSmall => 1,
-            Refusal::Miscount => 2,
-            Refusal::BadItem => 3,
-            Refusal::TooDeep => 4,
-            Refusal::BadNesting => 5,
-            Refusal::OffTheLine => 6,
-            Refusal::BadName => 7,
-            Refusal::BadUse => 8,
-            Refusal::BadScope => 9,
-        }
+        refusal as u64
     }
 }
 
@@ -49,6 +38,7 @@ pub struct Counts {
 #[derive(Clone, Copy)]
 pub struct Ran {
     pub node: Option<usize>,
+    // Yes also where there is no node, so it is no flag beside the node.
     pub can_run: bool,
 }
 

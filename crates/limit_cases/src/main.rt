@@ -5,8 +5,7 @@
 ghost use Rattle.std.specs.Prelude.{◌≤◌};
 
 use chart::ChartMemory;
-use column_lengths::{FINDINGS, LOCALS};
-use findings::FoundColumns;
+use findings::FoundMemory;
 use flow::Refusal;
 use numbers::number_of;
 use std::io;
@@ -25,10 +24,10 @@ const PLAIN: u64 = 18;
 // The words of a sheet with one item too many.
 const WORDS: usize = 2 * (ITEMS + 1) + 2;
 
-// What is printed for a no.
+// What is printed for a no: each call prints a number, and no refusal has this one.
 const NO: u64 = 99;
 
-// The sheet of n PLAIN items, one after the other.
+// The sheet of n PLAIN items, one after the other: n is what the sheet is to have, and no length of the room, which is lent whole.
 fn plain_items(room: &mut [u64; WORDS], n: usize) -> &[u64]
     requires { n ≤ 1025 }
 {
@@ -79,14 +78,8 @@ fn judge(sheet: &[u64]) -> u64 {
     let scopes = [0u64; 0];
     let mut memory = ChartMemory::filled(0);
     let mut chart = memory.lend();
-    let mut word = [0u64; FINDINGS];
-    let mut span = [0u64; FINDINGS];
-    let mut mark = [0u64; LOCALS];
-    let mut found = FoundColumns {
-        word: &mut word,
-        span: &mut span,
-        mark: &mut mark,
-    };
+    let mut found_memory = FoundMemory::filled(0);
+    let mut found = found_memory.lend();
     number_of(judge::judge(sheet, &uses, &scopes, &mut chart, &mut found))
 }
 

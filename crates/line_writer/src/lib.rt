@@ -1,7 +1,7 @@
 // Lines appended to lent bytes.
 #![tactic(auto)]
 
-ghost use Rattle.std.specs.Prelude.{◌≡◌, [], ◌∷◌, ◌++◌};
+ghost use Rattle.std.specs.Prelude.{◌≡◌, ◌∷◌, ◌++◌};
 ghost use Rattle.flow.specs.Listing;
 ghost use Rattle.line_writer.specs.Output.{HasRoom, Appends};
 

@@ -9,7 +9,7 @@ ghost use Rattle.listing.specs.Listed.{listed};
 
 use flow::Refusal;
 
-// What a file's words print: the sheet ends where they say.
+// What a file's words print: the sheet ends where they say. The room stays a clause, as `lines::ROOM` says.
 fn of_words(words: &[u64], output: &mut [u8]) -> usize
     requires { room_for_all ≤ length output.old }
     ensures { Printed (Listing.printed_words words.now) output.old output.new result }
@@ -38,6 +38,7 @@ pub fn listing(input: &[u8], output: &mut [u8]) -> usize
 {
     let short = output.len() < lines::ROOM;
     if short {
+        // A count of bytes: none is printed.
         return 0;
     }
     of_bytes(input, output)

@@ -7,10 +7,9 @@ ghost use Rattle.line_writer.specs.Output.{Printed};
 ghost use Rattle.lines.specs.Report.{room_for_all};
 
 use chart::ChartMemory;
-use column_lengths::{FINDINGS, LOCALS};
-use findings::FoundColumns;
+use findings::FoundMemory;
 
-// What a sheet and a use sheet print.
+// What a sheet and a use sheet print. The room stays a clause, as `lines::ROOM` says.
 pub fn of_sheets(sheet: &[u64], uses: &[u64], output: &mut [u8]) -> usize
     requires { room_for_all ≤ length output.old }
     ensures { Printed (sheets_print sheet.now uses.now) output.old output.new result }
@@ -19,14 +18,8 @@ pub fn of_sheets(sheet: &[u64], uses: &[u64], output: &mut [u8]) -> usize
     let scopes = [0u64; 0];
     let mut memory = ChartMemory::filled(0);
     let mut chart = memory.lend();
-    let mut word = [0u64; FINDINGS];
-    let mut span = [0u64; FINDINGS];
-    let mut mark = [0u64; LOCALS];
-    let mut found = FoundColumns {
-        word: &mut word,
-        span: &mut span,
-        mark: &mut mark,
-    };
+    let mut found_memory = FoundMemory::filled(0);
+    let mut found = found_memory.lend();
     let answer = judge::judge(sheet, uses, &scopes, &mut chart, &mut found);
     let reachable = chart.reachable;
     let words = found.word;

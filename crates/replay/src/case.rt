@@ -30,7 +30,8 @@ impl fmt::Display for Fault {
     }
 }
 
-// The word that a case holds for the label check: the refusal's number, else its value.
+// The word that a case holds for the label check: the refusal's number, else its value. The stored word does not tell
+// the two apart, so they are compared as numbers.
 fn label_word(answer: Result<bool, Refusal>) -> u64
     ensures { result ≡ (label_told answer).number + get_or (label_told answer).values 0 0 }
 {
@@ -56,51 +57,62 @@ const ENOUGH: Cells = Cells {
     findings: FINDINGS,
 };
 
-// Whether chart and judge answer these two numbers over columns of so many cells.
-fn both_agree(cells: Cells, sheet: &[u64], uses: &[u64], chart: u64, judge: u64) -> bool {
-    let n = cells.nodes;
-    let c = cells.codes;
-    let l = cells.locals;
-    let short = column_lengths::chart_short(&[n; 4], &[c; 2], &[l; 3]);
-    let any_short = column_lengths::judge_short(&[cells.findings; 2], &[l], short);
-    let charted = number_of(admission::sheet_verdict(short, sheet)) == chart;
-    let judged = number_of(admission::pair_verdict(any_short, sheet, uses)) == judge;
-    charted & judged
+// What a case has of both sheets: their words, and the numbers that chart and judge answer for them.
+#[derive(Clone, Copy)]
+struct Pair<'a> {
+    sheet: &'a [u64],
+    uses: &'a [u64],
+    chart: u64,
+    judge: u64,
 }
 
-// One cell too few is refusal 1, whatever the sheets. Only judge asks for findings.
-fn verdicts_agree(sheet: &[u64], uses: &[u64], chart: u64, judge: u64) -> bool {
-    let few_nodes = Cells {
-        nodes: NODES - 1,
-        ..ENOUGH
-    };
-    let few_codes = Cells {
-        codes: CODES - 1,
-        ..ENOUGH
-    };
-    let few_locals = Cells {
-        locals: LOCALS - 1,
-        ..ENOUGH
-    };
-    let few_findings = Cells {
-        findings: FINDINGS - 1,
-        ..ENOUGH
-    };
-    both_agree(ENOUGH, sheet, uses, chart, judge)
-        && both_agree(few_nodes, sheet, uses, 1, 1)
-        && both_agree(few_codes, sheet, uses, 1, 1)
-        && both_agree(few_locals, sheet, uses, 1, 1)
-        && both_agree(few_findings, sheet, uses, chart, 1)
-}
+impl Pair<'_> {
+    // Whether chart and judge answer these two numbers over columns of so many cells.
+    fn answers(self, cells: Cells, chart: u64, judge: u64) -> bool {
+        let n = cells.nodes;
+        let c = cells.codes;
+        let l = cells.locals;
+        let short = column_lengths::chart_short(&[n; 4], &[c; 2], &[l; 3]);
+        let any_short = column_lengths::judge_short(&[cells.findings; 2], &[l], short);
+        let charted = number_of(admission::sheet_verdict(short, self.sheet)) == chart;
+        let judged = number_of(admission::pair_verdict(any_short, self.sheet, self.uses)) == judge;
+        charted & judged
+    }
 
-// Whether chart, run and judge answer what is stored of them, where a word that is missing is not answered.
-fn calls_agree(sheet: &[u64], uses: &[u64], chart: u64, judge: u64, rest: Rest) -> Option<bool> {
-    let (charted, cells) = Stored::read(chart, rest)?;
-    let (judged, all_cells) = Stored::read(judge, rest)?;
-    let agree = chart_agrees(sheet, charted, cells)
-        && runs_agree(sheet, charted, cells)?
-        && judge_agrees(sheet, uses, judged, all_cells)?;
-    Some(agree)
+    // One cell too few is refusal 1, whatever the sheets. Only judge asks for findings.
+    fn verdicts_agree(self) -> bool {
+        let few_nodes = Cells {
+            nodes: NODES - 1,
+            ..ENOUGH
+        };
+        let few_codes = Cells {
+            codes: CODES - 1,
+            ..ENOUGH
+        };
+        let few_locals = Cells {
+            locals: LOCALS - 1,
+            ..ENOUGH
+        };
+        let few_findings = Cells {
+            findings: FINDINGS - 1,
+            ..ENOUGH
+        };
+        self.answers(ENOUGH, self.chart, self.judge)
+            && self.answers(few_nodes, 1, 1)
+            && self.answers(few_codes, 1, 1)
+            && self.answers(few_locals, 1, 1)
+            && self.answers(few_findings, self.chart, 1)
+    }
+
+    // Whether chart, run and judge answer what is stored of them, where a word that is missing is not answered.
+    fn calls_agree(self, rest: Rest) -> Option<bool> {
+        let (charted, cells) = Stored::read(self.chart, rest)?;
+        let (judged, all_cells) = Stored::read(self.judge, rest)?;
+        let agree = chart_agrees(self.sheet, charted, cells)
+            && runs_agree(self.sheet, charted, cells)?
+            && judge_agrees(self.sheet, self.uses, judged, all_cells)?;
+        Some(agree)
+    }
 }
 
 // Whether the words of a case that follow its length agree.
@@ -111,9 +123,15 @@ pub fn compare(case: &[u64]) -> Result<(), Fault> {
     let chart = rest.word().ok_or(Fault::Misshapen)?;
     let judge = rest.word().ok_or(Fault::Misshapen)?;
     let label = rest.word().ok_or(Fault::Misshapen)?;
+    let pair = Pair {
+        sheet,
+        uses,
+        chart,
+        judge,
+    };
     let labelled = label_word(label_call::label_check(sheet)) == label;
-    let admitted = verdicts_agree(sheet, uses, chart, judge);
-    let called = calls_agree(sheet, uses, chart, judge, rest).unwrap_or(false);
+    let admitted = pair.verdicts_agree();
+    let called = pair.calls_agree(rest).unwrap_or(false);
     if labelled && admitted && called {
         Ok(())
     } else {

@@ -6,8 +6,7 @@ ghost use Rattle.replay.specs.Words.{stored_told};
 use crate::chart_cells::{cells_hold, counts_are};
 use crate::stored::{OLD, Rest, Stored};
 use chart::ChartMemory;
-use column_lengths::{FINDINGS, LOCALS};
-use findings::FoundColumns;
+use findings::FoundMemory;
 use flow::{Judgement, Refusal};
 
 // Whether an answer tells the stored number, and where that is 0 the stored counts and the number of findings.
@@ -49,14 +48,8 @@ pub fn judge_agrees(sheet: &[u64], uses: &[u64], stored: Stored, cells: Rest) ->
     let scopes = [OLD; 0];
     let mut memory = ChartMemory::filled(OLD);
     let mut chart = memory.lend();
-    let mut word = [OLD; FINDINGS];
-    let mut span = [OLD; FINDINGS];
-    let mut mark = [OLD; LOCALS];
-    let mut columns = FoundColumns {
-        word: &mut word,
-        span: &mut span,
-        mark: &mut mark,
-    };
+    let mut found_memory = FoundMemory::filled(OLD);
+    let mut columns = found_memory.lend();
     let answer = judge::judge(sheet, uses, &scopes, &mut chart, &mut columns);
     let mut rest = cells;
     if !cells_hold(&chart, stored, &mut rest) {
@@ -65,9 +58,9 @@ pub fn judge_agrees(sheet: &[u64], uses: &[u64], stored: Stored, cells: Rest) ->
     // The findings' cells are a case's last words.
     let found = findings(stored, &mut rest)?;
     let agree = answer_is(answer, stored, found)
-        && rest.are_in(&word, found)
-        && rest.are_in(&span, found)
+        && rest.are_in(columns.word, found)
+        && rest.are_in(columns.span, found)
         && rest.is_empty()
-        && marks_hold(&mark, stored);
+        && marks_hold(columns.mark, stored);
     Some(agree)
 }

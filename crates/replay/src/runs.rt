@@ -19,7 +19,7 @@ fn node_is(found: Option<usize>, node: u64) -> bool
     }
 }
 
-// Whether yes is stored as 1, or no as 0.
+// Whether yes is stored as 1, or no as 0: `yes` is compared, and chooses no step.
 fn yes_is(yes: bool, can: u64) -> bool
     ensures { result ≡ true → one yes ≡ can }
 {

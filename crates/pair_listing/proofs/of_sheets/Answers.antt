@@ -1,6 +1,6 @@
 -- `pair_listing::of_sheets` meets its contract: judge's answer, printed by the columns that it wrote.
 -- Assumes nothing.
-use mathlib.Core.Path.{◌≡◌, refl, ◌∙◌, subst}
+use mathlib.Core.Path.{◌≡◌, refl, ◌∙◌}
 use mathlib.Core.List.{List, []}
 use Prim.Native.Nat.{ℕ, ◌≤◌}
 use native.Mathlib.Omega.{arith}
@@ -8,7 +8,6 @@ use lib.ListN.{length}
 use Rattle.flow.specs.Answers.{judge_told, findings_told}
 use Rattle.flow.specs.Listing.{sheets_print}
 use Rattle.lines.specs.Report.{answer_lines}
-use Rattle.chart.specs.Lent.{Columns}
 use Rattle.chart.specs.Loan.{cells}
 use Rattle.findings.specs.Loan.{found_cells}
 use Rattle.judge.specs.Lent.{JudgePromise}
@@ -42,9 +41,14 @@ chart_is c =
     let m = c.filled-memory.ensures.names in
     c.lend-chart.ensures.same_cells ∙ rw (n.0, n.1, n.2, n.3, k.0, k.1, m.0, m.1, m.2) refl
 
+-- and so did those of findings
+found_is : (c : After-judge-answer) → found_cells c.lend-found.result ≡ own_findings
+found_is c =
+    let n = c.filled-found_memory.ensures in
+    c.lend-found.ensures.same_cells ∙ rw (n.0, n.1, n.2) refl
+
 promised : (c : After-judge-answer) → JudgePromise (sheet c) (uses c) [] c.judge-answer.result (record { chart = record { before = own_columns; after = cells c.judge-answer.new.chart }; found = record { before = own_findings; after = found_cells c.judge-answer.new.found } })
-promised c =
-    subst (λ (x : Columns). JudgePromise (sheet c) (uses c) [] c.judge-answer.result (record { chart = record { before = x; after = cells c.judge-answer.new.chart }; found = record { before = own_findings; after = found_cells c.judge-answer.new.found } })) (chart_is c) c.judge-answer.ensures.promise
+promised c = rw (chart_is c, found_is c) at c.judge-answer.ensures.promise
 
 flags_long : (c : After-judge-answer) → length (flags c) ≡ 1600
 flags_long c = Answer.flags_long (sheet c) (uses c) (promised c)
