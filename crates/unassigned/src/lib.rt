@@ -47,6 +47,7 @@ fn list_local(
 }
 
 // The unassigned findings of all locals, in local order, and the mark figure of each. The marks are below stamp 1 before.
+// The room for them is a clause: the columns come from two lenders, and a type of both would be made for one call.
 pub fn list_unassigned(
     pass: &PassTables<'_>,
     search: &mut Search<'_>,
