@@ -23,7 +23,7 @@ impl NameFacts {
         self.modified && !self.captured
     }
 
-    pub fn is_tracked(self) -> bool
+    fn is_tracked(self) -> bool
         ensures { result ≡ tracks self }
     {
         !self.underscore && (!self.has_value || self.writes_judged())
@@ -44,7 +44,8 @@ impl NameFacts {
     }
 }
 
-// Whether some local is tracked. Where none is, nothing is searched and no memory is needed for it.
+// Whether some local is tracked. Where none is, nothing is searched and no memory is needed for it. This and the next are one line of
+// `any` each: one function over the test would be no shorter.
 pub fn any_tracked(names: &[NameFacts]) -> bool
     ensures { result ≡ list_any tracks names.now }
 {

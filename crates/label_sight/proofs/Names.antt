@@ -2,9 +2,9 @@
 -- Assumes nothing.
 use mathlib.Core.Path.{◌≡◌, refl, sym, ap, ◌∙◌}
 use mathlib.Core.List.{List, [], ◌∷◌, ◌++◌, append_assoc, append-nil}
-use mathlib.Core.Bool.{Bool, true, false, ◌&&◌, ◌||◌, not, and_assoc, and-true, or-true, or-false}
-use Prim.Native.Nat.{ℕ, suc, ◌-◌, ◌≤◌, ◌<◌}
-use native.Mathlib.Omega.{arith}
+use mathlib.Core.Bool.{Bool, true, false, ◌&&◌, ◌||◌, not, and_assoc, and-true, or-false}
+use Prim.Native.Nat.{ℕ, ◌+◌, ◌<◌}
+use native.Mathlib.Numerals.{add-one}
 use native.Mathlib.Decide.{ℕ_discrete}
 use lib.Dec.{eqb}
 use lib.ListN.{length, get_or, take}
@@ -50,18 +50,9 @@ none_distinct xs (a ∷ as') =
     ∙ none_distinct (xs ++ (a ∷ [])) as'
     ∙ ap distinct (append_assoc xs (a ∷ []) as')
 
--- ---- the search for a name, from the end of a list
+-- ---- the search for a name, one after the other
 
-module _ (a k : ℕ) (l : List ℕ) (h : 0 < k) (q : k ≤ length l) where
-  look_last : member a (take k l) ≡ (member a (take (k - 1) l) || eqb a (get_or l (k - 1) 0))
-  look_last =
-      let z : k ≡ suc (k - 1) = omega arith in
-      ap (λ (n : ℕ). member a (take n l)) z
-      ∙ rw (take-suc l (k - 1) 0 (omega arith))
-      (one_of_append a (take (k - 1) l) (get_or l (k - 1) 0 ∷ []) ∙ ap (λ (b : Bool). member a (take (k - 1) l) || b) (or-false (eqb a (get_or l (k - 1) 0))))
-
-  pub look_found : get_or l (k - 1) 0 ≡ a → member a (take k l) ≡ true
-  look_found e = look_last ∙ rw (eq-eqb a (get_or l (k - 1) 0) (sym e)) (or-true (member a (take (k - 1) l)))
-
-  pub look_past : (get_or l (k - 1) 0 ≡ a → ⊥) → member a (take k l) ≡ member a (take (k - 1) l)
-  look_past e = look_last ∙ rw (ne_eqb a (get_or l (k - 1) 0) (λ p. e (sym p))) (or-false (member a (take (k - 1) l)))
+pub look_one : (a i : ℕ) (l : List ℕ) → i < length l → member a (take (i + 1) l) ≡ (member a (take i l) || eqb (get_or l i 0) a)
+look_one a i l h =
+    rw (add-one i, take-suc l i 0 h)
+    (one_of_append a (take i l) (get_or l i 0 ∷ []) ∙ ap (λ (b : Bool). member a (take i l) || b) (or-false (eqb a (get_or l i 0)) ∙ eqb_comm a (get_or l i 0)))

@@ -33,6 +33,7 @@ pub fn find_names(kinds: &[u64], facts: &mut [NameFacts]) -> usize
     requires { (length kinds.now ≤ 1024) × (length kinds.now ≤ length facts.old) }
     ensures { Stored (locals_in 0 0 kinds.now) 0 facts.old facts.new result }
 {
+    // Counted by hand: only its word says whether an item is a name, and an index of all items would count others.
     let mut names = 0;
     // The values of the LOCAL that was met last, and how many names of it were met.
     let mut values = 0;

@@ -1,12 +1,12 @@
--- `label_sight::among` meets its contract: what is passed, from the end, holds no such name.
+-- `label_sight::among` meets its contract: whether what is passed holds such a name.
 -- Assumes nothing.
-use mathlib.Core.Path.{sym, ◌∙◌}
-use native.Mathlib.Omega.{arith}
-use Rattle.label_sight.proofs.Names.{look_found, look_past}
+use mathlib.Core.Path.{sym, ap, ◌∙◌}
+use mathlib.Core.Bool.{Bool, ◌||◌}
+use lib.ListN.{get_or}
+use lib.Dec.{eqb}
+use Rattle.label_sight.proofs.Names.{look_one}
 use Rattle.label_sight.proofs.among.Goals as goal
 
-pub returns-then-labels-k : goal.returns-then-labels-k
-returns-then-labels-k c = sym (c.loop-k.invariant ∙ look_found _ _ _ (omega arith) (omega arith) c.if-labels-k.true)
-
-pub loop-k-preserved : goal.loop-k-preserved
-loop-k-preserved c = c.loop-k.invariant ∙ look_past _ _ _ (omega arith) (omega arith) c.if-labels-k.false
+pub loop-label-preserved : goal.loop-label-preserved
+loop-label-preserved c =
+    ap (λ (b : Bool). b || eqb (get_or c.args.labels.now c.loop-label.label-index 0) c.args.name) c.loop-label.invariant ∙ sym (look_one c.args.name c.loop-label.label-index c.args.labels.now c.loop-label-test.true)
