@@ -5,7 +5,6 @@
 
 ghost use Rattle.std.specs.Prelude.{◌≡◌, true, false, ◌+◌, ◌≤◌, ◌<◌, length, get_or};
 ghost use Rattle.flow.specs.Sheet.{kind_of};
-ghost use Rattle.kinds.specs.Ends.{ends_block};
 ghost use Rattle.search.specs.Lent.{held, left};
 ghost use Rattle.cfg_steps.specs.Columns.{cols, cols_at, place, columns, Kept, Keeps};
 ghost use Rattle.cfg.specs.Steps.{Sane, ForSpans, Stepped, Opened, Finished, Scoped, Looped, Arm, ArmBuilt, Chosen, AtBlock, InBlock, AtStmt, PastHead, AtEnd, AtArm, Started, Wide, WholeRoom, Whole};
