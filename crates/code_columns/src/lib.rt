@@ -37,8 +37,9 @@ pub fn split_codes(
     start.fill(0);
     // By index: of what a zip of `iter_mut` writes a proof knows nothing behind the loop.
     for (k, word) in code_node.iter_mut().enumerate() {
-        set_start(kinds, spans, *word, start);
-        code_span[k] = spans[(*word / HALF) as usize];
-        *word %= HALF;
+        let code = *word;
+        set_start(kinds, spans, code, start);
+        *word = code % HALF;
+        code_span[k] = spans[(code / HALF) as usize];
     }
 }

@@ -34,8 +34,9 @@ pub fn split_names(
 {
     // By index: of what a zip of `iter_mut` writes a proof knows nothing behind the loop.
     for (k, word) in name_node.iter_mut().enumerate() {
-        name_span[k] = spans[(*word / NAME_ITEM % NAME_ITEM) as usize];
-        name_end[k] = *word / HALF;
-        *word = node_of_name(*word);
+        let name = *word;
+        *word = node_of_name(name);
+        name_span[k] = spans[(name / NAME_ITEM % NAME_ITEM) as usize];
+        name_end[k] = name / HALF;
     }
 }

@@ -17,8 +17,9 @@ fn split_edges(first: &mut [u64], second: &mut [u64])
 {
     // By index: of what a zip of `iter_mut` writes a proof knows nothing behind the loop.
     for (i, word) in first.iter_mut().enumerate() {
-        second[i] = *word / HALF;
-        *word %= HALF;
+        let edges = *word;
+        *word = edges % HALF;
+        second[i] = edges / HALF;
     }
 }
 

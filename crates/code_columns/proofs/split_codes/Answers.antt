@@ -17,8 +17,8 @@ set_start-requires c =
     let w = c.requires.by_index c.loop-k.k c.loop-k-test.true in
     rw (still c.loop-k.invariant.nodes) (record { node = omega (arith, c.loop-k.auto.start, w.node); kind = w.kind; span = w.span })
 
-pub bounds-spans-word : goal.bounds-spans-word
-bounds-spans-word c = rw (still c.loop-k.invariant.nodes) (c.requires.by_index c.loop-k.k c.loop-k-test.true).span
+pub bounds-spans-code : goal.bounds-spans-code
+bounds-spans-code c = rw (still c.loop-k.invariant.nodes) (c.requires.by_index c.loop-k.k c.loop-k-test.true).span
 
 pub loop-k-preserved : goal.loop-k-preserved
 loop-k-preserved c =
