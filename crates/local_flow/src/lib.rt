@@ -76,7 +76,7 @@ fn compute_in<const NAMES: usize>(
 }
 
 // The words of the findings of a sheet with its uses, in their order, and a mark figure for each local. The result is the number of findings.
-// Most sheets are small, and to clear facts for 1,024 names would take a tenth of all time.
+// Most sheets are small, and to clear facts for 1,024 names would take a twentieth of all time of a tiny one.
 pub fn compute(
     kinds: &[u64],
     graph: FlowGraph<'_>,
