@@ -11,7 +11,7 @@ use chart::{ChartColumns, WideChart};
 use flow::{Counts, Ran};
 use sheet_parts::Sheet;
 
-// The same by the columns that hold the sheet's chart.
+// What run answers, by the columns that hold the sheet's chart.
 fn read_answer(sheet: Sheet<'_>, offset: u32, chart: &ChartColumns, counts: Counts) -> Ran
     requires { (x : Columns) × Charted sheet.words.now counts (record { before = x; after = cells chart.now }) }
     ensures { result ≡ record { node = node_at (graph sheet.entry.words.now) offset; can_run = can_run (graph sheet.entry.words.now) (node_at (graph sheet.entry.words.now) offset) } }
