@@ -9,7 +9,9 @@ use Rattle.blocks.specs.Open.{open_at, Ender}
 use Rattle.flow.specs.declared.Counts.{Counts}
 use Rattle.block_settings.specs.declared.BlockSettings.{BlockSettings}
 use Rattle.if_builder.specs.declared.IfBuilder.{IfBuilder}
-use Rattle.cfg_steps.specs.Columns.{Place, Cols, graph_of, settings_of, Good, Grown, LabelsFit}
+use Rattle.std.specs.Borrow.{MutBor}
+use Rattle.cfg_steps.specs.declared.GraphBuilder.{GraphBuilder}
+use Rattle.cfg_steps.specs.Columns.{place, columns, Place, Cols, graph_of, settings_of, Good, Grown, LabelsFit}
 open exits use {End}
 
 -- what admission shows of the kinds alone
@@ -91,6 +93,13 @@ pub record Armed (ks ss : List ℕ) (join test : ℕ) (falls : Bool) (b : Place)
 -- the same between two states of an IF
 abbrev pub ArmBuilt : List ℕ → List ℕ → ℕ → IfBuilder → Place → Cols → IfBuilder → Place → Cols → Type 0
 ArmBuilt ks ss join s b x s' r y = Armed ks ss join s.test s.falls b x s'.test s'.falls r y
+
+-- P holds between what a builder's graph was and what it is
+abbrev pub Between : (Place → Cols → Place → Cols → Type 0) → MutBor GraphBuilder → MutBor GraphBuilder → Type 0
+Between P b r = P (place b.now) (columns b.now) (place r.now) (columns r.now)
+
+abbrev pub ArmBetween : List ℕ → List ℕ → ℕ → IfBuilder → MutBor GraphBuilder → IfBuilder → MutBor GraphBuilder → Type 0
+ArmBetween ks ss join s b s' r = ArmBuilt ks ss join s (place b.now) (columns b.now) s' (place r.now) (columns r.now)
 
 -- the arms that follow the item that ends a block, and the last end
 pub record Chosen (ks ss : List ℕ) (test join : ℕ) (falls : Bool) (b : Place) (x : Cols) (r : Place) (y : Cols) : Type 0 where

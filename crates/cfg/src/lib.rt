@@ -7,7 +7,7 @@ ghost use Rattle.std.specs.Prelude.{◌≡◌, true, false, ◌+◌, ◌≤◌, 
 ghost use Rattle.flow.specs.Sheet.{kind_of};
 ghost use Rattle.search.specs.Lent.{held, left};
 ghost use Rattle.cfg_steps.specs.Columns.{cols, cols_at, place, columns, Kept, Keeps};
-ghost use Rattle.cfg.specs.Steps.{Sane, ForSpans, Stepped, Opened, Finished, Scoped, Looped, Arm, ArmBuilt, Chosen, AtBlock, InBlock, AtStmt, PastHead, AtEnd, AtArm, Started, Wide, WholeRoom, Whole};
+ghost use Rattle.cfg.specs.Steps.{Sane, ForSpans, Stepped, Opened, Finished, Scoped, Looped, Arm, ArmBetween, Between, Chosen, AtBlock, InBlock, AtStmt, PastHead, AtEnd, AtArm, Started, Wide, WholeRoom, Whole};
 
 use block_settings::BlockSettings;
 use cfg_steps::{GraphBuilder, SheetBuilder};
@@ -30,7 +30,7 @@ fn past(at: usize, len: usize) -> usize
 fn block(b: &mut SheetBuilder<'_, '_>)
     requires { InBlock b.old.graph.now.kinds.now (place b.old.graph.now) }
     ensures kept { Keeps Kept b.old.graph b.new.graph }
-    ensures built { ForSpans b.old.graph.now.kinds.now (λ ks ss. Finished ks ss (place b.old.graph.now) (columns b.old.graph.now) (place b.new.graph.now) (columns b.new.graph.now)) }
+    ensures built { ForSpans b.old.graph.now.kinds.now (λ ks ss. Between (Finished ks ss) b.old.graph b.new.graph) }
 {
     while let Some(&word) = b.graph.kinds.get(b.graph.item) {
         if is_block_end(word) {
@@ -45,7 +45,7 @@ fn block(b: &mut SheetBuilder<'_, '_>)
 fn scoped_block(b: &mut SheetBuilder<'_, '_>, scope_end: u64)
     requires { AtBlock b.old.graph.now.kinds.now scope_end (place b.old.graph.now) }
     ensures kept { Keeps Kept b.old.graph b.new.graph }
-    ensures built { ForSpans b.old.graph.now.kinds.now (λ ks ss. Scoped ks ss scope_end (place b.old.graph.now) (columns b.old.graph.now) (place b.new.graph.now) (columns b.new.graph.now)) }
+    ensures built { ForSpans b.old.graph.now.kinds.now (λ ks ss. Between (Scoped ks ss scope_end) b.old.graph b.new.graph) }
 {
     let outer = b.graph.settings;
     b.graph.settings = outer.enter_scope(scope_end);
@@ -60,7 +60,7 @@ fn loop_body(b: &mut SheetBuilder<'_, '_>, scope_end: u64, targets: LoopTargets)
     requires at_block { AtBlock b.old.graph.now.kinds.now scope_end (place b.old.graph.now) }
     requires break_target_lt_nodes { (targets.break_target < b.old.graph.now.node_count) × (targets.continue_target < b.old.graph.now.node_count) }
     ensures kept { Keeps Kept b.old.graph b.new.graph }
-    ensures built { ForSpans b.old.graph.now.kinds.now (λ ks ss. Looped ks ss scope_end targets.break_target targets.continue_target (place b.old.graph.now) (columns b.old.graph.now) (place b.new.graph.now) (columns b.new.graph.now)) }
+    ensures built { ForSpans b.old.graph.now.kinds.now (λ ks ss. Between (Looped ks ss scope_end targets.break_target targets.continue_target) b.old.graph b.new.graph) }
 {
     let outer = b.graph.settings;
     b.graph.settings = outer.enter_loop(targets);
@@ -74,7 +74,7 @@ fn loop_body(b: &mut SheetBuilder<'_, '_>, scope_end: u64, targets: LoopTargets)
 fn while_loop(b: &mut SheetBuilder<'_, '_>, i: usize)
     requires { PastHead b.old.graph.now.kinds.now i 2 (place b.old.graph.now) }
     ensures kept { Keeps Kept b.old.graph b.new.graph }
-    ensures built { ForSpans b.old.graph.now.kinds.now (λ ks ss. Opened ks ss i (place b.old.graph.now) (columns b.old.graph.now) (place b.new.graph.now) (columns b.new.graph.now)) }
+    ensures built { ForSpans b.old.graph.now.kinds.now (λ ks ss. Between (Opened ks ss i) b.old.graph b.new.graph) }
 {
     let argument = b.graph.kinds[i] / ARGUMENT;
     let truth = literal_truth(argument % SCOPE_END);
@@ -94,7 +94,7 @@ fn while_loop(b: &mut SheetBuilder<'_, '_>, i: usize)
 fn repeat_loop(b: &mut SheetBuilder<'_, '_>, i: usize)
     requires { PastHead b.old.graph.now.kinds.now i 3 (place b.old.graph.now) }
     ensures kept { Keeps Kept b.old.graph b.new.graph }
-    ensures built { ForSpans b.old.graph.now.kinds.now (λ ks ss. Opened ks ss i (place b.old.graph.now) (columns b.old.graph.now) (place b.new.graph.now) (columns b.new.graph.now)) }
+    ensures built { ForSpans b.old.graph.now.kinds.now (λ ks ss. Between (Opened ks ss i) b.old.graph b.new.graph) }
 {
     let argument = b.graph.kinds[i] / ARGUMENT;
     let truth = literal_truth(argument % SCOPE_END);
@@ -111,7 +111,7 @@ fn repeat_loop(b: &mut SheetBuilder<'_, '_>, i: usize)
 fn for_loop(b: &mut SheetBuilder<'_, '_>, i: usize)
     requires { PastHead b.old.graph.now.kinds.now i 4 (place b.old.graph.now) }
     ensures kept { Keeps Kept b.old.graph b.new.graph }
-    ensures built { ForSpans b.old.graph.now.kinds.now (λ ks ss. Opened ks ss i (place b.old.graph.now) (columns b.old.graph.now) (place b.new.graph.now) (columns b.new.graph.now)) }
+    ensures built { ForSpans b.old.graph.now.kinds.now (λ ks ss. Between (Opened ks ss i) b.old.graph b.new.graph) }
 {
     let scope_end = b.graph.kinds[i] / ARGUMENT / SCOPE_END;
     let head = b.graph.node_count + 1;
@@ -130,7 +130,7 @@ fn for_loop(b: &mut SheetBuilder<'_, '_>, i: usize)
 fn if_stmt(b: &mut SheetBuilder<'_, '_>, i: usize)
     requires { PastHead b.old.graph.now.kinds.now i 5 (place b.old.graph.now) }
     ensures kept { Keeps Kept b.old.graph b.new.graph }
-    ensures built { ForSpans b.old.graph.now.kinds.now (λ ks ss. Opened ks ss i (place b.old.graph.now) (columns b.old.graph.now) (place b.new.graph.now) (columns b.new.graph.now)) }
+    ensures built { ForSpans b.old.graph.now.kinds.now (λ ks ss. Between (Opened ks ss i) b.old.graph b.new.graph) }
 {
     let scope_end = b.graph.kinds[i] / ARGUMENT / SCOPE_END;
     let test = b.graph.node_count;
@@ -159,7 +159,7 @@ fn arms(b: &mut SheetBuilder<'_, '_>, test: usize, join: usize)
     requires at_end { AtEnd b.old.graph.now.kinds.now (place b.old.graph.now) }
     requires test_lt_nodes { (test < b.old.graph.now.node_count) × (join < b.old.graph.now.node_count) }
     ensures kept { Keeps Kept b.old.graph b.new.graph }
-    ensures built { ForSpans b.old.graph.now.kinds.now (λ ks ss. Chosen ks ss test join true (place b.old.graph.now) (columns b.old.graph.now) (place b.new.graph.now) (columns b.new.graph.now)) }
+    ensures built { ForSpans b.old.graph.now.kinds.now (λ ks ss. Between (Chosen ks ss test join true) b.old.graph b.new.graph) }
 {
     let mut s = IfBuilder { test, falls: true };
     while arm_follows(b.graph.kinds, b.graph.item) {
@@ -175,7 +175,7 @@ fn arm(b: &mut SheetBuilder<'_, '_>, s: &mut IfBuilder, join: usize)
     requires at_arm { AtArm b.old.graph.now.kinds.now (place b.old.graph.now) }
     requires test_lt_nodes { (s.old.test < b.old.graph.now.node_count) × (join < b.old.graph.now.node_count) }
     ensures kept { Keeps Kept b.old.graph b.new.graph }
-    ensures built { (b.old.graph.now.item < b.new.graph.now.item) × ForSpans b.old.graph.now.kinds.now (λ ks ss. ArmBuilt ks ss join s.old (place b.old.graph.now) (columns b.old.graph.now) s.new (place b.new.graph.now) (columns b.new.graph.now)) }
+    ensures built { (b.old.graph.now.item < b.new.graph.now.item) × ForSpans b.old.graph.now.kinds.now (λ ks ss. ArmBetween ks ss join s.old b.old.graph s.new b.new.graph) }
 {
     let at = b.graph.item;
     let word = b.graph.kinds[at];
@@ -200,7 +200,7 @@ fn arm(b: &mut SheetBuilder<'_, '_>, s: &mut IfBuilder, join: usize)
 fn stmt(b: &mut SheetBuilder<'_, '_>)
     requires { AtStmt b.old.graph.now.kinds.now (place b.old.graph.now) }
     ensures kept { Keeps Kept b.old.graph b.new.graph }
-    ensures built { ForSpans b.old.graph.now.kinds.now (λ ks ss. Stepped ks ss (place b.old.graph.now) (columns b.old.graph.now) (place b.new.graph.now) (columns b.new.graph.now)) }
+    ensures built { ForSpans b.old.graph.now.kinds.now (λ ks ss. Between (Stepped ks ss) b.old.graph b.new.graph) }
 {
     let i = b.graph.item;
     let word = b.graph.kinds[i];

@@ -7,6 +7,7 @@ use Rattle.flow.specs.Sheet.{kind_of, argument_of, start_of, member}
 use Rattle.flow.specs.Kinds.{kinds}
 use Rattle.flow.specs.Graph.{exits, new_nodes, with_labels, stand_at, label_node, or_break, jump, connect, set_current, record_code, unless_true, unless_false, simple_stmt, Graph, Settings, Label, absent}
 use Rattle.kinds.specs.Starts.{has_start}
+use Rattle.blocks.specs.Open.{labels_at}
 use Rattle.cfg_edges.specs.Halves.{lo, hi, label_list}
 use Rattle.block_settings.specs.declared.BlockSettings.{BlockSettings}
 use Rattle.cfg_steps.specs.declared.GraphBuilder.{GraphBuilder}
@@ -213,6 +214,13 @@ pub record Entered (ks as' : List ℕ) (b : Place) (x : Cols) (r : Place) (y : C
 -- a call that leaves b as r enters the names as', if the columns are good
 abbrev pub Enters : List ℕ → List ℕ → GraphBuilder → GraphBuilder → Type 0
 Enters ks as' b r = Good (place b) (columns b) → Entered ks as' (place b) (columns b) (place r) (columns r)
+
+-- a call that leaves b as r enters the block at b's item, and has room for that
+abbrev pub EntersBlock : GraphBuilder → GraphBuilder → Type 0
+EntersBlock b r = (ss : List ℕ) → length ss ≡ length b.kinds.now → Enters b.kinds.now (labels_at b.kinds.now ss b.item) b r
+
+abbrev pub LabelsRoom : GraphBuilder → Type 0
+LabelsRoom b = (ss : List ℕ) → length ss ≡ length b.kinds.now → b.node_count + length (labels_at b.kinds.now ss b.item) ≤ 1600
 
 -- ---- statements of one item
 

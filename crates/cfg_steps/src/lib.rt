@@ -6,9 +6,8 @@ ghost use Rattle.std.specs.Prelude.{◌≡◌, true, false, cond, eqb, List, [],
 ghost use Rattle.std.proofs.Props.{props};
 ghost use Rattle.flow.specs.Sheet.{kind_of};
 ghost use Rattle.flow.specs.Graph.{new_node, advance_to, code, close_into, jump, record_code, declare, connect, set_current, enter_when, unless_true, label_node};
-ghost use Rattle.blocks.specs.Open.{labels_at};
 ghost use Rattle.cfg_edges.specs.Halves.{label_list};
-ghost use Rattle.cfg_steps.specs.Columns.{place, columns, cursor_node, settings_of, Good, Standing, Does, DoesCode, DoesSimple, Enters, StaysGood, LabelsFit, Keeps, EdgesOnly, CodesOnly, NamesOnly, EdgesAndCodes, EdgesAndLabels, LabelsKept, labelled, gone, repeat_end, simple_made};
+ghost use Rattle.cfg_steps.specs.Columns.{place, columns, cursor_node, settings_of, Good, Standing, Does, DoesCode, DoesSimple, Enters, EntersBlock, LabelsRoom, StaysGood, LabelsFit, Keeps, EdgesOnly, CodesOnly, NamesOnly, EdgesAndCodes, EdgesAndLabels, LabelsKept, labelled, gone, repeat_end, simple_made};
 
 use block_settings::BlockSettings;
 use blocks::block_labels;
@@ -202,9 +201,9 @@ impl SheetBuilder<'_, '_> {
     // Each named label standing directly in the block that starts at the builder's item gets a node, in order.
     pub fn enter_block(&mut self)
         requires item_in_bounds { (self.old.graph.now.item ≤ length self.old.graph.now.kinds.now) × (length self.old.graph.now.kinds.now ≤ 1024) × LabelsFit self.old.graph.now.kinds.now }
-        requires room { (ss : List ℕ) → length ss ≡ length self.old.graph.now.kinds.now → self.old.graph.now.node_count + length (labels_at self.old.graph.now.kinds.now ss self.old.graph.now.item) ≤ 1600 }
+        requires room { LabelsRoom self.old.graph.now }
         ensures kept { Keeps EdgesAndLabels self.old.graph self.new.graph }
-        ensures entered { (ss : List ℕ) → length ss ≡ length self.old.graph.now.kinds.now → Enters self.old.graph.now.kinds.now (labels_at self.old.graph.now.kinds.now ss self.old.graph.now.item) self.old.graph.now self.new.graph.now }
+        ensures entered { EntersBlock self.old.graph.now self.new.graph.now }
     {
         for name in block_labels(self.graph.kinds, self.graph.item) {
             self.graph.new_label(name);
@@ -243,7 +242,8 @@ impl SheetBuilder<'_, '_> {
 
     // A statement of the one item i, whose word is w.
     pub fn simple_stmt(&mut self, w: u64, i: usize)
-        requires w_bound { (self.old.graph.now.node_count + simple_made (kind_of w) ≤ 1600) × (self.old.graph.now.code_count < self.old.graph.now.item) × (self.old.graph.now.name_count < self.old.graph.now.item) × (i < self.old.graph.now.item) }
+        requires w_bound { self.old.graph.now.node_count + simple_made (kind_of w) ≤ 1600 }
+        requires items_bound { (self.old.graph.now.code_count < self.old.graph.now.item) × (self.old.graph.now.name_count < self.old.graph.now.item) × (i < self.old.graph.now.item) }
         requires no_close { (kind_of w ≡ 8 → ⊥) × (kind_of w ≡ 9 → ⊥) }
         ensures kept { Keeps LabelsKept self.old.graph self.new.graph }
         ensures built { (ks : List ℕ) → DoesSimple ks i w self.old.graph.now self.new.graph.now }

@@ -346,7 +346,7 @@ pub stmt-simple_stmt-requires : goal.stmt-simple_stmt-requires
 stmt-simple_stmt-requires t c =
     let k : OpensNone (get_or c.args.b.now.graph.now.kinds.now c.args.b.now.graph.now.item 0) = elim c.in_default.branch [ stmt-in_default-via-in-Some+in_default w ↦ (search rules, search rules, search rules, search rules, search rules) | stmt-in_default-via-in_default w ↦ (search rules, search rules, search rules, search rules, search rules) ] in
     let s = simple_kind _ k.0 k.1 k.2 k.3 k.4 c.requires.2 in
-    record { w_bound = (simple_room c.args.b.now.graph.now.kinds.now c.args.b.now.graph.now.kinds.now refl _ c.requires.1 (place c.args.b.now.graph.now) c.requires.3 c.args.b.now.good.nodes s, omega (arith, c.args.b.now.good.codes), omega (arith, c.args.b.now.good.names), omega arith); no_close = (s 8 (lit≤ tt) (lit≤ tt), s 9 (lit≤ tt) (lit≤ tt)) }
+    record { w_bound = simple_room c.args.b.now.graph.now.kinds.now c.args.b.now.graph.now.kinds.now refl _ c.requires.1 (place c.args.b.now.graph.now) c.requires.3 c.args.b.now.good.nodes s; items_bound = (omega (arith, c.args.b.now.good.codes), omega (arith, c.args.b.now.good.names), omega arith); no_close = (s 8 (lit≤ tt) (lit≤ tt), s 9 (lit≤ tt) (lit≤ tt)) }
 
 pub stmt-returns-in_default-clause-built : goal.stmt-returns-in_default-clause-built
 stmt-returns-in_default-clause-built t c =
