@@ -1,18 +1,16 @@
 -- A scope's note, by that of its parent.
 -- Assumes nothing.
 use Rattle.std.specs.Prelude.{Option, Some, None}
-use mathlib.Core.Path.{◌≡◌, sym, ap, ◌∙◌, subst}
+use mathlib.Core.Path.{◌≡◌, sym, ap, ◌∙◌}
 use mathlib.Core.Bool.{cond}
 use mathlib.Core.List.{List}
 use Prim.Native.Nat.{ℕ, zero, suc, ◌+◌, ◌*◌, ◌<◌}
 use native.Mathlib.Omega.{arith}
-use native.Mathlib.Decide.{ℕ_discrete}
-use lib.ListN.{length, get_or, set}
-use lib.Seq.{get_or-set_same, get_or-set_other}
+use lib.ListN.{get_or}
 use lib.Dec.{eqb}
 use Rattle.flow.specs.Scopes.{FUNCTION, Lower}
 use Rattle.crossing.specs.declared.Note.{Note}
-use Rattle.crossing.specs.Tables.{function_over, here, up, NoteOf, no_note, Noted}
+use Rattle.crossing.specs.Tables.{function_over, here, up, NoteOf}
 use Rattle.crossing.proofs.Tables.{over_trans}
 
 module _ (kinds parents : List ℕ) (s : ℕ) where
@@ -44,10 +42,3 @@ module _ (kinds parents : List ℕ) (s : ℕ) where
     -- past the parent's jump and the one behind it
     pub note_far : {f : Option ℕ} {w v : Note} → NoteOf kinds parents p w → NoteOf kinds parents w.jump v → w.passed ≡ v.passed → f ≡ nearest w.function → NoteOf kinds parents s (record { function = f; jump = v.jump; passed = 2 * w.passed + 1 })
     note_far m r q g = record { function = up_function m g; jump = up e (over_trans parents low m.jump r.jump); passed = omega (arith, low s, m.passed, r.passed) }
-
--- one more scope is noted
-pub noted_one : (kinds parents : List ℕ) (notes : List Note) (s : ℕ) (w : Note) → s < length notes → Noted kinds parents s notes → NoteOf kinds parents s w → Noted kinds parents (s + 1) (set notes s w)
-noted_one kinds parents notes s w h n m t l = elim (ℕ_discrete t s) [
-  | yes e ↦ rw (e, get_or-set_same notes s w no_note h) m
-  | no q ↦ subst (NoteOf kinds parents t) (sym (get_or-set_other notes s t w no_note q)) (n t (omega arith))
-]
