@@ -5,26 +5,17 @@ use mathlib.Core.Path.{◌≡◌, sym, ap, ◌∙◌}
 use mathlib.Core.List.{List, ◌++◌, map-append}
 use native.Mathlib.Omega.{arith}
 use lib.ListN.{length}
-use Rattle.search.proofs.Stamps.{unmarked_on}
 use Rattle.flow.specs.Locals.{Finding, locals}
 use Rattle.flow.specs.Findings.{uses_of, unassigned_of, overwritten_of, of_each, findings}
 use Rattle.flow.specs.Judge.{words_of}
 use Rattle.use_words.specs.declared.PlacedUse.{PlacedUse}
 use Rattle.live_steps.specs.Walk.{nodes_of}
-use Rattle.predecessors.specs.declared.Links.{Links}
 use Rattle.locals.specs.declared.PassTables.{PassTables}
 use Rattle.locals.specs.declared.FindingList.{FindingList}
 use Rattle.locals.specs.Columns.{Pass, PassOf, uses_by_node}
 use Rattle.locals.specs.Entries.{AddsTo}
 use Rattle.locals.proofs.Entries.{added_more}
-use Rattle.overwritten.specs.Pass.{Lent}
 use Rattle.both_lists.specs.Passes.{Pair}
-
--- a stack may change, if it stays as long
-pub lent_on : {n : ℕ} {chain : List Links} {used reads writes stack stack' : List ℕ} → Lent n chain used reads writes stack → length stack' ≡ length stack → Lent n chain used reads writes stack'
-lent_on l e =
-    let u = l.unmarked in
-    record { blank = l.blank; unmarked = record { used_new = unmarked_on u.used_new e; reads_new = unmarked_on u.reads_new e; writes_new = unmarked_on u.writes_new e } }
 
 module _ {S U : List ℕ} {p : PassTables} {by_node : List PlacedUse} (q : Pair S U p by_node) where
   pub in_use_order : PassOf (uses_of S U) p S U

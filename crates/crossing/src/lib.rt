@@ -89,6 +89,7 @@ impl ScopeChains<'_> {
         requires { length self.kinds.now ≤ length notes.old }
         ensures { Noted self.entry.kinds.now self.entry.parents.now (length self.entry.kinds.now) notes.new }
     {
+        // By index: a note is made of those before it.
         for s in 0..self.kinds.len() {
             notes[s] = self.note_of(notes, s);
         }

@@ -18,7 +18,7 @@ use Rattle.flow.proofs.Members.{in_append, in_member}
 use Rattle.std.specs.Prelude.{Some, None}
 use Rattle.search.specs.Running.{NumberSearch as Search}
 use Rattle.search.specs.Running.{SameColumns}
-use Rattle.search.proofs.Running.{same_none, same_on}
+use Rattle.search.proofs.Running.{same_on}
 use Rattle.search.specs.Stamps.{flag_of, flags_of, Stamped}
 use Rattle.search.proofs.Stamps.{flag_at, flag_on, set_bounded, flag_test}
 use Rattle.use_words.specs.declared.PlacedUse.{PlacedUse}
@@ -117,9 +117,6 @@ pub record Reading (us : List PlacedUse) (i : ℕ) (e s : Search) : Type 0 where
   pub stamp : s.stamp ≡ e.stamp
   pub bounded : Stamped e.stamp e.marks.now → Stamped e.stamp s.marks.now
   pub left : (n : ℕ) → AllPlaced n us → first_empty_read (flags_of e.stamp n e.marks.now) [] (uses_in us) ≡ rest e.stamp n s.marks.now us i
-
-pub reading_none : (us : List PlacedUse) (e : Search) → Reading us 0 e e
-reading_none us e = record { same = same_none e; stamp = refl; bounded = λ f. f; left = λ n p. refl }
 
 module _ {us : List PlacedUse} {i : ℕ} {e s : Search} (r : Reading us i e s) where
   module _ (h : i < length us) (placed : AllPlaced (length e.marks.now) us) where

@@ -6,17 +6,15 @@ ghost use Rattle.finding_spans.specs.Spans.{span_of, Names, Known};
 
 use words::finding::{LOCAL, USE};
 
-// The span of the finding with this word.
+// The span of the finding with this word, whose upper half holds a use's number plus 1, or 0 for the initial value.
 #[tactic(auto, using(std::proofs::lemmas::Bool::Decides::nat_tests))]
 fn span_of(use_span: &[u64], name_span: &[u64], word: u64) -> u64
     requires { Names (length use_span.now) (length name_span.now) word }
     ensures { result ≡ span_of use_span.now name_span.now word }
 {
-    let use_code = (word / USE) as usize;
-    if use_code == 0 {
-        name_span[(word % USE / LOCAL) as usize]
-    } else {
-        use_span[use_code - 1]
+    match (word / USE).checked_sub(1) {
+        None => name_span[(word % USE / LOCAL) as usize],
+        Some(number) => use_span[number as usize],
     }
 }
 

@@ -26,7 +26,8 @@ pub struct FoundColumns<'a> {
 }
 
 impl FoundColumns<'_> {
-    // Refusal 1: whether one of them is too short for the findings of any pair, where `chart` says it of a chart's columns.
+    // Refusal 1: whether one of them is too short for the findings of any pair, where `chart` says it of a chart's columns: no switch, it is
+    // one of those that are joined.
     pub fn is_short(&self, chart: bool) -> bool
         ensures { result ≡ found_short (found_cells self.now) chart }
     {

@@ -148,7 +148,7 @@ pub fn literal_truth(condition: u64) -> Option<bool>
     None
 }
 
-// Whether a condition may fail, and whether it may hold.
+// Whether a condition may fail, and whether it may hold. One comparison each: a function of both would take the value that is compared with.
 pub fn may_fail(truth: Option<bool>) -> bool
     ensures { result ≡ may_fail truth }
 {

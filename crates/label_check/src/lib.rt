@@ -46,6 +46,7 @@ pub fn labels_fine(kinds: &[u64]) -> bool
     if !sight.enter(kinds, end, 0) {
         return false;
     }
+    // By index: what opens a block looks for its labels from the next item on.
     for j in 0..kinds.len() {
         if !step(&mut sight, kinds, end, j) {
             return false;

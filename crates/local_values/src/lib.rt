@@ -36,7 +36,7 @@ impl<'g> JudgedLocal<'g> {
     ghost use Rattle.locals.specs.Entries.{Room, AddsTo};
     ghost use Rattle.local_values.specs.Words.{initial_words, write_words, judged_words};
 
-    // The word of a finding: of the initial value, with 0, or of the write with this use number + 1.
+    // The word of a finding: of the initial value, with 0, or of the write with this use number + 1, as the lent word has it.
     fn word(&self, write: u64) -> u64
         requires { write ≤ 65536 }
         ensures { result ≡ finding_word 1 self.now.number write }

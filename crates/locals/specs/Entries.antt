@@ -1,7 +1,6 @@
 -- The words of findings in the column that holds them.
 -- Assumes nothing: these are definitions.
 use Rattle.std.specs.Prelude.{ℕ, ◌+◌, ◌≤◌, ◌≡◌, List, ◌++◌, length, take, drop}
-use Rattle.search.specs.Lent.{Column, held, left}
 use Rattle.locals.specs.declared.FindingList.{FindingList}
 
 -- the column has room for k words after the first `count`
@@ -16,10 +15,6 @@ Put ws k old new = new ≡ take k old ++ (ws ++ drop (k + length ws) old)
 pub record Added (ws : List ℕ) (count : ℕ) (old : List ℕ) (r : ℕ) (new : List ℕ) : Type 0 where
   pub counted : r ≡ count + length ws
   pub entered : Put ws count old new
-
--- a call that is lent the column adds them
-abbrev pub Adds : List ℕ → ℕ → Column → ℕ → Type 0
-Adds ws count column r = Added ws count (held column) r (left column)
 
 -- a call adds them to a list, which keeps its column
 abbrev pub AddsTo : List ℕ → FindingList → FindingList → Type 0

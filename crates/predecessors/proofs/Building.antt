@@ -1,7 +1,7 @@
 -- How the chains are built: what an edge put in front of a chain does to the codes of each node, and that one node's two edges more keep the chains.
 -- Assumes nothing.
 use borrow.Author.Tests.{ne_eqb}
-use Rattle.std.proofs.Common.{[], ◌∷◌, drop, length-drop, ap₂, ◌≡◌, ℕ, suc, ◌+◌, ◌≤◌, ◌<◌, List, cond, length, get_or, refl, sym, ap, ◌∙◌, subst, arith, add-one}
+use Rattle.std.proofs.Common.{[], ◌∷◌, drop, ap₂, ◌≡◌, ℕ, suc, ◌+◌, ◌<◌, List, cond, length, get_or, refl, sym, ap, ◌∙◌, subst, arith, add-one}
 use Rattle.std.proofs.Math.ListN.{set, length-set, drop_of_length-le}
 use Rattle.std.proofs.Math.Seq.{get_or-set_same, get_or-set_other, set_out, drop-cons}
 use native.Mathlib.Decide.{ℕ_discrete, dec_lt}
@@ -126,6 +126,3 @@ drop_next k l x rest e = elim (dec_lt k (length l)) [
   | yes h ↦ let d : drop k l ≡ get_or l k 0 ∷ drop (k + 1) l = rw (add-one, drop-cons l k 0 h) in (h, cc, cc)
   | no q ↦ absurd (let d : drop k l ≡ [] = drop_of_length-le l (omega arith) in cc)
 ]
-
-pub drop_end : (k : ℕ) (l : List ℕ) → drop k l ≡ [] → length l ≤ k
-drop_end k l e = omega (arith, length-drop k l, ap length e)

@@ -49,6 +49,7 @@ pub fn reach(first: &[u64], second: &[u64], reachable: &mut [u64], stack: &mut [
         stamp: REACHED,
     };
     search.insert(ENTRY);
+    // A worklist by `pop`: each turn pushes on the stack that the next one takes from.
     while let Some(u) = search.pop() {
         expand(first, second, &mut search, u);
     }

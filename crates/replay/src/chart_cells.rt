@@ -16,7 +16,8 @@ pub fn counts_are(counts: Counts, stored: Stored) -> bool
         && counts.names as u64 == stored.names
 }
 
-// Whether an answer tells the stored number, and where that is 0 the stored counts.
+// Whether an answer tells the stored number, and where that is 0 the stored counts. One function for each type of answer: what they compare
+// behind the number is all of them.
 fn answer_is(answer: Result<Counts, Refusal>, stored: Stored) -> bool
     ensures { result ≡ true → chart_told answer ≡ stored_told stored.number (stored.nodes ∷ stored.codes ∷ stored.names ∷ []) }
 {

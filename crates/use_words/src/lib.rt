@@ -19,7 +19,7 @@ pub enum UseKind {
 }
 
 impl UseKind {
-    // The kind in a word of the use sheet.
+    // The kind in a word of the use sheet. No From: the word holds a local and a crossing besides.
     pub fn of(word: u64) -> UseKind
         ensures { kind_number result ≡ use_kind_of word }
     {
