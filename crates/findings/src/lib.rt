@@ -14,6 +14,7 @@ use flow::Counts;
 use live_steps::{Edges, FlowGraph};
 use locals::DeclarationTable;
 use sheet_parts::SheetPair;
+use sized_flow::ChartedPair;
 use tables::{CodeColumns, UseColumns};
 
 // The columns of findings, each with its word and span, and of mark figures, one a local. That they are long enough stays a clause, `Long`:
@@ -81,9 +82,9 @@ fn write_first_spans(use_spans: &[u64], name_span: &[u64], word: &[u64], span: &
 }
 
 // The findings of a pair whose sheet's graph stands in the columns, and a mark figure for each local. The result is the number of findings.
-pub fn find_all(
-    pair: SheetPair<'_>,
-    chart: &ChartColumns,
+pub fn find_all<'a>(
+    pair: SheetPair<'a>,
+    chart: &'a ChartColumns,
     found: &mut FoundColumns,
     counts: Counts,
 ) -> usize
@@ -112,7 +113,13 @@ pub fn find_all(
         words: pair.uses.words,
         spans: pair.uses.spans,
     };
-    let listed = local_flow::compute(kinds, graph, codes, names, uses, found.word, found.mark);
+    let charted = ChartedPair {
+        graph,
+        names,
+        codes,
+        uses,
+    };
+    let listed = local_flow::compute(kinds, charted, found.word, found.mark);
     let word = &mut *found.word;
     write_first_spans(pair.uses.spans, chart.name_span, word, found.span, listed);
     listed

@@ -7,12 +7,10 @@ ghost use Rattle.sized_flow.specs.Given.{AnyGiven, FindsGiven};
 ghost use Rattle.local_flow.specs.Sheets.{AnySheets, Finds};
 
 use facts::{NameFacts, any_tracked};
-use live_steps::FlowGraph;
-use locals::{DeclarationTable, FindingList};
+use locals::FindingList;
 use name_facts::find_names;
-use sized_flow::compute as compute_sized;
+use sized_flow::{ChartedPair, compute as compute_sized};
 use small_sheets::{SMALL, is_small};
-use tables::{CodeColumns, UseColumns};
 use words::limit::{ITEMS, NODES};
 
 const SMALL_STARTS: usize = SMALL + 1;
@@ -21,25 +19,24 @@ const STARTS: usize = NODES + 1;
 
 // The findings of a pair with the facts of its names, in as much memory as it needs.
 fn find(
-    graph: FlowGraph<'_>,
-    names: DeclarationTable<'_>,
-    codes: CodeColumns<'_>,
-    sheet: UseColumns<'_>,
+    pair: ChartedPair<'_>,
     facts: &mut [NameFacts],
     findings: &mut FindingList<'_>,
     mark: &mut [u64],
 )
-    requires any_given { AnyGiven graph names codes sheet facts.old }
+    requires any_given { AnyGiven pair.graph pair.names pair.codes pair.uses facts.old }
     requires room { Room 3072 findings.old.count findings.old.words.now × (length facts.old ≤ length mark.old) }
     ensures same { findings.new.words.ghost_name ≡ findings.old.words.ghost_name }
-    ensures finds { FindsGiven graph.entry names.entry codes.entry sheet.entry facts.old findings.old findings.new mark.old mark.new }
+    ensures finds { FindsGiven pair.entry.graph pair.entry.names pair.entry.codes pair.entry.uses facts.old findings.old findings.new mark.old mark.new }
 {
-    if is_small(graph.edges.first.len(), facts.len(), sheet.words.len()) {
-        compute_sized::<SMALL, SMALL, SMALL_STARTS>(
-            graph, names, codes, sheet, facts, findings, mark,
-        );
+    if is_small(
+        pair.graph.edges.first.len(),
+        facts.len(),
+        pair.uses.words.len(),
+    ) {
+        compute_sized::<SMALL, SMALL, SMALL_STARTS>(pair, facts, findings, mark);
     } else {
-        compute_sized::<ITEMS, NODES, STARTS>(graph, names, codes, sheet, facts, findings, mark);
+        compute_sized::<ITEMS, NODES, STARTS>(pair, facts, findings, mark);
     }
 }
 
@@ -47,17 +44,14 @@ fn find(
 // tables: by them it is told whether any table is needed, and how much memory they take.
 fn compute_in<const NAMES: usize>(
     kinds: &[u64],
-    graph: FlowGraph<'_>,
-    codes: CodeColumns<'_>,
-    names: DeclarationTable<'_>,
-    sheet: UseColumns<'_>,
+    pair: ChartedPair<'_>,
     finding_word: &mut [u64],
     mark: &mut [u64],
 ) -> usize
-    requires any_sheets { AnySheets kinds.now graph codes names sheet }
+    requires any_sheets { AnySheets kinds.now pair.graph pair.codes pair.names pair.uses }
     requires size { (length kinds.now ≤ NAMES) × (NAMES ≤ 1024) }
     requires room { Room 3072 0 finding_word.old × (1024 ≤ length mark.old) }
-    ensures { Finds kinds.now graph.entry codes.entry names.entry sheet.entry finding_word.old finding_word.new mark.old mark.new result }
+    ensures { Finds kinds.now pair.entry.graph pair.entry.codes pair.entry.names pair.entry.uses finding_word.old finding_word.new mark.old mark.new result }
 {
     let mut facts = [NameFacts::default(); NAMES];
     let count = find_names(kinds, &mut facts);
@@ -71,7 +65,7 @@ fn compute_in<const NAMES: usize>(
         words: finding_word,
         count: 0,
     };
-    find(graph, names, codes, sheet, facts, &mut findings, mark);
+    find(pair, facts, &mut findings, mark);
     findings.count
 }
 
@@ -79,20 +73,17 @@ fn compute_in<const NAMES: usize>(
 // Most sheets are small, and to clear facts for 1,024 names would take a twentieth of all time of a tiny one.
 pub fn compute(
     kinds: &[u64],
-    graph: FlowGraph<'_>,
-    codes: CodeColumns<'_>,
-    names: DeclarationTable<'_>,
-    sheet: UseColumns<'_>,
+    pair: ChartedPair<'_>,
     finding_word: &mut [u64],
     mark: &mut [u64],
 ) -> usize
-    requires any_sheets { AnySheets kinds.now graph codes names sheet }
+    requires any_sheets { AnySheets kinds.now pair.graph pair.codes pair.names pair.uses }
     requires room { Room 3072 0 finding_word.old × (1024 ≤ length mark.old) }
-    ensures { Finds kinds.now graph.entry codes.entry names.entry sheet.entry finding_word.old finding_word.new mark.old mark.new result }
+    ensures { Finds kinds.now pair.entry.graph pair.entry.codes pair.entry.names pair.entry.uses finding_word.old finding_word.new mark.old mark.new result }
 {
     if kinds.len() <= SMALL {
-        compute_in::<SMALL>(kinds, graph, codes, names, sheet, finding_word, mark)
+        compute_in::<SMALL>(kinds, pair, finding_word, mark)
     } else {
-        compute_in::<ITEMS>(kinds, graph, codes, names, sheet, finding_word, mark)
+        compute_in::<ITEMS>(kinds, pair, finding_word, mark)
     }
 }

@@ -15,6 +15,15 @@ use predecessors::UNLINKED;
 use tables::{CodeColumns, PairTables, UseColumns, make_tables};
 use use_words::{NO_USE, PlacedUse};
 
+// A pair as the search for findings takes it: the graph, the names and the codes of the sheet's chart, and the uses.
+#[derive(Clone, Copy)]
+pub struct ChartedPair<'a> {
+    pub graph: FlowGraph<'a>,
+    pub names: DeclarationTable<'a>,
+    pub codes: CodeColumns<'a>,
+    pub uses: UseColumns<'a>,
+}
+
 // The findings of a pair by its tables, with memory for walks over at most NODES nodes.
 fn find_by_tables<const NODES: usize>(
     pass: &PassTables<'_>,
@@ -47,18 +56,15 @@ fn find_by_tables<const NODES: usize>(
 // The findings of a pair of sheets with at most USES uses and NODES nodes and names; STARTS is NODES + 1 or more. Most function bodies are
 // small, and to clear what a large one needs would take longer than all else.
 pub fn compute<const USES: usize, const NODES: usize, const STARTS: usize>(
-    graph: FlowGraph<'_>,
-    names: DeclarationTable<'_>,
-    codes: CodeColumns<'_>,
-    sheet: UseColumns<'_>,
+    pair: ChartedPair<'_>,
     facts: &mut [NameFacts],
     findings: &mut FindingList<'_>,
     mark: &mut [u64],
 )
-    requires any_given { AnyGiven graph names codes sheet facts.old }
-    requires sizes { (length sheet.words.now ≤ USES) × (nodes_of graph ≤ NODES) × (length facts.old ≤ NODES) × (NODES < STARTS) × (USES ≤ 1024) × (STARTS ≤ 1601) }
+    requires any_given { AnyGiven pair.graph pair.names pair.codes pair.uses facts.old }
+    requires sizes { (length pair.uses.words.now ≤ USES) × (nodes_of pair.graph ≤ NODES) × (length facts.old ≤ NODES) × (NODES < STARTS) × (USES ≤ 1024) × (STARTS ≤ 1601) }
     requires room { Room 3072 findings.old.count findings.old.words.now × (length facts.old ≤ length mark.old) }
-    ensures { FindsGiven graph.entry names.entry codes.entry sheet.entry facts.old findings.old findings.new mark.old mark.new }
+    ensures { FindsGiven pair.entry.graph pair.entry.names pair.entry.codes pair.entry.uses facts.old findings.old findings.new mark.old mark.new }
 {
     let mut uses = [NO_USE; USES];
     let mut starts = [0u16; STARTS];
@@ -70,9 +76,9 @@ pub fn compute<const USES: usize, const NODES: usize, const STARTS: usize>(
         by_node: &mut by_node,
     };
     make_tables(
-        codes,
-        sheet,
-        graph.edges.first.len(),
+        pair.codes,
+        pair.uses,
+        pair.graph.edges.first.len(),
         facts,
         &mut uses,
         &mut tables,
@@ -83,8 +89,8 @@ pub fn compute<const USES: usize, const NODES: usize, const STARTS: usize>(
         by_node,
     } = tables;
     let pass = PassTables {
-        graph,
-        names,
+        graph: pair.graph,
+        names: pair.names,
         facts,
         uses: UseTable {
             starts: &*starts,
