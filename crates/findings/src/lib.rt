@@ -94,30 +94,26 @@ pub fn find_all<'a>(
     ensures same { SameFound found.old found.new }
 {
     let kinds = pair.sheet.items().words;
-    let graph = FlowGraph {
-        edges: Edges {
-            first: &chart.first[..counts.nodes],
-            second: &chart.second[..counts.nodes],
-        },
-        start: &chart.start[..counts.nodes],
-    };
-    let codes = CodeColumns {
-        spans: &chart.code_span[..counts.codes],
-        nodes: &chart.code_node[..counts.codes],
-    };
-    let names = DeclarationTable {
-        node: &chart.name_node[..],
-        scope_end: &chart.name_end[..],
-    };
-    let uses = UseColumns {
-        words: pair.uses.words,
-        spans: pair.uses.spans,
-    };
     let charted = ChartedPair {
-        graph,
-        names,
-        codes,
-        uses,
+        graph: FlowGraph {
+            edges: Edges {
+                first: &chart.first[..counts.nodes],
+                second: &chart.second[..counts.nodes],
+            },
+            start: &chart.start[..counts.nodes],
+        },
+        names: DeclarationTable {
+            node: &chart.name_node[..],
+            scope_end: &chart.name_end[..],
+        },
+        codes: CodeColumns {
+            spans: &chart.code_span[..counts.codes],
+            nodes: &chart.code_node[..counts.codes],
+        },
+        uses: UseColumns {
+            words: pair.uses.words,
+            spans: pair.uses.spans,
+        },
     };
     let listed = local_flow::compute(kinds, charted, found.word, found.mark);
     let word = &mut *found.word;
