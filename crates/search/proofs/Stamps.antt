@@ -121,6 +121,11 @@ pub set_bounded : (stamp : ℕ) (m : List ℕ) (v : ℕ) → v < length m → St
 set_bounded stamp m v h b x =
     elim (ℕ_discrete x v) [ yes p ↦ rw p (omega (arith, get_or-set_same m v stamp 0 h)) | no q ↦ omega (arith, get_or-set_other m v x stamp 0 q, b x) ]
 
+-- what is marked is not pushed again
+pub stamp_marked : (stamp v : ℕ) (s : State) → get_or s.marks v 0 ≡ stamp → s ≡ stamp_push stamp v s
+unfolding stamp_push
+stamp_marked stamp v s e = rw (eq-eqb _ _ e)
+
 module _ (stamp n : ℕ) where
   module _ (v : ℕ) (s : State) (h : v < n) (l : n ≤ length s.marks) where
     stamped_law : (b : Bool) → eqb (get_or s.marks v 0) stamp ≡ b → (flagged stamp n (stamped stamp b v s) ≡ push v (flagged stamp n s)) × Stamping stamp s (stamped stamp b v s)
