@@ -20,7 +20,7 @@ type CountedSheet<'a> = CountedWords<'a, SHEET_HEAD>;
 type CountedUses<'a> = CountedWords<'a, USE_HEAD>;
 
 // 1 and 2: the sheet, where no lent column is too short and it is counted right. `short` is what the call measured, and stays a bool: it
-// tells of lent columns, which this crate does not know.
+// is an argument of the definition `sheet_verdict`, whose refusal 1 it is, and tells of lent columns, which this crate does not know.
 #[tactic(auto, unfolding(flow::specs::Refusals::first_applying))]
 fn counted_sheet<'a>(short: bool, sheet: &'a [u64]) -> Result<CountedSheet<'a>, Refusal>
     ensures verdict { verdict_of result ≡ first_applying ((Refusal.BenchTooSmall, short) ∷ (Refusal.Miscount, miscount 2 sheet.now) ∷ []) }

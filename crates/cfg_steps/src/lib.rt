@@ -19,7 +19,7 @@ use words::{ARGUMENT, HALF, NAME_ITEM, NAME_WITHOUT_NODE, NO_SUCCESSORS, exit};
 const NAME_NODES: usize = NAME_ITEM as usize;
 
 // A graph that is being built in lent columns: the words so far, the place in the sheet, and what holds there.
-// A column and its count stand apart: the borrow checker takes no struct of both as a field here.
+// A column and its count stand apart. Tried as a struct of both: the borrow checker takes none as a field here.
 #[derive(Drop)]
 pub struct GraphBuilder<'a> {
     // The kind words of the sheet.
@@ -91,7 +91,7 @@ impl GraphBuilder<'_> {
         self.cursor = None;
     }
 
-    // An edge where it is wanted.
+    // An edge where it is wanted. A bool as in the definition, whose `cond` it is.
     fn connect_if(&mut self, from: usize, to: usize, wanted: bool)
         requires standing { Standing (place self.old) self.old.edges.now }
         requires from_lt_nodes { (from < self.old.node_count) × (to < self.old.node_count) }
@@ -118,7 +118,8 @@ impl GraphBuilder<'_> {
         );
     }
 
-    // A new node for the code of item i, which becomes current.
+    // A new node for the code of item i, which becomes current. It pushes by itself: one law says all three steps, where the methods would be
+    // three that follow each other.
     pub fn code(&mut self, i: usize)
         requires standing { Standing (place self.old) self.old.edges.now }
         requires nodes_in_bounds { (self.old.node_count < length self.old.edges.now) × (self.old.node_count < 1600) }

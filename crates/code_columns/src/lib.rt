@@ -35,7 +35,7 @@ pub fn split_codes(
     ensures start_after { start.new ≡ painted kinds.now spans.now code_node.old (replicate (length start.old) 0) }
 {
     start.fill(0);
-    // By index: of what a zip of `iter_mut` writes a proof knows nothing behind the loop.
+    // By index. Tried with a zip of `iter_mut`: a proof knows nothing of the columns behind the loop.
     for (k, word) in code_node.iter_mut().enumerate() {
         let code = *word;
         set_start(kinds, spans, code, start);

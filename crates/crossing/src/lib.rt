@@ -163,6 +163,7 @@ pub fn replace_crossings(scopes: &[u64], use_words: &[u64], words: &mut [u64])
         kinds: parts.kinds,
         parents: parts.parents,
     };
+    // No heap: fixed memory for the most scopes.
     let mut notes = [Note::default(); SCOPES];
     chains.note_all(&mut notes);
     let (names, uses) = parts
@@ -173,6 +174,7 @@ pub fn replace_crossings(scopes: &[u64], use_words: &[u64], words: &mut [u64])
         notes: &notes,
         names,
     };
+    // Words by index: of a column that a zip of `iter_mut` writes a proof knows nothing behind the loop.
     for (u, (&word, &scope)) in use_words.iter().zip(uses).enumerate() {
         words[u] = noted.crossed_word(word, scope as usize);
     }

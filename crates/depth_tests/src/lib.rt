@@ -11,14 +11,14 @@ use sheet_parts::Items;
 use words::limit::DEPTH;
 
 // What an item adds to the openers,
-fn opener(word: u64) -> usize
+pub fn opener(word: u64) -> usize
     ensures { result ≡ one (opens (kind_of word)) }
 {
     usize::from(Kind::of(word).is_some_and(Kind::is_opener))
 }
 
 // and to the closers. One line each: a function of both would take the method as a closure.
-fn closer(word: u64) -> usize
+pub fn closer(word: u64) -> usize
     ensures { result ≡ one (closes (kind_of word)) }
 {
     usize::from(Kind::of(word).is_some_and(Kind::is_closer))

@@ -77,6 +77,7 @@ impl Sight {
         ensures once { (ss : List ℕ) → length ss ≡ length kinds.now → result ≡ none_repeats (in_block self.old) (labels_at kinds.now ss from) }
     {
         let mut once = true;
+        // The end comes beside the kinds: a walk reads the items past it too, which open and close blocks.
         for name in block_labels(&kinds[..end], from) {
             // As `once &= ..` a sheet of 512 gotos took a third longer.
             if !self.add(name) {

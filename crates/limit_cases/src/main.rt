@@ -42,7 +42,7 @@ fn plain_items(room: &mut [u64; WORDS], n: usize) -> &[u64]
     sheet
 }
 
-// The sheet of a PLAIN item in as many DO as `depth` says. Only that item has a span of its own.
+// The sheet of a PLAIN item in as many DO as `depth` says, which is no length of the room. Only that item has a span of its own.
 fn nested_do(room: &mut [u64; WORDS], depth: usize) -> &[u64]
     requires { depth ≤ 65 }
 {
@@ -92,6 +92,7 @@ fn tell(rt: &impl Print, what: &str, sheet: &[u64]) -> io::Result<()> {
 }
 
 fn main(rt: HostRuntime) -> io::Result<()> {
+    // No heap: fixed memory for the longest sheet.
     let mut room = [0u64; WORDS];
     tell(&rt, "1024 items", plain_items(&mut room, ITEMS))?;
     tell(&rt, "1025 items", plain_items(&mut room, ITEMS + 1))?;

@@ -8,6 +8,7 @@ ghost use Rattle.line_writer.specs.Output.{HasRoom, Appends};
 use itoa::Buffer;
 
 // Lent bytes, the first `len` of which are printed. No `fmt::Write`: what std promises of a `write!` has no word on when it succeeds, and a listing cannot fail.
+// As FindingList over words: what is promised of either speaks of its own items, and a struct of both would lie in another.
 #[derive(Drop)]
 pub struct Output<'a> {
     pub bytes: &'a mut [u8],

@@ -13,7 +13,8 @@ use finding_lines::finding_lines;
 use flow::{Counts, Judgement, Refusal};
 use line_writer::Output;
 
-// Bytes that hold every output, as the specs' `room_for_all` has it. It stays a clause of each that is lent an output: a type with that fact would want a clause on its reference there instead.
+// Bytes that hold every output, as the specs' `room_for_all` has it. It stays a clause of each that is lent an output: the bytes are the
+// caller's and may be more, and a type would ask the same where it is made.
 pub const ROOM: usize = 169140;
 
 // `refused K` alone.

@@ -26,6 +26,7 @@ fn of_bytes(input: &[u8], output: &mut [u8]) -> usize
     if file_words::lost_or_spare(input) {
         return lines::refused(output, Refusal::Miscount);
     }
+    // No heap: fixed memory for the longest input.
     let mut room = [0u64; file_words::WORDS];
     let words = &mut room[..input.len() / 8];
     file_words::read_words(input, words);

@@ -53,6 +53,7 @@ fn compute_in<const NAMES: usize>(
     requires room { Room 3072 0 finding_word.old × (1024 ≤ length mark.old) }
     ensures { Finds kinds.now pair.entry.graph pair.entry.codes pair.entry.names pair.entry.uses finding_word.old finding_word.new mark.old mark.new result }
 {
+    // No heap: fixed memory for the most names.
     let mut facts = [NameFacts::default(); NAMES];
     let count = find_names(kinds, &mut facts);
     let facts = &mut facts[..count];

@@ -56,6 +56,7 @@ pub struct PassTables<'a> {
 }
 
 // The words of findings, one after the other. The count stands beside the column, since that is memory which C lends.
+// How much room is left stays a clause: it falls with each push, and each pass asks for its own.
 #[derive(Drop)]
 pub struct FindingList<'a> {
     pub words: &'a mut [u64],

@@ -7,7 +7,7 @@ ghost use Rattle.cfg_steps.specs.Columns.{node_of_name, name_item};
 
 use words::{ABSENT, HALF, NAME_ITEM, NAME_WITHOUT_NODE};
 
-// A name's node by its word.
+// A name's node by its word, or ABSENT: the column is lent to C, whose words have no room for an Option.
 fn node_of_name(w: u64) -> u64
     ensures { result ≡ node_of_name w }
 {
@@ -32,7 +32,7 @@ pub fn split_names(
     ensures name_span_after { name_span.new ≡ map (λ w. get_or spans.now (name_item w) 0) name_node.old }
     ensures name_end_after { name_end.new ≡ map hi name_node.old }
 {
-    // By index: of what a zip of `iter_mut` writes a proof knows nothing behind the loop.
+    // By index. Tried with a zip of `iter_mut`: a proof knows nothing of the columns behind the loop.
     for (k, word) in name_node.iter_mut().enumerate() {
         let name = *word;
         *word = node_of_name(name);

@@ -15,7 +15,7 @@ fn split_edges(first: &mut [u64], second: &mut [u64])
     ensures first_after { first.new ≡ map lo first.old }
     ensures second_after { second.new ≡ map hi first.old }
 {
-    // By index: of what a zip of `iter_mut` writes a proof knows nothing behind the loop.
+    // By index. Tried with a zip of `iter_mut`: a proof knows nothing of the columns behind the loop.
     for (i, word) in first.iter_mut().enumerate() {
         let edges = *word;
         *word = edges % HALF;

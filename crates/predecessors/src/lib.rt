@@ -10,7 +10,8 @@ use search::Search;
 use std::mem::replace;
 
 // What a node keeps of the chains: the last edge to it, and the edges that its own first and second edge follow in their chains.
-// Node u's first edge has the code u + u + 1, its second u + u + 2. 0 is no edge: an Option in its place would make the fixed memory of the chains twice as large.
+// Node u's first edge has the code u + u + 1, its second u + u + 2. 0 is no edge: an Option<u16>
+// would make the fixed memory of the chains twice as large, and an Option<NonZeroU16> ask of each code that is made whether it is 0.
 #[derive(Clone, Copy)]
 pub struct Links {
     pub last: u16,

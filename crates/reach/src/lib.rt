@@ -24,7 +24,7 @@ fn push_node(search: &mut Search<'_, u64>, v: usize)
     }
 }
 
-// The successors of u pushed.
+// The successors of u pushed. Two columns of one length, and no struct of both: `split_nodes` has them lent to write, and only here are they read.
 fn expand(first: &[u64], second: &[u64], search: &mut Search<'_, u64>, u: usize)
     requires ready { Ready search.old.stamp (length first.now) (state_of search.old) }
     requires same_length { (length second.now ≡ length first.now) × (length search.old.marks.now ≡ length first.now) × (u < length first.now) }

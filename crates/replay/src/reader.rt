@@ -26,6 +26,7 @@ fn read_case<R: Read>(input: &mut R, n: usize) -> io::Result<Result<(), Fault>>
     if read_full(input, bytes)? < bytes.len() {
         return Ok(Err(Fault::Unread));
     }
+    // No heap: fixed memory for the longest case.
     let mut words = [0u64; WORDS];
     let words = &mut words[..n];
     read_words(bytes, words);

@@ -67,7 +67,8 @@ fn is_column(column: &[u64], cells: &[u64]) -> bool {
     }
 }
 
-// An answer's number, and how many entries of each sort the chart has: none beside a refusal.
+// An answer's number, and how many entries of each sort the chart has: none beside a refusal. 0 is the file's number of an accepted call,
+// whose stored word has no room for an Option.
 #[derive(Clone, Copy)]
 pub struct Stored {
     pub number: u64,

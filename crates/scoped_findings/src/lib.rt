@@ -30,6 +30,7 @@ pub fn find_scoped(
     if bare {
         return find_all(sheets.pair, chart, found, counts);
     }
+    // No heap: fixed memory for the most uses.
     let mut words = [0u64; ITEMS];
     replace_crossings(sheets.scopes, uses.words, &mut words);
     let uses = Items {

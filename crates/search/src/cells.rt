@@ -1,5 +1,6 @@
 // The numbers that hold a node in a search's columns: as wide as the memory that the columns are lent. A trait of its own, and no From or
-// TryFrom: of a number below the limit a cast loses nothing, and a TryFrom would have to be asked whether it failed.
+// TryFrom: of a number below the limit a cast loses nothing, and a TryFrom would have to be asked whether it failed. Both impls are
+// written out: none may come from a macro of ours.
 
 ghost use Rattle.std.specs.Prelude.{◌≡◌, ℕ, List, ◌<◌, ◌^◌, length, get_or, set, refl};
 ghost use Rattle.std.proofs.lemmas.List.{get_or_default};

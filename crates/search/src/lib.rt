@@ -11,6 +11,7 @@ ghost use Rattle.search.specs.Running.{state_by, SameColumns, Popped};
 pub use cells::NodeCell;
 
 // A search by a stamp: a node is marked where its cell holds the stamp, and the stack's first cells hold those that are still to be expanded.
+// The stack's height stands beside its column: what lent columns end as is lost where the struct that holds them lies in another.
 #[derive(Drop)]
 pub struct Search<'a, T = u16> {
     pub marks: &'a mut [T],

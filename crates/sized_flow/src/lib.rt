@@ -24,7 +24,7 @@ pub struct ChartedPair<'a> {
     pub uses: UseColumns<'a>,
 }
 
-// The findings of a pair by its tables, with memory for walks over at most NODES nodes.
+// The findings of a pair by its tables, with memory for walks over at most NODES nodes: fixed, since there is no heap.
 fn find_by_tables<const NODES: usize>(
     pass: &PassTables<'_>,
     by_node: &[PlacedUse],

@@ -47,7 +47,7 @@ fn list_local(
 }
 
 // The unassigned findings of all locals, in local order, and the mark figure of each. The marks are below stamp 1 before.
-// The room for them is a clause: the columns come from two lenders, and a type of both would be made for one call.
+// The mark figures' column comes beside the findings, and its room is a clause: the list of overwritten values takes the findings alone.
 pub fn list_unassigned(
     pass: &PassTables<'_>,
     search: &mut Search<'_>,
@@ -61,6 +61,7 @@ pub fn list_unassigned(
     ensures lists { ListsUnassigned pass.now findings.old findings.new mark.old mark.new }
     ensures few { findings.new.count ≤ findings.old.count + length pass.now.facts.now }
 {
+    // Figures by index: of a column that a zip of `iter_mut` writes a proof knows nothing behind the loop.
     for (local, name) in pass.facts.iter().enumerate() {
         let visited = if name.is_due() {
             let walk = LocalWalk {

@@ -69,6 +69,7 @@ impl AheadMarks<'_> {
         !self.is_ahead(self.reads, v) && self.is_ahead(self.writes, v)
     }
 
+    // That uses stand at nodes is a clause of each that asks, and no type: of how many nodes each says by a column of its own.
     // Whether the use at place i is an overwritten write: by the next use in its node or, where none follows there, by what the paths from its node meet.
     pub fn is_overwritten(&self, uses: &[PlacedUse], i: usize) -> bool
         requires i_in_bounds { i < length uses.now }
