@@ -61,11 +61,6 @@ holds_edge (Some false) a b g = refl
 holds_edge (Some true) a b g = refl
 holds_edge None a b g = refl
 
-pub enter_held : (t : Option Bool) (g : Graph) → may_hold t ≡ true → g ≡ enter_when t g
-enter_held (Some false) g e = absurd (let z : ◌≡◌ {A = ℕ} 0 1 = ap (λ (b : Bool). cond b 1 0) e in omega arith)
-enter_held (Some true) g e = refl
-enter_held None g e = refl
-
 pub enter_never : (t : Option Bool) (g : Graph) → may_hold t ≡ false → set_current absent g ≡ enter_when t g
 enter_never (Some false) g e = refl
 enter_never (Some true) g e = absurd (let z : ◌≡◌ {A = ℕ} 1 0 = ap (λ (b : Bool). cond b 1 0) e in omega arith)

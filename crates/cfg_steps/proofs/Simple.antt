@@ -49,10 +49,6 @@ did_as q e d = record {
 pub stands : {b : Place} {e c n l : List ℕ} → Good b (cols e c n l) → Standing b e
 stands ok = record { cursor = ok.cursor; nodes = omega (arith, ok.wide_edges, ok.nodes); few = ok.nodes }
 
-pub may_jump : {b : Place} {e c n l : List ℕ} (i t : ℕ) → Good b (cols e c n l) → b.nodes < 1600 → b.codes < b.item → i < b.item → t < b.nodes
-    → Standing b e × (((b.nodes < length e) × (b.nodes < 1600) × (t < b.nodes)) × ((b.codes < length c) × (b.codes < b.item) × (i < b.item) × (b.item ≤ 1024)))
-may_jump i t ok hn hc hi' ht = (stands ok, ((omega (arith, ok.wide_edges), hn, ht), (omega (arith, ok.wide_codes, ok.items), hc, hi', ok.items)))
-
 -- ---- labels
 
 found_node : (n a v k : ℕ) (ls : List ℕ) → ((j : ℕ) → j < k → hi (get_or ls j 0) < n) → label_node a (label_list k ls) ≡ Some v → v < n
@@ -140,9 +136,6 @@ made_one k h = rw (ne_eqb k 11 h.0, ne_eqb k 12 h.1, ne_eqb k 19 h.7)
 -- the kind that a word is found to have
 pub kind_is : {o : Option Kind} (w : ℕ) {j k : Kind} → MatchOption o ((kind_of w ≡ 0) ⊎ (19 < kind_of w)) (λ j. kind_number j ≡ kind_of w) → o ≡ Some j → j ≡ k → kind_of w ≡ kind_number k
 kind_is w q e f = sym (rw (e, f) at q)
-
-pub stands_as : {b r : Place} {es : List ℕ} → r.nodes ≡ b.nodes → r.cursor ≡ b.cursor → Standing b es → Standing r es
-stands_as {b} {r} {es} p q s = record { cursor = rw (p, q) s.cursor; nodes = omega (arith, s.nodes); few = omega (arith, s.few) }
 
 -- the labels in force, cut off from the column
 pub cut_labels : (k : ℕ) (l : List ℕ) → k ≤ length l → label_list (length (take k l)) (take k l) ≡ label_list k l

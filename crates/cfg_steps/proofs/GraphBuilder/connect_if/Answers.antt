@@ -1,11 +1,7 @@
 -- `cfg_steps::GraphBuilder::connect_if` meets its contract: the edge, where it is wanted, and the same node current.
 -- Assumes nothing.
-use mathlib.Core.List.{[]}
 use Rattle.cfg_steps.proofs.Loops.{connected_did}
 use Rattle.cfg_steps.proofs.GraphBuilder.connect_if.Goals as goal
 
 pub returns-clause-built : goal.returns-clause-built
 returns-clause-built c = λ ks ok. connected_did ks _ _ _ _ _ ok c.args.from c.args.to c.args.wanted _ (rw c.then_some.ensures at c.connect.ensures) c.requires.from_lt_nodes.0 c.requires.from_lt_nodes.1
-
-pub returns-clause-good : goal.returns-clause-good
-returns-clause-good c = λ ok. (returns-clause-built c [] ok).good

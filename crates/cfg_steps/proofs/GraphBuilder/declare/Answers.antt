@@ -1,12 +1,8 @@
 -- `cfg_steps::GraphBuilder::declare` meets its contract: a name's word holds the current node, the item and the scope end.
 -- Assumes nothing.
 use native.Mathlib.Omega.{arith}
-use mathlib.Core.List.{[]}
 use Rattle.cfg_steps.proofs.Ops.{declare_did}
 use Rattle.cfg_steps.proofs.GraphBuilder.declare.Goals as goal
 
 pub returns-clause-built : goal.returns-clause-built
 returns-clause-built c = λ ks ok. rw (c.push.ensures.0, c.push.ensures.1, c.node_in_name-node.ensures) (declare_did ks _ _ _ _ _ ok _ (omega arith) c.requires.i_lt_item.0 c.requires.names_in_bounds.1)
-
-pub returns-clause-good : goal.returns-clause-good
-returns-clause-good c = λ ok. (returns-clause-built c [] ok).good

@@ -1,11 +1,7 @@
 -- `cfg_steps::GraphBuilder::new_node` meets its contract: the step `new_node` on the graph that the columns stand for.
 -- Assumes nothing.
-use mathlib.Core.List.{[]}
 use Rattle.cfg_steps.proofs.Ops.{new_did}
 use Rattle.cfg_steps.proofs.GraphBuilder.new_node.Goals as goal
 
 pub returns-clause-built : goal.returns-clause-built
 returns-clause-built c = λ ks ok. rw (c.push.ensures.0, c.push.ensures.1) (new_did ks _ _ _ _ _ ok c.requires.1)
-
-pub returns-clause-good : goal.returns-clause-good
-returns-clause-good c = λ ok. (returns-clause-built c [] ok).good

@@ -7,13 +7,12 @@ use lib.ListN.{get_or}
 use Rattle.flow.specs.Graph.{new_node, advance_to, code}
 use Rattle.cfg_steps.proofs.Ops.{did_trans}
 use Rattle.cfg_steps.proofs.Loops.{did_at}
-use Rattle.cfg_steps.proofs.Simple.{stands}
 use Rattle.cfg_steps.proofs.SheetBuilder.for_head.Goals as goal
 
-pub advance_to-requires : goal.advance_to-requires
-advance_to-requires c =
+pub advance_to-requires-clause-node_lt_nodes : goal.advance_to-requires-clause-node_lt_nodes
+advance_to-requires-clause-node_lt_nodes c =
     let d = c.code_and_after.ensures.built [] c.args.self.now.good refl in
-    record { standing = stands d.good; node_lt_nodes = omega (arith, d.nodes) }
+    omega (arith, d.nodes)
 
 pub new_node-requires : goal.new_node-requires
 new_node-requires c = let d = c.code_and_after.ensures.built [] c.args.self.now.good refl in let e = c.advance_to.ensures.built [] d.good in (omega (arith, e.good.wide_edges, d.nodes, e.nodes), omega (arith, d.nodes, e.nodes))

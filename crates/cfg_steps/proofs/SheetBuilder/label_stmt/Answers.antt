@@ -1,8 +1,7 @@
 -- `cfg_steps::SheetBuilder::label_stmt` meets its contract: a named label is stood at, and name 0 does nothing.
 -- Assumes nothing.
-use native.Mathlib.Omega.{arith}
 use mathlib.Core.Path.{refl, sym, ◌∙◌}
-use Rattle.cfg_steps.proofs.Simple.{did_none, did_as, stands, stands_as, label_below, labelled_none, labelled_lost, labelled_at}
+use Rattle.cfg_steps.proofs.Simple.{did_none, did_as, label_below, labelled_none, labelled_lost, labelled_at}
 use Rattle.cfg_steps.proofs.Ops.{did_trans}
 use Rattle.cfg_steps.proofs.SheetBuilder.label_stmt.Goals as goal
 
@@ -12,11 +11,11 @@ returns-then-name-eq0-clause-built c = λ ks ok q. did_as refl (λ ss g. labelle
 pub returns-in_default-clause-built : goal.returns-in_default-clause-built
 returns-in_default-clause-built c = λ ks ok q. did_as refl (λ ss g. labelled_lost _ _ _ g (sym c.label_node.ensures ∙ c.in_default.is)) (did_none ks _ _ ok)
 
-pub record_code-requires : goal.record_code-requires
-record_code-requires c = record { codes_in_bounds = (omega (arith, c.args.self.now.good.wide_codes, c.args.self.now.good.items), c.requires.codes_lt_item.0); i_lt_item = (c.requires.codes_lt_item.1, label_below c.args.name c.args.self.now.good (sym c.label_node.ensures ∙ c.in-Some.is), c.args.self.now.good.nodes, c.args.self.now.good.items) }
+pub record_code-requires-clause-i_lt_item : goal.record_code-requires-clause-i_lt_item
+record_code-requires-clause-i_lt_item c = (c.requires.codes_lt_item.1, label_below c.args.name c.args.self.now.good (sym c.label_node.ensures ∙ c.in-Some.is), c.args.self.now.good.nodes, c.args.self.now.good.items)
 
-pub advance_to-requires : goal.advance_to-requires
-advance_to-requires c = record { standing = rw c.record_code.ensures.kept.1 (stands_as c.record_code.ensures.nodes_value.0 c.record_code.ensures.nodes_value.1 (stands c.args.self.now.good)); node_lt_nodes = rw c.record_code.ensures.nodes_value.0 (label_below c.args.name c.args.self.now.good (sym c.label_node.ensures ∙ c.in-Some.is)) }
+pub advance_to-requires-clause-node_lt_nodes : goal.advance_to-requires-clause-node_lt_nodes
+advance_to-requires-clause-node_lt_nodes c = rw c.record_code.ensures.nodes_value.0 (label_below c.args.name c.args.self.now.good (sym c.label_node.ensures ∙ c.in-Some.is))
 
 pub returns-clause-built : goal.returns-clause-built
 returns-clause-built c =

@@ -3,7 +3,6 @@
 use native.Mathlib.Omega.{arith}
 use mathlib.Core.List.{[]}
 use Rattle.cfg_steps.proofs.Ops.{did_trans}
-use Rattle.cfg_steps.proofs.Simple.{stands}
 use Rattle.cfg_steps.proofs.SheetBuilder.repeat_head.Goals as goal
 
 pub new_node-requires-2 : goal.new_node-requires-2
@@ -13,12 +12,12 @@ new_node-requires-2 c =
 pub new_node-requires-3 : goal.new_node-requires-3
 new_node-requires-3 c = let d = c.new_node.ensures.built [] c.args.self.now.good in let e = c.new_node-2.ensures.built [] d.good in (omega (arith, e.good.wide_edges, d.nodes, e.nodes), omega (arith, d.nodes, e.nodes))
 
-pub advance_to-requires : goal.advance_to-requires
-advance_to-requires c =
+pub advance_to-requires-clause-node_lt_nodes : goal.advance_to-requires-clause-node_lt_nodes
+advance_to-requires-clause-node_lt_nodes c =
     let d = c.new_node.ensures.built [] c.args.self.now.good in
     let e = c.new_node-2.ensures.built [] d.good in
     let f = c.new_node-3.ensures.built [] e.good in
-    record { standing = stands f.good; node_lt_nodes = omega (arith, d.nodes, e.nodes, f.nodes) }
+    omega (arith, d.nodes, e.nodes, f.nodes)
 
 pub returns-clause-built : goal.returns-clause-built
 returns-clause-built c =
