@@ -7,14 +7,13 @@ use native.Mathlib.Omega.{arith}
 use borrow.Author.Tests.{lt-ltb}
 use lib.Dec.{ltb}
 use lib.ListN.{length, get_or}
-use Rattle.std.proofs.lemmas.List.{get_or_default}
 use Rattle.search.specs.Search.{closure, filter}
 use Rattle.search.specs.Worklist.{State, st, topmost, pop}
 use Rattle.search.specs.Stamps.{stamp_all, stamp_when, stamp_push, Ready, Unmarked, flagged}
 use Rattle.search.specs.Running.{NumberSearch as Running, state_of, SameColumns}
 use Rattle.search.proofs.Running.{same_none, same_on}
 use Rattle.search.proofs.Worklist.{Search, flags, filter_below, measure}
-use Rattle.search.proofs.Stamps.{when_one, all_ready, two_whens, Underway, stamp_begin, stamp_turn, stamp_falls, stamp_end, node_below, pop_ready, flags_marks}
+use Rattle.search.proofs.Stamps.{when_one, all_ready, Underway, stamp_begin, stamp_turn, stamp_falls, stamp_end, node_below, pop_ready, flags_marks}
 use Rattle.flow.specs.Graph.{Graph, absent, entry_node}
 use Rattle.flow.specs.Reachable.{reachable}
 use Rattle.reach.specs.Columns.{edges, Flags}
@@ -24,14 +23,6 @@ use Rattle.reach.specs.Columns.{edges, Flags}
 -- a node pushed, if it is one, leaves room for more
 pub still_ready : (n stamp v : ℕ) {s t : State} → Ready stamp n s → t ≡ stamp_when stamp (ltb v n) v s → Ready stamp n t
 still_ready n stamp v {s} r e = all_ready stamp n (filter (λ x. ltb x n) (v ∷ [])) (filter_below n (v ∷ [])) r (e ∙ when_one stamp (ltb v n) v s)
-
--- what two cells hold is pushed
-pub expanded : (first second : List ℕ) (stamp u : ℕ) → u < length first → length second ≡ length first → (s s₁ s₂ : State)
-    → s₁ ≡ stamp_when stamp (ltb (get_or first u 0) (length first)) (get_or first u 0) s → s₂ ≡ stamp_when stamp (ltb (get_or second u 0) (length first)) (get_or second u 0) s₁
-    → s₂ ≡ stamp_all stamp (edges first second u) s
-expanded first second stamp u h l s s₁ s₂ e f =
-    two_whens stamp (λ v. ltb v (length first)) (get_or first u 0) (get_or second u 0) s s₁ s₂ e f
-    ∙ (λ i. stamp_all stamp (filter (λ v. ltb v (length first)) (get_or_default first u 0 absent h i ∷ get_or_default second u 0 absent (omega arith) i ∷ [])) s)
 
 -- ---- the search
 
