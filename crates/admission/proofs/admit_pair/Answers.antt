@@ -2,7 +2,7 @@
 use Prim.Native.Nat.{ℕ}
 use mathlib.Core.Bool.{false}
 use mathlib.Core.List.{List, [], ◌++◌}
-use mathlib.Core.Path.{◌≡◌, refl, sym, ap, ap₂, ◌∙◌, subst}
+use mathlib.Core.Path.{◌≡◌, sym, ap, ap₂, ◌∙◌, subst}
 use Rattle.std.specs.Prelude.{Ok}
 use Rattle.std.proofs.lemmas.Result.{err_from_is_err_and}
 use Rattle.flow.specs.Sheet.{use_words, use_spans}
@@ -99,6 +99,3 @@ invariant_of-result c =
 
 pub returns-clause-verdict : goal.returns-clause-verdict
 returns-clause-verdict c = sym (admitted (goal.at.returns-clause-verdict c).After-use_is_bad c.if-use_is_bad.false)
-
-pub returns-clause-same : goal.returns-clause-same
-returns-clause-same c = record { sheet = refl; uses = uses_again (goal.at.returns-clause-same c).After-items-uses c.if-use_is_bad.false }
