@@ -9,7 +9,6 @@ use lib.ListN.{length}
 use borrow.Author.Tests.{le-leb, lt-leb, eq-eqb, ne_eqb}
 use Rattle.flow.specs.Sheet.{all, count_word}
 use Rattle.flow.specs.Scopes.{scope_kinds, parent_words, scope_numbers, is_below, parents_lower, scopes_fit, scopes_wrong}
-use Rattle.scope_parts.specs.Parts.{ScopesCounted}
 
 module _ (names uses : ℕ) (C : List ℕ) where
   pub none_comes : length C ≡ 0 → false ≡ scopes_wrong names uses C
@@ -39,9 +38,6 @@ module _ (names uses : ℕ) (C : List ℕ) where
       length_wrong q = rw (one_comes, le-leb (count_word C) 512 few, ne_eqb _ _ q)
 
       module _ (words : length C ≡ 1 + 2 * count_word C + names + uses) where
-        pub counted : ScopesCounted C
-        counted = record { few = few; long = omega (arith, words) }
-
         left : scopes_wrong names uses C ≡ not (all (is_below 4) (scope_kinds C) && parents_lower 0 (parent_words C) && all (is_below (count_word C)) (scope_numbers C))
         unfolding scopes_fit
         left = rw (one_comes, le-leb (count_word C) 512 few, eq-eqb _ _ words)

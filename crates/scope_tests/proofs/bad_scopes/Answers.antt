@@ -7,8 +7,7 @@ use mathlib.Core.List.{List}
 use lib.ListN.{length}
 use Rattle.flow.specs.Sheet.{all, count_word}
 use Rattle.flow.specs.Scopes.{scope_kinds, parent_words, is_below, parents_lower}
-use Rattle.scope_parts.specs.Parts.{ScopesCounted}
-use Rattle.scope_tests.proofs.Wrong.{none_comes, count_wrong, length_wrong, counted, kind_wrong, parent_wrong, number_wrong}
+use Rattle.scope_tests.proofs.Wrong.{none_comes, count_wrong, length_wrong, kind_wrong, parent_wrong, number_wrong}
 use Rattle.scope_tests.proofs.bad_scopes.Goals as goal
 use Rattle.scope_tests.proofs.bad_scopes.Goals.{After-all_below, After-parents_lower, Else-sheet-count}
 
@@ -25,9 +24,6 @@ some c = c.if-sheet-eq0.false
 
 few : (c : Else-sheet-count) → count_word (C c) ≤ 512
 few c = c.if-count.false
-
-has_parts : (c : Else-sheet-count) → ScopesCounted (C c)
-has_parts c = counted c.args.names c.args.uses (C c) (some c) (few c) c.if-sheet-count.false
 
 -- where the kinds are tested, and the parents behind them
 kinds_told : (c : After-all_below) → {b : Bool} → c.all_below.result ≡ b → all (is_below 4) (scope_kinds (C (goal.at.After-all_below c).Else-sheet-count)) ≡ b
@@ -47,9 +43,6 @@ returns-then-count c = count_wrong _ _ _ c.if-sheet-eq0.false c.if-count.true
 
 pub returns-then-sheet-count : goal.returns-then-sheet-count
 returns-then-sheet-count c = length_wrong _ _ _ c.if-sheet-eq0.false c.if-count.false c.if-sheet-count.true
-
-pub of-scopes-requires : goal.of-scopes-requires
-of-scopes-requires c = has_parts c
 
 pub returns-then-not-all_below : goal.returns-then-not-all_below
 returns-then-not-all_below c =
