@@ -59,9 +59,6 @@ pub record Going (ks ss : List ℕ) (b : Place) (x : Cols) (t : Place) (y : Cols
   pub room : t.nodes + block_nodes (open_at ks ss t.item).top.body ≤ 1600 + length (labels_of (open_at ks ss t.item).top.body)
 
 module _ {ks ss : List ℕ} {b : Place} {x : Cols} where
-  pub going_none : Good b x → b.item ≤ length ks → b.nodes + block_nodes (open_at ks ss b.item).top.body ≤ 1600 + length (labels_of (open_at ks ss b.item).top.body) → Going ks ss b x b x
-  going_none ok h q = record { moved = moved_none ok h; rest = refl; still = refl; room = q }
-
   pub going_room : {t : Place} {y : Cols} → Going ks ss b x t y → (st : Stmt) (o : Open) → open_at ks ss t.item ≡ in_front st o → t.nodes + stmt_nodes st ≤ 1600 + length (label_name st)
   unfolding in_front labels_of
   going_room {t} g st o e =

@@ -1,6 +1,6 @@
 -- The arms of an IF, and which statement an item begins.
 -- Assumes nothing.
-use mathlib.Core.Path.{◌≡◌, refl, sym, ap, ◌∙◌}
+use mathlib.Core.Path.{◌≡◌, sym, ap, ◌∙◌}
 use mathlib.Core.List.{List}
 use mathlib.Core.Bool.{Bool, true, false, cond}
 use Prim.Native.Nat.{ℕ, ◌+◌, ◌≤◌, ◌<◌}
@@ -27,9 +27,6 @@ pub arm_else : (k : ℕ) → Arm k → (k ≡ 6 → ⊥) → k ≡ 7
 arm_else k h q = omega (arith, h.0, h.1)
 
 module _ {ks ss : List ℕ} {join test : ℕ} {falls : Bool} {b : Place} {x : Cols} where
-  pub armed_none : Good b x → b.item ≤ length ks → (b.item < length ks → Ender (kind_of (get_or ks b.item 0))) → test < b.nodes → b.nodes + arm_nodes (open_at ks ss b.item).top.arms ≤ 1600 → Armed ks ss join test falls b x test falls b x
-  armed_none ok h n q room = record { moved = moved_none ok h; ended = n; tested = q; room = room; rest = refl; still = refl }
-
   module _ {test' : ℕ} {falls' : Bool} {t : Place} {y : Cols} (g : Armed ks ss join test falls b x test' falls' t y) where
     pub armed_more : {test'' : ℕ} {falls'' : Bool} {r : Place} {z : Cols} → Armed ks ss join test' falls' t y test'' falls'' r z → Armed ks ss join test falls b x test'' falls'' r z
     armed_more {test''} {falls''} {r} {z} a = record {

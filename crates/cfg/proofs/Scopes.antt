@@ -2,13 +2,12 @@
 -- Assumes nothing.
 use mathlib.Core.Path.{◌≡◌, refl, sym, ap, ◌∙◌, subst}
 use mathlib.Core.List.{List}
-use Prim.Native.Nat.{ℕ, ◌+◌, ◌≤◌, ◌<◌, ◌^◌}
+use Prim.Native.Nat.{ℕ, ◌≤◌, ◌<◌, ◌^◌}
 use native.Mathlib.Nat.{le_refl}
 use native.Mathlib.Omega.{arith}
-use lib.ListN.{length, take, get_or}
+use lib.ListN.{take, get_or}
 use Rattle.flow.specs.Sheet.{kind_of}
 use Rattle.flow.specs.Tree.{Block, labels_of}
-use Rattle.flow.specs.Size.{block_nodes}
 use Rattle.flow.specs.Graph.{Settings, Label, build_block, inside, in_loop, entered, close_into, with_labels}
 use Rattle.blocks.specs.Open.{open_at, Ender, labels_at}
 use Rattle.block_settings.specs.declared.BlockSettings.{BlockSettings}
@@ -55,9 +54,6 @@ module _ (ks ss : List ℕ) {b : Place} {x : Cols} (ok : Good b x) (s : ℕ) whe
     entered_graph : graph_of ks ss e y ≡ entered body (graph_of ks ss b x)
     unfolding entered graph_of
     entered_graph = n.built ss
-
-    pub entered_room : b.nodes + block_nodes body ≤ 1600 → e.nodes + block_nodes (open_at ks ss e.item).top.body ≤ 1600 + length (labels_of (open_at ks ss e.item).top.body)
-    entered_room h = rw n.item (omega (arith, h, n.nodes))
 
     -- the block is built, and the settings return
     pub scoped : {r r' : Place} {z : Cols} → Finished ks ss e y r z → r' ≡ within b.settings r → Scoped ks ss s b x r' z

@@ -18,7 +18,7 @@ use Rattle.flow.specs.Kinds.{raises}
 use Rattle.flow.specs.Graph.{Graph, Label, label_node, or_break, jump, code, declare, simple_stmt, advance_to, record_code}
 use Rattle.cfg_edges.specs.Halves.{hi, label_list}
 use Rattle.kinds.specs.Starts.{has_start}
-use Rattle.cfg_steps.specs.Columns.{Place, Cols, cols, settings_of, labelled, simple_made, Good, Standing, Did}
+use Rattle.cfg_steps.specs.Columns.{Place, Cols, settings_of, labelled, simple_made, Good, Did}
 use Rattle.cfg_steps.proofs.Ops.{grown_same, same_labels}
 
 pub did_none : (ks : List ℕ) (b : Place) (x : Cols) → Good b x → Did ks (λ ss g. g) 0 b x b x
@@ -43,11 +43,6 @@ did_as q e d = record {
   settings = d.settings;
   built = λ ss. d.built ss ∙ e ss _;
 }
-
--- ---- what the operations ask
-
-pub stands : {b : Place} {e c n l : List ℕ} → Good b (cols e c n l) → Standing b e
-stands ok = record { cursor = ok.cursor; nodes = omega (arith, ok.wide_edges, ok.nodes); few = ok.nodes }
 
 -- ---- labels
 

@@ -2,13 +2,13 @@ use Rattle.cfg_steps.proofs.Loops.{move_did}
 use Rattle.std.specs.Prelude.{Some}
 use lib.Dec.{lit≤}
 use Rattle.cfg.proofs.Rooms.{do_room, while_room, repeat_room, for_room, if_room, simple_room, elseif_room, else_room, code_starts, close_starts, simple_kind, ended_on, arms_left, at_item, OpensNone, block_ends, block_goes_on}
-use Rattle.cfg.proofs.Choices.{armed_none, armed_more, armed_chosen, chosen_last, arm_else, elseif_built, else_built, opened_stepped, do_stepped, simple_stepped}
+use Rattle.cfg.proofs.Choices.{armed_more, armed_chosen, chosen_last, arm_else, elseif_built, else_built, opened_stepped, do_stepped, simple_stepped}
 use Rattle.cfg.proofs.Statements.{with_item, good_item, with_cursor, good_cursor, while_opened, repeat_opened, for_opened, if_opened, looped_to}
-use Rattle.cfg.proofs.Scopes.{good_within, good_scope, entered_scope, scoped_loop, entered_room, scoped, looped}
+use Rattle.cfg.proofs.Scopes.{good_within, good_scope, entered_scope, scoped_loop, scoped, looped}
 use Rattle.flow.proofs.Builds.{labels_inside}
-use Rattle.cfg.proofs.Blocks.{going_none, going_room, going_more, going_ended, ender_done, end_done, closed_at}
+use Rattle.cfg.proofs.Blocks.{going_room, going_more, going_ended, ender_done, end_done, closed_at}
 use Rattle.cfg.specs.Steps.{bare}
-use Rattle.cfg_steps.proofs.Simple.{stands, kind_is}
+use Rattle.cfg_steps.proofs.Simple.{kind_is}
 use Rattle.cfg_steps.specs.Columns.{place, within}
 use Rattle.flow.specs.Sheet.{kind_of}
 use Rattle.blocks.specs.Open.{open_at}
@@ -25,9 +25,6 @@ use Rattle.std.proofs.lemmas.Bool.{ltb-true}
 
 -- ---- while_loop
 
-pub while_loop-bounds-b-i : goal.while_loop-bounds-b-i
-while_loop-bounds-b-i t c = c.requires.3
-
 pub while_loop-while_head-requires : goal.while_loop-while_head-requires
 while_loop-while_head-requires t c = record { nodes_bound = (omega (arith, while_room c.args.b.now.graph.now.kinds.now c.args.b.now.graph.now.kinds.now refl c.args.i c.requires.3 (place c.args.b.now.graph.now) c.requires.5 c.requires.4), c.requires.2, omega arith) }
 
@@ -41,15 +38,6 @@ while_loop-loop_body-requires t c =
       ),
     )
 
-pub while_loop-past-b-requires : goal.while_loop-past-b-requires
-while_loop-past-b-requires t c = rw (c.loop_body.ensures.kept.0.0, c.while_head.ensures.kept.0.0) ((rw c.while_head.ensures.kept.0.0 at c.loop_body.ensures.built) c.args.b.now.graph.now.kinds.now refl).moved.within
-
-pub while_loop-loop_end-requires : goal.while_loop-loop_end-requires
-while_loop-loop_end-requires t c =
-    let bd = (rw c.while_head.ensures.kept.0.0 at c.loop_body.ensures.built) c.args.b.now.graph.now.kinds.now refl in
-    let p = rw (c.loop_body.ensures.kept.0.0, c.while_head.ensures.kept.0.0) at c.past-b.ensures in
-    record { head_bound = omega (arith, (c.while_head.ensures.built c.args.b.now.graph.now.kinds.now c.args.b.now.good (code_starts _ 2 c.requires.4 (lit≤ tt))).nodes, bd.moved.grown.nodes) }
-
 pub while_loop-returns-clause-built : goal.while_loop-returns-clause-built
 while_loop-returns-clause-built t c =
     λ ss e.
@@ -58,9 +46,6 @@ while_loop-returns-clause-built t c =
     while_opened c.args.b.now.graph.now.kinds.now ss e c.requires.0.few c.args.i c.requires.3 _ _ _ c.requires.4 c.literal_truth-truth.ensures refl c.requires.1 c.args.b.now.good (c.requires.0.tidy ss e _ c.requires.3 (omega arith) (omega arith)) (c.while_head.ensures.built c.args.b.now.graph.now.kinds.now c.args.b.now.good (code_starts _ 2 c.requires.4 (lit≤ tt))) ((rw c.while_head.ensures.kept.0.0 at c.loop_body.ensures.built) ss e) p.2 p.3 p.1 p.0 (c.loop_end.ensures.built c.args.b.now.graph.now.kinds.now g)
 
 -- ---- for_loop
-
-pub for_loop-bounds-b-i : goal.for_loop-bounds-b-i
-for_loop-bounds-b-i t c = c.requires.3
 
 pub for_loop-for_head-requires : goal.for_loop-for_head-requires
 for_loop-for_head-requires t c = record { nodes_bound = (omega (arith, for_room c.args.b.now.graph.now.kinds.now c.args.b.now.graph.now.kinds.now refl c.args.i c.requires.3 (place c.args.b.now.graph.now) c.requires.5 c.requires.4), c.requires.2, omega arith) }
@@ -75,15 +60,6 @@ for_loop-loop_body-requires t c =
       ),
     )
 
-pub for_loop-past-b-requires : goal.for_loop-past-b-requires
-for_loop-past-b-requires t c = rw (c.loop_body.ensures.kept.0.0, c.for_head.ensures.kept.0.0) ((rw c.for_head.ensures.kept.0.0 at c.loop_body.ensures.built) c.args.b.now.graph.now.kinds.now refl).moved.within
-
-pub for_loop-loop_end-requires : goal.for_loop-loop_end-requires
-for_loop-loop_end-requires t c =
-    let bd = (rw c.for_head.ensures.kept.0.0 at c.loop_body.ensures.built) c.args.b.now.graph.now.kinds.now refl in
-    let p = rw (c.loop_body.ensures.kept.0.0, c.for_head.ensures.kept.0.0) at c.past-b.ensures in
-    record { head_bound = omega (arith, (c.for_head.ensures.built c.args.b.now.graph.now.kinds.now c.args.b.now.good (code_starts _ 4 c.requires.4 (lit≤ tt))).nodes, bd.moved.grown.nodes) }
-
 pub for_loop-returns-clause-built : goal.for_loop-returns-clause-built
 for_loop-returns-clause-built t c =
     λ ss e.
@@ -92,9 +68,6 @@ for_loop-returns-clause-built t c =
     for_opened c.args.b.now.graph.now.kinds.now ss e c.requires.0.few c.args.i c.requires.3 _ _ c.requires.4 refl c.requires.1 c.args.b.now.good (c.requires.0.tidy ss e _ c.requires.3 (omega arith) (omega arith)) (c.for_head.ensures.built c.args.b.now.graph.now.kinds.now c.args.b.now.good (code_starts _ 4 c.requires.4 (lit≤ tt))) ((rw c.for_head.ensures.kept.0.0 at c.loop_body.ensures.built) ss e) p.2 p.3 p.1 p.0 (c.loop_end.ensures.built c.args.b.now.graph.now.kinds.now g)
 
 -- ---- repeat_loop
-
-pub repeat_loop-bounds-b-i : goal.repeat_loop-bounds-b-i
-repeat_loop-bounds-b-i t c = c.requires.3
 
 pub repeat_loop-repeat_head-requires : goal.repeat_loop-repeat_head-requires
 repeat_loop-repeat_head-requires t c = record { nodes_bound = omega (arith, repeat_room c.args.b.now.graph.now.kinds.now c.args.b.now.graph.now.kinds.now refl c.args.i c.requires.3 (place c.args.b.now.graph.now) c.requires.5 c.requires.4) }
@@ -108,9 +81,6 @@ repeat_loop-loop_body-requires t c =
         rw c.repeat_targets.ensures (omega (arith, hd.nodes), omega (arith, hd.nodes)),
       ),
     )
-
-pub repeat_loop-past-b-requires : goal.repeat_loop-past-b-requires
-repeat_loop-past-b-requires t c = rw (c.loop_body.ensures.kept.0.0, c.repeat_head.ensures.kept.0.0) ((rw c.repeat_head.ensures.kept.0.0 at c.loop_body.ensures.built) c.args.b.now.graph.now.kinds.now refl).moved.within
 
 pub repeat_loop-repeat_end-requires : goal.repeat_loop-repeat_end-requires
 repeat_loop-repeat_end-requires t c =
@@ -129,9 +99,6 @@ repeat_loop-returns-clause-built t c =
 
 -- ---- if_stmt
 
-pub if_stmt-bounds-b-i : goal.if_stmt-bounds-b-i
-if_stmt-bounds-b-i t c = c.requires.3
-
 pub if_stmt-code_and_after-requires : goal.if_stmt-code_and_after-requires
 if_stmt-code_and_after-requires t c = record { nodes_bound = (omega (arith, if_room c.args.b.now.graph.now.kinds.now c.args.b.now.graph.now.kinds.now refl c.args.i c.requires.3 (place c.args.b.now.graph.now) c.requires.5 c.requires.4), c.requires.2, omega arith) }
 
@@ -139,11 +106,6 @@ pub if_stmt-scoped_block-requires : goal.if_stmt-scoped_block-requires
 if_stmt-scoped_block-requires t c =
     let hd = c.code_and_after.ensures.built c.args.b.now.graph.now.kinds.now c.args.b.now.good (code_starts _ 5 c.requires.4 (lit≤ tt)) in
     rw c.code_and_after.ensures.kept.0.0 (omega (arith, hd.item), (c.requires.0, omega (arith, hd.item), at_item c.args.b.now.graph.now.kinds.now (place c.code_and_after.new.self.graph.now) (c.args.i + 1) (hd.item ∙ c.requires.1) (λ ss e. omega (arith, if_room c.args.b.now.graph.now.kinds.now ss e c.args.i c.requires.3 (place c.args.b.now.graph.now) c.requires.5 c.requires.4, hd.nodes)), c.requires.0.scopes _ c.requires.3 (omega arith) (omega arith)))
-
-pub if_stmt-close_into-requires : goal.if_stmt-close_into-requires
-if_stmt-close_into-requires t c =
-    let s = ((rw c.code_and_after.ensures.kept.0.0 at c.scoped_block.ensures.built) c.args.b.now.graph.now.kinds.now refl).moved in
-    record { standing = stands c.scoped_block.new.b.good; target_lt_nodes = omega (arith, s.grown.nodes, (c.code_and_after.ensures.built c.args.b.now.graph.now.kinds.now c.args.b.now.good (code_starts _ 5 c.requires.4 (lit≤ tt))).nodes) }
 
 pub if_stmt-arms-requires : goal.if_stmt-arms-requires
 if_stmt-arms-requires t c =
@@ -176,27 +138,14 @@ if_stmt-invariant_of-b-2 t c =
 
 -- ---- scoped_block
 
-pub scoped_block-enter_block-requires : goal.scoped_block-enter_block-requires
-scoped_block-enter_block-requires t c = record { item_in_bounds = (c.requires.1, c.requires.0.few, c.requires.0.labels); room = λ ss e. omega (arith, c.requires.2 ss e, labels_inside (open_at c.args.b.now.graph.now.kinds.now ss c.args.b.now.graph.now.item).top.body) }
-
-pub scoped_block-block-requires : goal.scoped_block-block-requires
-scoped_block-block-requires t c =
-    let n = (entered_scope c.args.b.now.graph.now.kinds.now c.args.b.now.graph.now.kinds.now (place c.args.b.now.graph.now) c.args.scope_end (ap (λ (st : BlockSettings). within st (place c.args.b.now.graph.now)) c.enter_scope-b.ensures) (c.enter_block.ensures.entered c.args.b.now.graph.now.kinds.now refl (good_scope c.args.scope_end (ap (λ (st : BlockSettings). within st (place c.args.b.now.graph.now)) c.enter_scope-b.ensures) c.requires.3 c.args.b.now.good))) in
-    rw c.enter_block.ensures.kept.0.0 (omega (arith, n.item), (c.requires.0, omega (arith, n.item), λ ss e. entered_room _ ss c.args.b.now.good c.args.scope_end (entered_scope c.args.b.now.graph.now.kinds.now ss (place c.args.b.now.graph.now) c.args.scope_end (ap (λ (st : BlockSettings). within st (place c.args.b.now.graph.now)) c.enter_scope-b.ensures) (c.enter_block.ensures.entered ss e (good_scope c.args.scope_end (ap (λ (st : BlockSettings). within st (place c.args.b.now.graph.now)) c.enter_scope-b.ensures) c.requires.3 c.args.b.now.good))) (c.requires.2 ss e)))
+pub scoped_block-enter_block-requires-clause-room : goal.scoped_block-enter_block-requires-clause-room
+scoped_block-enter_block-requires-clause-room t c = λ ss e. omega (arith, c.requires.2 ss e, labels_inside (open_at c.args.b.now.graph.now.kinds.now ss c.args.b.now.graph.now.item).top.body)
 
 pub scoped_block-returns-clause-built : goal.scoped_block-returns-clause-built
 scoped_block-returns-clause-built t c =
     λ ss e. scoped _ ss c.args.b.now.good c.args.scope_end (entered_scope c.args.b.now.graph.now.kinds.now ss (place c.args.b.now.graph.now) c.args.scope_end (ap (λ (st : BlockSettings). within st (place c.args.b.now.graph.now)) c.enter_scope-b.ensures) (c.enter_block.ensures.entered ss e (good_scope c.args.scope_end (ap (λ (st : BlockSettings). within st (place c.args.b.now.graph.now)) c.enter_scope-b.ensures) c.requires.3 c.args.b.now.good))) ((rw c.enter_block.ensures.kept.0.0 at c.block.ensures.built) ss e) (ap (λ (st : BlockSettings). within st (place c.block.new.b.graph.now)) c.return_to-b.ensures)
 
 -- ---- loop_body
-
-pub loop_body-scoped_block-requires : goal.loop_body-scoped_block-requires
-loop_body-scoped_block-requires t c = (omega arith, (c.requires.at_block.0, c.requires.at_block.1, c.requires.at_block.2, c.requires.at_block.3))
-
-pub loop_body-close_into-requires : goal.loop_body-close_into-requires
-loop_body-close_into-requires t c =
-    let s = (c.scoped_block.ensures.built c.args.b.now.graph.now.kinds.now refl).moved in
-    record { standing = stands c.scoped_block.new.b.good; target_lt_nodes = omega (arith, s.grown.nodes, c.requires.break_target_lt_nodes.1) }
 
 pub loop_body-returns-clause-built : goal.loop_body-returns-clause-built
 loop_body-returns-clause-built t c =
@@ -210,9 +159,6 @@ loop_body-invariant_of-b-2 t c =
     record { good = rw c.return_to-b.ensures (good_within c.args.b.now.graph.now.settings (omega (arith, d.labels, s.labels, ap (λ (st : BlockSettings). st.labels) c.enter_loop-b.ensures)) ok.scope_end (omega (arith, ok.break_target, s.grown.nodes, d.nodes)) (omega (arith, ok.continue_target, s.grown.nodes, d.nodes)) d.good) }
 
 -- ---- block
-
-pub block-loop-word-init : goal.block-loop-word-init
-block-loop-word-init t c = (((refl, refl, refl, refl, refl), refl), λ ss e. going_none c.args.b.now.good c.requires.1 (c.requires.2 ss e))
 
 pub block-returns-then-is_block_end-clause-built : goal.block-returns-then-is_block_end-clause-built
 block-returns-then-is_block_end-clause-built t c =
@@ -246,15 +192,6 @@ block-returns-clause-built t c =
 
 -- ---- arms
 
-pub arms-loop-b-init : goal.arms-loop-b-init
-arms-loop-b-init t c = (((refl, refl, refl, refl, refl), refl), λ ss e. armed_none c.args.b.now.good c.requires.at_end.1 c.requires.at_end.2 c.requires.test_lt_nodes.0 (c.requires.at_end.3 ss e))
-
-pub arms-arm-requires : goal.arms-arm-requires
-arms-arm-requires t c =
-    let g = c.loop-b.invariant.1 c.args.b.now.graph.now.kinds.now refl in
-    let f = rw c.loop-b.invariant.0.0.0 at (c.arm_follows.ensures.0 c.loop-b-test.true) in
-    rw c.loop-b.invariant.0.0.0 (omega (arith, g.moved.forward, f.0), ((c.requires.at_end.0, f.0, f.1, λ ss e. (c.loop-b.invariant.1 ss e).room), (g.tested, omega (arith, g.moved.grown.nodes, c.requires.test_lt_nodes.1))))
-
 pub arms-loop-b-preserved : goal.arms-loop-b-preserved
 arms-loop-b-preserved t c =
     let i = c.loop-b.invariant.0.0 in
@@ -282,13 +219,6 @@ arm-scoped_block-requires t c =
     let hd = c.arm_test.ensures.built c.args.b.now.graph.now.kinds.now (good_item (c.args.b.now.graph.now.item + 1) (omega arith) (omega arith) c.args.b.now.good) (code_starts _ 6 k (lit≤ tt)) in
     rw c.arm_test.ensures.kept.0.0 (omega (arith, hd.item), (c.requires.at_arm.0, omega (arith, hd.item), at_item c.args.b.now.graph.now.kinds.now (place c.arm_test.new.self.graph.now) (c.args.b.now.graph.now.item + 1) hd.item (λ ss e. omega (arith, elseif_room c.args.b.now.graph.now.kinds.now ss e (place c.args.b.now.graph.now) c.requires.at_arm.1 c.requires.at_arm.3 k, hd.nodes)), c.requires.at_arm.0.scopes _ c.requires.at_arm.1 (omega (arith, k)) (omega (arith, k))))
 
-pub arm-close_into-requires : goal.arm-close_into-requires
-arm-close_into-requires t c =
-    let k : kind_of (get_or c.args.b.now.graph.now.kinds.now c.args.b.now.graph.now.item 0) ≡ 6 = search rules in
-    let hd = c.arm_test.ensures.built c.args.b.now.graph.now.kinds.now (good_item (c.args.b.now.graph.now.item + 1) (omega arith) (omega arith) c.args.b.now.good) (code_starts _ 6 k (lit≤ tt)) in
-    let s = ((rw c.arm_test.ensures.kept.0.0 at c.scoped_block.ensures.built) c.args.b.now.graph.now.kinds.now refl).moved in
-    record { standing = stands c.scoped_block.new.b.good; target_lt_nodes = omega (arith, s.grown.nodes, hd.nodes, c.requires.test_lt_nodes.1) }
-
 pub arm-returns-then-eq-clause-built : goal.arm-returns-then-eq-clause-built
 arm-returns-then-eq-clause-built t c =
     let k : kind_of (get_or c.args.b.now.graph.now.kinds.now c.args.b.now.graph.now.item 0) ≡ 6 = search rules in
@@ -302,11 +232,6 @@ arm-scoped_block-requires-else-eq t c =
     let k = arm_else _ c.requires.at_arm.2 (search rules) in
     let hd = move_did c.args.b.now.graph.now.kinds.now _ _ _ _ _ (good_item (c.args.b.now.graph.now.item + 1) (omega arith) (omega arith) c.args.b.now.good) (Some c.args.s.now.test) c.requires.test_lt_nodes.0 in
     (omega arith, (c.requires.at_arm.0, omega arith, at_item c.args.b.now.graph.now.kinds.now (with_cursor c.args.s.now.test (with_item (c.args.b.now.graph.now.item + 1) (place c.args.b.now.graph.now))) (c.args.b.now.graph.now.item + 1) refl (λ ss e. omega (arith, else_room c.args.b.now.graph.now.kinds.now ss e (place c.args.b.now.graph.now) c.requires.at_arm.1 c.requires.at_arm.3 k)), c.requires.at_arm.0.scopes _ c.requires.at_arm.1 (omega (arith, k)) (omega (arith, k))))
-
-pub arm-close_into-requires-else-eq : goal.arm-close_into-requires-else-eq
-arm-close_into-requires-else-eq t c =
-    let s = (c.scoped_block-else-eq.ensures.built c.args.b.now.graph.now.kinds.now refl).moved in
-    record { standing = stands c.scoped_block-else-eq.new.b.good; target_lt_nodes = omega (arith, s.grown.nodes, c.requires.test_lt_nodes.1) }
 
 pub arm-returns-else-eq-clause-built : goal.arm-returns-else-eq-clause-built
 arm-returns-else-eq-clause-built t c =
@@ -342,11 +267,11 @@ stmt-returns-in-Some-For-clause-built t c = λ ss e. opened_stepped c.args.b.now
 pub stmt-returns-in-Some-If-clause-built : goal.stmt-returns-in-Some-If-clause-built
 stmt-returns-in-Some-If-clause-built t c = λ ss e. opened_stepped c.args.b.now.graph.now.kinds.now ss e c.requires.0.few c.args.b.now.good c.requires.1 (c.if_stmt.ensures.built ss e)
 
-pub stmt-simple_stmt-requires : goal.stmt-simple_stmt-requires
-stmt-simple_stmt-requires t c =
+pub stmt-simple_stmt-requires-clause-w_bound : goal.stmt-simple_stmt-requires-clause-w_bound
+stmt-simple_stmt-requires-clause-w_bound t c =
     let k : OpensNone (get_or c.args.b.now.graph.now.kinds.now c.args.b.now.graph.now.item 0) = elim c.in_default.branch [ stmt-in_default-via-in-Some+in_default w ↦ (search rules, search rules, search rules, search rules, search rules) | stmt-in_default-via-in_default w ↦ (search rules, search rules, search rules, search rules, search rules) ] in
     let s = simple_kind _ k.0 k.1 k.2 k.3 k.4 c.requires.2 in
-    record { w_bound = simple_room c.args.b.now.graph.now.kinds.now c.args.b.now.graph.now.kinds.now refl _ c.requires.1 (place c.args.b.now.graph.now) c.requires.3 c.args.b.now.good.nodes s; items_bound = (omega (arith, c.args.b.now.good.codes), omega (arith, c.args.b.now.good.names), omega arith); no_close = (s 8 (lit≤ tt) (lit≤ tt), s 9 (lit≤ tt) (lit≤ tt)) }
+    simple_room c.args.b.now.graph.now.kinds.now c.args.b.now.graph.now.kinds.now refl _ c.requires.1 (place c.args.b.now.graph.now) c.requires.3 c.args.b.now.good.nodes s
 
 pub stmt-returns-in_default-clause-built : goal.stmt-returns-in_default-clause-built
 stmt-returns-in_default-clause-built t c =
