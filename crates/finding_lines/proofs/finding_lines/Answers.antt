@@ -9,16 +9,10 @@ use lib.ListN.{length}
 use Rattle.std.specs.Iterator.Adapters.{zip_first, zip_second}
 use Rattle.std.specs.Slice.Iter.{iter_rest}
 use Rattle.flow.specs.Listing.{finding_line, finding_lines}
-use Rattle.line_writer.proofs.Appended.{Left, first_room, begin, next, done}
+use Rattle.line_writer.proofs.Appended.{Left, first_room, next, done}
 use Rattle.finding_lines.specs.Findings.{findings_of}
 use Rattle.finding_lines.proofs.finding_lines.Goals as goal
 use Rattle.finding_lines.proofs.finding_lines.Goals.{In-Some}
-
-pub loop-word-init : goal.loop-word-init
-loop-word-init c = record {
-  same = search rules;
-  left = rw (c.into_iter-word-iterator.ensures.into_iter_gives, c.zip-word-items.ensures.first, c.iter.ensures.rest, c.zip-word-items.ensures.second.0) (begin c.requires);
-}
 
 -- ---- within a turn
 one_left : (c : In-Some) → Left (finding_lines (findings_of c.args.words.now c.args.spans.now)) (finding_line (record { word = c.in-Some.word.now; span = c.in-Some.span.now }) ++ finding_lines (findings_of (iter_rest (zip_first c.next.new.self)) (iter_rest (zip_second c.next.new.self)))) c.args.output.now c.loop-word.output
