@@ -1,6 +1,6 @@
 -- The parts of a scope sheet as the code takes them, and their lengths.
 -- Assumes nothing.
-use mathlib.Core.Path.{◌≡◌, ap}
+use mathlib.Core.Path.{◌≡◌}
 use mathlib.Core.List.{List}
 use Prim.Native.Nat.{ℕ, ◌+◌, ◌-◌, ◌*◌}
 use native.Mathlib.Omega.{arith}
@@ -11,12 +11,6 @@ use Rattle.flow.specs.Scopes.{scope_kinds, parent_words, scope_numbers}
 use Rattle.scope_parts.specs.Parts.{ScopesCounted}
 
 module _ (C : List ℕ) (c : ScopesCounted C) where
-  pub kinds_are : take (1 + get_or C 0 0 - 1) (drop 1 C) ≡ scope_kinds C
-  kinds_are = let z : 1 + get_or C 0 0 - 1 ≡ get_or C 0 0 = omega arith in ap (λ (n : ℕ). take n (drop 1 C)) z
-
-  pub parents_are : take (1 + get_or C 0 0 + get_or C 0 0 - (1 + get_or C 0 0)) (drop (1 + get_or C 0 0) C) ≡ parent_words C
-  parents_are = let z : 1 + get_or C 0 0 + get_or C 0 0 - (1 + get_or C 0 0) ≡ get_or C 0 0 = omega arith in ap (λ (n : ℕ). take n (drop (1 + get_or C 0 0) C)) z
-
   pub numbers_are : take (length C - (1 + get_or C 0 0 + get_or C 0 0)) (drop (1 + get_or C 0 0 + get_or C 0 0) C) ≡ scope_numbers C
   numbers_are =
       let z : 1 + get_or C 0 0 + get_or C 0 0 ≡ 1 + 2 * get_or C 0 0 = omega arith in
