@@ -14,7 +14,7 @@ use Rattle.search.specs.Worklist.{State}
 use Rattle.search.specs.Stamps.{stamp_all, stamp_when, Ready}
 use Rattle.search.proofs.Closure.{Nodes}
 use Rattle.search.proofs.Worklist.{filter_in, filter_filter}
-use Rattle.search.proofs.Stamps.{when_all, when_one, when_nodes, all_ready}
+use Rattle.search.proofs.Stamps.{when_one, two_whens, when_nodes, all_ready}
 use Rattle.flow.specs.Graph.{Graph, absent, node_count}
 use Rattle.flow.specs.Reachable.{successors}
 use Rattle.flow.specs.Locals.{Declaration}
@@ -66,6 +66,6 @@ module _ (n : ℕ) (first second start : List ℕ) (d : Declaration) where
     -- two pushes of what the cells hold
     pub expanded : n ≤ length second → (stamp u : ℕ) → u < n → {a b : ℕ} → a ≡ get_or first u 0 → b ≡ get_or second u 0 → (s s₁ s₂ : State) → s₁ ≡ stamp_when stamp (enters a) a s → s₂ ≡ stamp_when stamp (enters b) b s₁ → s₂ ≡ stamp_all stamp (live_successors charted d u) s
     expanded m stamp u h {a} {b} ea eb s s₁ s₂ q r =
-        r ∙ when_one stamp (enters b) b s₁ ∙ ap (stamp_all stamp (filter enters (b ∷ []))) q ∙ when_all stamp (enters a) a (filter enters (b ∷ [])) s
+        two_whens stamp enters a b s s₁ s₂ q r
         ∙ (λ i. stamp_all stamp (filter enters (ea i ∷ eb i ∷ [])) s)
         ∙ ap (λ (vs : List ℕ). stamp_all stamp vs s) (sym (live_edges m u h))
