@@ -27,7 +27,7 @@ use Rattle.live_steps.specs.Walk.{nodes_of}
 use Rattle.locals.specs.declared.DeclarationTable.{DeclarationTable}
 use Rattle.locals.specs.Columns.{Charted as Held}
 use Rattle.tables.specs.declared.CodeColumns.{CodeColumns}
-use Rattle.tables.specs.declared.UseColumns.{UseColumns}
+use Rattle.sheet_parts.specs.declared.Items.{Items}
 use Rattle.local_flow.specs.Sheets.{Sheets}
 use Rattle.chart.specs.Lent.{Columns, Lent, Charted}
 use Rattle.chart.proofs.Read.{Begins, nodes_are, names_are, first_read, second_read, start_read, spans_read, code_nodes_read, ends_rise, code_nodes_in, name_spans_read, name_nodes_read, name_ends_read, shown}
@@ -80,8 +80,6 @@ module _ {S U : List ℕ} {r : Counts} {l : Lent} (v : sheet_verdict false S ≡
       within = code_nodes_in a h;
       code_spans_law = sym (spans_read a h).cells;
       code_nodes_law = sym (code_nodes_read a h).cells;
-      few_uses = omega (arith, u.uses, u.few);
-      as_many = u.spans ∙ sym u.uses;
       names_known = λ k q. omega (arith, u.known k (omega (arith, u.uses)), u.names);
     },
     sym name_spans_law.cells,
@@ -115,7 +113,7 @@ module _ {S U : List ℕ} (c : Counts) (x : Columns) (q : Searchable S U c x) wh
         }
 
     pub in_parts : (codes : CodeColumns) → codes.spans.now ≡ take c.codes x.codes.span → codes.nodes.now ≡ take c.codes x.codes.node → (names : DeclarationTable) → names.node.now ≡ x.names.node → names.scope_end.now ≡ x.names.scope_end
-        → (uses : UseColumns) → uses.words.now ≡ use_words U → uses.spans.now ≡ use_spans U → {ks : List ℕ} → ks ≡ kind_words S → Sheets S U ks g codes names uses
+        → (uses : Items) → uses.words.now ≡ use_words U → uses.spans.now ≡ use_spans U → {ks : List ℕ} → ks ≡ kind_words S → Sheets S U ks g codes names uses
     in_parts codes eo en names em ee uses ew eu ek =
         let p = q.0 in
         let long : length codes.spans.now ≡ c.codes = ap length eo ∙ length-take-le c.codes x.codes.span p.spans_long in
@@ -132,7 +130,7 @@ module _ {S U : List ℕ} (c : Counts) (x : Columns) (q : Searchable S U c x) wh
               rising = rw (long, eo) (λ i j h l. rw (get_or-take c.codes x.codes.span i 0 (omega arith), get_or-take c.codes x.codes.span j 0 l) (p.rising i j h l));
               within = rw (long, en, nodes_cut) (λ i l. rw (get_or-take c.codes x.codes.node i 0 l) (p.within i l));
             };
-            use_table = record { few = rw ew p.few_uses; same = rw (ew, eu) p.as_many; named = rw ew p.names_known };
+            uses_named = rw ew p.names_known;
             sources = record { code_spans_law = rw eo p.code_spans_law; code_nodes_law = rw (long, en) (p.code_nodes_law ∙ sym (take_all c.codes (take c.codes x.codes.node) (omega (arith, length-take-le c.codes x.codes.node p.nodes_long)))); words_are = ew; spans_are = eu };
           };
         }

@@ -2,7 +2,7 @@
 -- Assumes nothing: these are definitions.
 use Rattle.std.specs.Prelude.{ℕ, ◌≤◌, ◌<◌, ◌≡◌, List, length, get_or, take}
 use Rattle.flow.specs.declared.Counts.{Counts}
-use Rattle.flow.specs.Sheet.{kind_words, span_words, use_words, use_spans}
+use Rattle.flow.specs.Sheet.{kind_words, span_words, use_words}
 use Rattle.flow.specs.Graph.{graph}
 use Rattle.flow.specs.Locals.{locals}
 use Rattle.offsets.specs.Codes.{Rising}
@@ -21,6 +21,4 @@ pub record Searched (S U : List ℕ) (c : Counts) (first second start code_span 
   pub within : (i : ℕ) → i < c.codes → get_or code_node i 0 < c.nodes
   pub code_spans_law : (graph S).codes.span ≡ take c.codes code_span
   pub code_nodes_law : (graph S).codes.node ≡ take c.codes code_node
-  pub few_uses : length (use_words U) ≤ 1024
-  pub as_many : length (use_spans U) ≡ length (use_words U)
   pub names_known : NamedBelow (length (locals S)) (use_words U)

@@ -15,7 +15,7 @@ use live_steps::{Edges, FlowGraph};
 use locals::DeclarationTable;
 use sheet_parts::SheetPair;
 use sized_flow::ChartedPair;
-use tables::{CodeColumns, UseColumns};
+use tables::CodeColumns;
 
 // The columns of findings, each with its word and span, and of mark figures, one a local. That they are long enough stays a clause, `Long`:
 // tried as a type of its own, it could not be moved in a branch, as `find_scoped` has to.
@@ -110,10 +110,7 @@ pub fn find_all<'a>(
             spans: &chart.code_span[..counts.codes],
             nodes: &chart.code_node[..counts.codes],
         },
-        uses: UseColumns {
-            words: pair.uses.words,
-            spans: pair.uses.spans,
-        },
+        uses: pair.uses,
     };
     let listed = local_flow::compute(kinds, charted, found.word, found.mark);
     let word = &mut *found.word;

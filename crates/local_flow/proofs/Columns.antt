@@ -20,7 +20,7 @@ use Rattle.facts.proofs.Facts.{tracked_told, none_asked}
 use Rattle.live_steps.specs.declared.FlowGraph.{FlowGraph}
 use Rattle.locals.specs.declared.DeclarationTable.{DeclarationTable}
 use Rattle.tables.specs.declared.CodeColumns.{CodeColumns}
-use Rattle.tables.specs.declared.UseColumns.{UseColumns}
+use Rattle.sheet_parts.specs.declared.Items.{Items}
 use Rattle.name_facts.specs.Names.{locals_in, Stored}
 use Rattle.name_facts.proofs.Names.{names_counted, names_known}
 use Rattle.locals.specs.Entries.{Added}
@@ -33,7 +33,7 @@ use Rattle.local_flow.specs.Sheets.{Sheets}
 
 -- ---- the facts of the names
 
-module _ {S U kinds : List ℕ} {g : FlowGraph} {codes : CodeColumns} {names : DeclarationTable} {uses : UseColumns} (p : Sheets S U kinds g codes names uses)
+module _ {S U kinds : List ℕ} {g : FlowGraph} {codes : CodeColumns} {names : DeclarationTable} {uses : Items} (p : Sheets S U kinds g codes names uses)
     {facts₀ facts : List NameFacts} {count : ℕ} (s : Stored (locals_in 0 0 kinds) 0 facts₀ facts count) where
   stored : Stored (locals_in 0 0 (kind_words S)) 0 facts₀ facts count
   stored = rw p.kinds_are at s

@@ -15,7 +15,7 @@ use Rattle.locals.specs.declared.DeclarationTable.{DeclarationTable}
 use Rattle.locals.specs.declared.PassTables.{PassTables}
 use Rattle.locals.specs.Columns.{Tables}
 use Rattle.tables.specs.declared.CodeColumns.{CodeColumns}
-use Rattle.tables.specs.declared.UseColumns.{UseColumns}
+use Rattle.sheet_parts.specs.declared.Items.{Items}
 use Rattle.tables.specs.declared.PairTables.{PairTables}
 use Rattle.tables.specs.Tables.{Room}
 use Rattle.overwritten.proofs.Locals.{lent}
@@ -23,7 +23,7 @@ use Rattle.both_lists.specs.declared.GraphWalk.{GraphWalk}
 use Rattle.both_lists.specs.Passes.{Pair, Walks}
 use Rattle.sized_flow.specs.Given.{Given}
 
-pub pair : {S U : List ℕ} {g : FlowGraph} {names : DeclarationTable} {codes : CodeColumns} {uses : UseColumns} {facts₀ : List NameFacts}
+pub pair : {S U : List ℕ} {g : FlowGraph} {names : DeclarationTable} {codes : CodeColumns} {uses : Items} {facts₀ : List NameFacts}
     → Given S U g names codes uses facts₀ → (p : PassTables) (by_node : List PlacedUse) → p.graph ≡ g → p.names ≡ names → length p.facts.now ≡ length facts₀
     → Tables S U (nodes_of g) (length facts₀) p.facts.now p.uses.starts.now p.uses.uses.now by_node → Pair S U p by_node
 pair q p by_node eg en ef t = record {

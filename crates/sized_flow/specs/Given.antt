@@ -13,28 +13,29 @@ use Rattle.locals.specs.declared.FindingList.{FindingList}
 use Rattle.locals.specs.Columns.{Charted, Named}
 use Rattle.locals.specs.Entries.{AddsTo}
 use Rattle.tables.specs.declared.CodeColumns.{CodeColumns}
-use Rattle.tables.specs.declared.UseColumns.{UseColumns}
-use Rattle.tables.specs.Tables.{CodeTable, UsesNamed, Sources}
+use Rattle.sheet_parts.specs.declared.Items.{Items}
+use Rattle.tables.specs.Words.{NamedBelow}
+use Rattle.tables.specs.Tables.{CodeTable, Sources}
 use Rattle.unassigned.specs.Pass.{Figures}
 
 -- the columns are those of the graph of S, with so many names, and of the uses of U
-pub record PairColumns (S U : List ℕ) (count : ℕ) (g : FlowGraph) (names : DeclarationTable) (codes : CodeColumns) (uses : UseColumns) : Type 0 where
+pub record PairColumns (S U : List ℕ) (count : ℕ) (g : FlowGraph) (names : DeclarationTable) (codes : CodeColumns) (uses : Items) : Type 0 where
   pub charted : Charted S (nodes_of g) g.edges.first.now g.edges.second.now g.start.now
   pub named : Named S (nodes_of g) count names.node.now names.scope_end.now
   pub code_table : CodeTable (nodes_of g) codes
-  pub use_table : UsesNamed count uses
+  pub uses_named : NamedBelow count uses.words.now
   pub sources : Sources S U codes uses
 
 -- and the facts are those of the names
-pub record Given (S U : List ℕ) (g : FlowGraph) (names : DeclarationTable) (codes : CodeColumns) (uses : UseColumns) (facts : List NameFacts) : Type 0 where
+pub record Given (S U : List ℕ) (g : FlowGraph) (names : DeclarationTable) (codes : CodeColumns) (uses : Items) (facts : List NameFacts) : Type 0 where
   pub columns : PairColumns S U (length facts) g names codes uses
   pub facts_are : FactsOf (local_at S) (length facts) facts
 
 -- columns are such columns of some pair
-abbrev pub AnyGiven : FlowGraph → DeclarationTable → CodeColumns → UseColumns → List NameFacts → Type 0
+abbrev pub AnyGiven : FlowGraph → DeclarationTable → CodeColumns → Items → List NameFacts → Type 0
 AnyGiven g names codes uses facts = (S : List ℕ) × (U : List ℕ) × Given S U g names codes uses facts
 
 -- the findings were added to a list, and a mark figure for each local was written
-abbrev pub FindsGiven : FlowGraph → DeclarationTable → CodeColumns → UseColumns → List NameFacts → (old new : FindingList) (mark mark' : List ℕ) → Type 0
+abbrev pub FindsGiven : FlowGraph → DeclarationTable → CodeColumns → Items → List NameFacts → (old new : FindingList) (mark mark' : List ℕ) → Type 0
 FindsGiven g names codes uses facts old new mark mark' =
     (S U : List ℕ) → Given S U g names codes uses facts → AddsTo (words_of (findings S U)) old new × Figures S U (length facts) mark mark'

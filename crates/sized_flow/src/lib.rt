@@ -12,7 +12,8 @@ use facts::NameFacts;
 use live_steps::FlowGraph;
 use locals::{DeclarationTable, FindingList, PassTables, UseTable};
 use predecessors::UNLINKED;
-use tables::{CodeColumns, PairTables, UseColumns, make_tables};
+use sheet_parts::Items;
+use tables::{CodeColumns, PairTables, make_tables};
 use use_words::{NO_USE, PlacedUse};
 
 // A pair as the search for findings takes it: the graph, the names and the codes of the sheet's chart, and the uses.
@@ -21,7 +22,7 @@ pub struct ChartedPair<'a> {
     pub graph: FlowGraph<'a>,
     pub names: DeclarationTable<'a>,
     pub codes: CodeColumns<'a>,
-    pub uses: UseColumns<'a>,
+    pub uses: Items<'a>,
 }
 
 // The findings of a pair by its tables, with memory for walks over at most NODES nodes: fixed, since there is no heap.
