@@ -12,8 +12,7 @@ use Rattle.flow.specs.Admitted.{AdmittedUses}
 use Rattle.flow.proofs.Scopes.{crossed_admitted, sheet_words, sheet_spans}
 use Rattle.sheet_parts.specs.Sheets.{uses_of, judged_uses}
 use Rattle.crossing.specs.Tables.{names_before}
-use Rattle.chart.specs.Loan.{cells}
-use Rattle.scoped_findings.proofs.Uses.{as_supplied, as_replaced, scopes_fit_law, names_are, locals_known, searched, written}
+use Rattle.scoped_findings.proofs.Uses.{as_supplied, as_replaced, scopes_fit_law, names_are, locals_known, written}
 use Rattle.scoped_findings.proofs.find_scoped.Goals as goal
 use Rattle.scoped_findings.proofs.find_scoped.Goals.{Start, After-replace_crossings}
 
@@ -56,11 +55,6 @@ replaced c =
     let d = (goal.at.After-replace_crossings c).Start in
     as_replaced (S d) (U d) (C d) c.args.sheets.pair.admitted c.if-bare.false _ (ws d) _ (names d c.if-bare.false) (words_are d) (spans_are d) c.replace_crossings.ensures refl
 
-pub find_all-requires : goal.find_all-requires
-find_all-requires c =
-    let d = (goal.at.find_all-requires c).Start in
-    record { searchable = searched c.args.counts (cells c.args.chart.now) (supplied d c.if-bare.true) c.requires.searchable; long = c.requires.long }
-
 pub returns-then-bare-clause-written : goal.returns-then-bare-clause-written
 returns-then-bare-clause-written c = written (supplied (goal.at.returns-then-bare-clause-written c).Start c.if-bare.true) c.find_all.ensures.written
 
@@ -75,9 +69,6 @@ pub invariant_of-find_all : goal.invariant_of-find_all
 invariant_of-find_all c =
     let d = (goal.at.invariant_of-find_all c).Start in
     record { admitted = subst (AdmittedUses (S d)) (sym (replaced (goal.at.invariant_of-find_all c).After-replace_crossings)) (crossed_admitted (S d) (U d) (C d) c.args.sheets.pair.admitted) }
-
-pub find_all-requires-2 : goal.find_all-requires-2
-find_all-requires-2 c = record { searchable = searched c.args.counts (cells c.args.chart.now) (replaced (goal.at.find_all-requires-2 c).After-replace_crossings) c.requires.searchable; long = c.requires.long }
 
 pub returns-clause-written : goal.returns-clause-written
 returns-clause-written c = written (replaced (goal.at.returns-clause-written c).After-replace_crossings) c.find_all-2.ensures.written
