@@ -10,7 +10,7 @@ use Rattle.std.specs.Prelude.{Option, Some, None, Ok, Err}
 use Rattle.flow.specs.Sheet.{span_words}
 use Rattle.flow.specs.Refusals.{Verdict, one, number, sheet_verdict}
 use Rattle.flow.specs.Scopes.{crossed, scoped_verdict}
-use Rattle.flow.specs.Answers.{ChartAnswer, JudgeAnswer, told, tells, chart_told, judge_told, found_values, count_values}
+use Rattle.flow.specs.Answers.{JudgeAnswer, told, tells, judge_told, found_values, count_values}
 use Rattle.flow.specs.Graph.{node_count, graph}
 use Rattle.flow.specs.Reachable.{node_at, can_run, run, counts_of, chart}
 use Rattle.flow.specs.Findings.{findings}
@@ -22,10 +22,9 @@ use Rattle.flow.proofs.Few.{findings_few}
 use Rattle.flow.proofs.Scopes.{crossed_admitted, scoped_pair}
 use Rattle.answer_words.specs.Words.{or_none, run_node, counts_word, CountsFit, CountFields}
 use Rattle.chart.specs.Lent.{Lent}
-use Rattle.chart_call.specs.Promises.{ChartPromise}
 use Rattle.judge.specs.Lent.{JudgeLent, JudgePromise}
 use Rattle.judge.proofs.Promises.{told as judged_told}
-use Rattle.waldimu.specs.Promises.{ChartForC, JudgeForC}
+use Rattle.waldimu.specs.Promises.{JudgeForC}
 
 -- a refusal has no values
 refused_fits : (k : ℕ) → CountsFit (told k [])
@@ -78,9 +77,6 @@ run_fits S o = go (sheet_verdict false S) refl
     go (Err r) e = omega arith
     go (Ok tt) e = node_fits S e o
 
--- what a call promises of the columns as it is lent them, it promises of the columns that C lends
-pub chart_for_c : {S : List ℕ} {r : ℕ} {a : ChartAnswer} {l m : Lent} → ChartPromise S a l → (r ≡ counts_word (chart_told a)) × CountFields r (chart_told a) → l ≡ m → ChartForC S r m
-chart_for_c {S} {r} {a} p w e = subst (ChartForC S r) e (record { word = w.0 ∙ ap counts_word p.told; fields = subst (CountFields r) p.told w.1; answer = a; promise = p })
-
+-- what judge promises of the columns as it is lent them, it promises of the columns that C lends
 pub judge_for_c : {S U C : List ℕ} {r : ℕ} {a : JudgeAnswer} {l m : JudgeLent} → JudgePromise S U C a l → (r ≡ counts_word (judge_told a)) × CountFields r (judge_told a) → l ≡ m → JudgeForC S U C r m
 judge_for_c {S} {U} {C} {r} {a} p w e = subst (JudgeForC S U C r) e (record { word = w.0 ∙ ap counts_word (judged_told p); fields = subst (CountFields r) (judged_told p) w.1; answer = a; promise = p })

@@ -1,10 +1,8 @@
 -- `flowlist::of_input` meets its contract: the bytes that were read print what the whole file does.
 -- Assumes nothing.
-use mathlib.Core.Path.{sym}
 use mathlib.Core.List.{List}
 use Prim.Native.Nat.{ℕ}
 use lib.ListN.{length, take}
-use lib.Seq.{length-take-le}
 use Rattle.line_writer.specs.Output.{Printed}
 use Rattle.line_writer.proofs.Appended.{within}
 use Rattle.file_words.proofs.Split.{first_bytes_law}
@@ -18,9 +16,6 @@ whole array old read h p = record {
   fits = within p;
   prints = λ file e. rw (← first_bytes_law (length array) file h.holds, ← e, ← with_room (take read array) old h.room) p;
 }
-
-pub slice_bounds-listing-end : goal.slice_bounds-listing-end
-slice_bounds-listing-end c = sym (length-take-le c.args.read c.args.input.now c.requires.within)
 
 pub returns : goal.returns
 returns c = whole c.args.input.now c.args.output.now c.args.read c.requires c.listing.ensures

