@@ -9,12 +9,11 @@ use lib.ListN.{length, drop, replicate}
 use Rattle.flow.specs.Sheet.{kind_words, span_words, outer_end}
 use Rattle.flow.specs.Tree.{Block, tree}
 use Rattle.flow.specs.Graph.{Graph, Settings, new_node, outside, start_graph, inside, entered, build_block, close_into, graph}
-use Rattle.flow.specs.declared.Counts.{Counts}
 use Rattle.blocks.specs.Open.{open_at}
 use Rattle.cfg_edges.specs.Halves.{label_list}
 use Rattle.cfg_steps.specs.Columns.{Place, Cols, cols, graph_of, settings_of, painted, Did}
 use Rattle.cfg_steps.proofs.Ops.{drop_more}
-use Rattle.cfg.specs.Steps.{free, Started, Whole, Scoped, counted}
+use Rattle.cfg.specs.Steps.{free, Started, Whole, Scoped}
 
 pub six : (es : List ℕ) → 6 ≤ length es → Started es (replicate 6 free ++ drop 6 es)
 six [] h = absurd (omega arith)
@@ -38,15 +37,12 @@ module _ (e c n l e' : List ℕ) (s : Started e e') where
   unfolding settings_of label_list outside
   first_settings = refl
 
-  pub whole : (ks ss : List ℕ) (scope : ℕ) {t r : Place} {y z : Cols} → Scoped ks ss scope first (cols e' c n l) t y → Did ks (λ js. close_into 0) 0 t y r z → Whole ks ss scope (cols e c n l) (record { nodes = r.nodes; codes = r.codes; names = r.names }) z
+  pub whole : (ks ss : List ℕ) (scope : ℕ) {t r : Place} {y z : Cols} → Scoped ks ss scope first (cols e' c n l) t y → Did ks (λ js. close_into 0) 0 t y r z → Whole ks ss scope (cols e c n l) r z
   whole ks ss scope {t} {r} {y} {z} sc d =
       let g = sc.moved.grown in
       let k = d.grown in
       let six' : 6 ≤ r.nodes = omega (arith, d.good.exits) in
       record {
-        item = r.item;
-        cursor = r.cursor;
-        settings = r.settings;
         good = d.good;
         within = omega (arith, d.item, sc.moved.within);
         edges_past = k.edges_past ∙ drop_more {n = t.nodes} {m = r.nodes} y.edges e' k.nodes g.edges_past ∙ drop_more {n = 6} {m = r.nodes} e' e six' s.past;
@@ -69,11 +65,11 @@ module _ (e c n l e' : List ℕ) (s : Started e e') where
       G = graph_of ks ss first (cols e' c n l)
 
 -- the same of the columns that are found to hold that
-pub whole_as : {ks ss : List ℕ} {scope : ℕ} {x y y' : Cols} {q : Counts} → y ≡ y' → Whole ks ss scope x q y' → Whole ks ss scope x q y
+pub whole_as : {ks ss : List ℕ} {scope : ℕ} {x y y' : Cols} {q : Place} → y ≡ y' → Whole ks ss scope x q y' → Whole ks ss scope x q y
 whole_as {ks} {ss} {scope} {x} {q = q} e w = rw e w
 
 -- the graph of the definition, for a sheet's own kinds and spans
-pub is_graph : (S : List ℕ) {ks ss : List ℕ} {e : ℕ} {x y : Cols} {q : Counts} → ks ≡ kind_words S → ss ≡ span_words S → e ≡ outer_end S
-    → (w : Whole ks ss e x q y) → graph_of ks ss (counted q w.item w.cursor w.settings) y ≡ graph S
+pub is_graph : (S : List ℕ) {ks ss : List ℕ} {e : ℕ} {x y : Cols} {r : Place} → ks ≡ kind_words S → ss ≡ span_words S → e ≡ outer_end S
+    → Whole ks ss e x r y → graph_of ks ss r y ≡ graph S
 unfolding graph tree open_at
 is_graph S k s o w = w.built ∙ rw (k, s, o)

@@ -1,16 +1,14 @@
 -- What the builders take and give.
 -- Assumes nothing: these are definitions.
-use Rattle.std.specs.Prelude.{◌≡◌, Bool, List, [], ◌∷◌, ℕ, ◌+◌, ◌≤◌, ◌<◌, ◌^◌, length, get_or, take, drop, Option}
+use Rattle.std.specs.Prelude.{◌≡◌, Bool, List, [], ◌∷◌, ℕ, ◌+◌, ◌≤◌, ◌<◌, ◌^◌, length, get_or, take, drop}
 use Rattle.flow.specs.Sheet.{kind_of, scope_end_of}
 use Rattle.flow.specs.Tree.{Stmt, Open, done, no_more, in_front, outer, label_name, labels_of}
 use Rattle.flow.specs.Size.{stmt_nodes, block_nodes, arm_nodes}
 use Rattle.flow.specs.Graph.{exits, build_stmt, build_block, build_arms, inside, in_loop, entered, close_into, outside, start_graph}
 use Rattle.blocks.specs.Open.{open_at, Ender}
-use Rattle.flow.specs.declared.Counts.{Counts}
-use Rattle.block_settings.specs.declared.BlockSettings.{BlockSettings}
 use Rattle.if_builder.specs.declared.IfBuilder.{IfBuilder}
 use Rattle.std.specs.Borrow.{MutBor}
-use Rattle.cfg_steps.specs.declared.GraphBuilder.{GraphBuilder}
+use Rattle.cfg_steps.specs.declared.LentGraph.{LentGraph}
 use Rattle.cfg_steps.specs.Columns.{place, columns, Place, Cols, graph_of, settings_of, Good, Grown, LabelsFit}
 open exits use {End}
 
@@ -95,10 +93,10 @@ abbrev pub ArmBuilt : List ℕ → List ℕ → ℕ → IfBuilder → Place → 
 ArmBuilt ks ss join s b x s' r y = Armed ks ss join s.test s.falls b x s'.test s'.falls r y
 
 -- P holds between what a builder's graph was and what it is
-abbrev pub Between : (Place → Cols → Place → Cols → Type 0) → MutBor GraphBuilder → MutBor GraphBuilder → Type 0
+abbrev pub Between : (Place → Cols → Place → Cols → Type 0) → MutBor LentGraph → MutBor LentGraph → Type 0
 Between P b r = P (place b.now) (columns b.now) (place r.now) (columns r.now)
 
-abbrev pub ArmBetween : List ℕ → List ℕ → ℕ → IfBuilder → MutBor GraphBuilder → IfBuilder → MutBor GraphBuilder → Type 0
+abbrev pub ArmBetween : List ℕ → List ℕ → ℕ → IfBuilder → MutBor LentGraph → IfBuilder → MutBor LentGraph → Type 0
 ArmBetween ks ss join s b s' r = ArmBuilt ks ss join s (place b.now) (columns b.now) s' (place r.now) (columns r.now)
 
 -- the arms that follow the item that ends a block, and the last end
@@ -166,24 +164,17 @@ pub record Wide (x : Cols) : Type 0 where
 abbrev pub WholeRoom : List ℕ → Type 0
 WholeRoom ks = (ss : List ℕ) → length ss ≡ length ks → 6 + block_nodes (open_at ks ss 0).top.body ≤ 1600
 
--- a builder with these counts
-abbrev pub counted : Counts → ℕ → Option ℕ → BlockSettings → Place
-counted q i v st = record { item = i; nodes = q.nodes; codes = q.codes; names = q.names; cursor = v; settings = st }
-
--- the graph of the statement rules, whose counts are q; lengths, and what lies past the counts, are as they were. The builder ends at some item, current node and settings
-pub record Whole (ks ss : List ℕ) (e : ℕ) (x : Cols) (q : Counts) (y : Cols) : Type 0 where
-  pub item : ℕ
-  pub cursor : Option ℕ
-  pub settings : BlockSettings
-  pub good : Good (counted q item cursor settings) y
-  pub within : item ≤ length ks
-  pub edges_past : drop q.nodes y.edges ≡ drop q.nodes x.edges
-  pub codes_past : drop q.codes y.codes ≡ drop q.codes x.codes
-  pub names_past : drop q.names y.names ≡ drop q.names x.names
-  pub labels_past : drop q.nodes y.labels ≡ drop q.nodes x.labels
+-- the graph of the statement rules; lengths, and what lies past the counts, are as they were
+pub record Whole (ks ss : List ℕ) (e : ℕ) (x : Cols) (r : Place) (y : Cols) : Type 0 where
+  pub good : Good r y
+  pub within : r.item ≤ length ks
+  pub edges_past : drop r.nodes y.edges ≡ drop r.nodes x.edges
+  pub codes_past : drop r.codes y.codes ≡ drop r.codes x.codes
+  pub names_past : drop r.names y.names ≡ drop r.names x.names
+  pub labels_past : drop r.nodes y.labels ≡ drop r.nodes x.labels
   pub edges_length : length y.edges ≡ length x.edges
   pub codes_length : length y.codes ≡ length x.codes
   pub names_length : length y.names ≡ length x.names
   pub labels_length : length y.labels ≡ length x.labels
-  pub built : graph_of ks ss (counted q item cursor settings) y
+  pub built : graph_of ks ss r y
       ≡ close_into End (build_block (open_at ks ss 0).top.body (inside e (open_at ks ss 0).top.body outside start_graph) (entered (open_at ks ss 0).top.body start_graph))

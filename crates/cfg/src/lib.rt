@@ -10,8 +10,7 @@ ghost use Rattle.cfg_steps.specs.Columns.{cols, cols_at, place, columns, Kept, K
 ghost use Rattle.cfg.specs.Steps.{Sane, ForSpans, Stepped, Opened, Finished, Scoped, Looped, Arm, ArmBetween, Between, Chosen, AtBlock, InBlock, AtStmt, PastHead, AtEnd, AtArm, Started, Wide, WholeRoom, Whole};
 
 use block_settings::BlockSettings;
-use cfg_steps::{GraphBuilder, SheetBuilder};
-use flow::Counts;
+use cfg_steps::{GraphBuilder, LentGraph, SheetBuilder};
 use if_builder::IfBuilder;
 use kinds::{Kind, is_block_end, literal_truth};
 use loop_nodes::{LoopTargets, repeat_targets};
@@ -32,7 +31,7 @@ fn block(b: &mut SheetBuilder<'_, '_>)
     ensures kept { Keeps Kept b.old.graph b.new.graph }
     ensures built { ForSpans b.old.graph.now.kinds.now (λ ks ss. Between (Finished ks ss) b.old.graph b.new.graph) }
 {
-    while let Some(&word) = b.graph.kinds.get(b.graph.item) {
+    while let Some(&word) = b.graph.kinds.get(b.graph.at.item) {
         if is_block_end(word) {
             return;
         }
@@ -47,26 +46,26 @@ fn scoped_block(b: &mut SheetBuilder<'_, '_>, scope_end: u64)
     ensures kept { Keeps Kept b.old.graph b.new.graph }
     ensures built { ForSpans b.old.graph.now.kinds.now (λ ks ss. Between (Scoped ks ss scope_end) b.old.graph b.new.graph) }
 {
-    let outer = b.graph.settings;
-    b.graph.settings = outer.enter_scope(scope_end);
+    let outer = b.graph.at.settings;
+    b.graph.at.settings = outer.enter_scope(scope_end);
     b.enter_block();
     block(b);
-    b.graph.settings = b.graph.settings.return_to(outer);
+    b.graph.at.settings = b.graph.at.settings.return_to(outer);
 }
 
 // A loop's body: BREAK goes to its break target, CONTINUE and the body's end to its continue target.
 #[cycle(arm_arms_block_for_loop_if_stmt_loop_body_repeat_loop_scoped_block_stmt_while_loop)]
 fn loop_body(b: &mut SheetBuilder<'_, '_>, scope_end: u64, targets: LoopTargets)
     requires at_block { AtBlock b.old.graph.now.kinds.now scope_end (place b.old.graph.now) }
-    requires break_target_lt_nodes { (targets.break_target < b.old.graph.now.node_count) × (targets.continue_target < b.old.graph.now.node_count) }
+    requires break_target_lt_nodes { (targets.break_target < b.old.graph.now.at.nodes) × (targets.continue_target < b.old.graph.now.at.nodes) }
     ensures kept { Keeps Kept b.old.graph b.new.graph }
     ensures built { ForSpans b.old.graph.now.kinds.now (λ ks ss. Between (Looped ks ss scope_end targets.break_target targets.continue_target) b.old.graph b.new.graph) }
 {
-    let outer = b.graph.settings;
-    b.graph.settings = outer.enter_loop(targets);
+    let outer = b.graph.at.settings;
+    b.graph.at.settings = outer.enter_loop(targets);
     scoped_block(b, scope_end);
     b.graph.close_into(targets.continue_target);
-    b.graph.settings = b.graph.settings.return_to(outer);
+    b.graph.at.settings = b.graph.at.settings.return_to(outer);
 }
 
 // The WHILE of item i.
@@ -78,14 +77,14 @@ fn while_loop(b: &mut SheetBuilder<'_, '_>, i: usize)
 {
     let argument = b.graph.kinds[i] / ARGUMENT;
     let truth = literal_truth(argument % SCOPE_END);
-    let head = b.graph.node_count;
+    let head = b.graph.at.nodes;
     b.while_head(i, truth);
     let targets = LoopTargets {
         break_target: head + 1,
         continue_target: head,
     };
     loop_body(b, argument / SCOPE_END, targets);
-    b.graph.item = past(b.graph.item, b.graph.kinds.len());
+    b.graph.at.item = past(b.graph.at.item, b.graph.kinds.len());
     b.loop_end(head, truth);
 }
 
@@ -98,11 +97,11 @@ fn repeat_loop(b: &mut SheetBuilder<'_, '_>, i: usize)
 {
     let argument = b.graph.kinds[i] / ARGUMENT;
     let truth = literal_truth(argument % SCOPE_END);
-    let body = b.graph.node_count;
+    let body = b.graph.at.nodes;
     b.repeat_head();
     loop_body(b, argument / SCOPE_END, repeat_targets(body));
-    let end = b.graph.item;
-    b.graph.item = past(end, b.graph.kinds.len());
+    let end = b.graph.at.item;
+    b.graph.at.item = past(end, b.graph.kinds.len());
     b.repeat_end(end, body, truth);
 }
 
@@ -114,14 +113,14 @@ fn for_loop(b: &mut SheetBuilder<'_, '_>, i: usize)
     ensures built { ForSpans b.old.graph.now.kinds.now (λ ks ss. Between (Opened ks ss i) b.old.graph b.new.graph) }
 {
     let scope_end = b.graph.kinds[i] / ARGUMENT / SCOPE_END;
-    let head = b.graph.node_count + 1;
+    let head = b.graph.at.nodes + 1;
     b.for_head(i);
     let targets = LoopTargets {
         break_target: head + 1,
         continue_target: head,
     };
     loop_body(b, scope_end, targets);
-    b.graph.item = past(b.graph.item, b.graph.kinds.len());
+    b.graph.at.item = past(b.graph.at.item, b.graph.kinds.len());
     b.loop_end(head, None);
 }
 
@@ -133,13 +132,13 @@ fn if_stmt(b: &mut SheetBuilder<'_, '_>, i: usize)
     ensures built { ForSpans b.old.graph.now.kinds.now (λ ks ss. Between (Opened ks ss i) b.old.graph b.new.graph) }
 {
     let scope_end = b.graph.kinds[i] / ARGUMENT / SCOPE_END;
-    let test = b.graph.node_count;
+    let test = b.graph.at.nodes;
     let join = test + 1;
     b.code_and_after(i);
     scoped_block(b, scope_end);
     b.graph.close_into(join);
     arms(b, test, join);
-    b.graph.cursor = Some(join);
+    b.graph.at.cursor = Some(join);
 }
 
 // Whether ELSEIF or ELSE stands at a place of the sheet.
@@ -157,15 +156,15 @@ fn arm_follows(kinds: &[u64], at: usize) -> bool
 #[cycle(arm_arms_block_for_loop_if_stmt_loop_body_repeat_loop_scoped_block_stmt_while_loop)]
 fn arms(b: &mut SheetBuilder<'_, '_>, test: usize, join: usize)
     requires at_end { AtEnd b.old.graph.now.kinds.now (place b.old.graph.now) }
-    requires test_lt_nodes { (test < b.old.graph.now.node_count) × (join < b.old.graph.now.node_count) }
+    requires test_lt_nodes { (test < b.old.graph.now.at.nodes) × (join < b.old.graph.now.at.nodes) }
     ensures kept { Keeps Kept b.old.graph b.new.graph }
     ensures built { ForSpans b.old.graph.now.kinds.now (λ ks ss. Between (Chosen ks ss test join true) b.old.graph b.new.graph) }
 {
     let mut s = IfBuilder { test, falls: true };
-    while arm_follows(b.graph.kinds, b.graph.item) {
+    while arm_follows(b.graph.kinds, b.graph.at.item) {
         arm(b, &mut s, join);
     }
-    b.graph.item = past(b.graph.item, b.graph.kinds.len());
+    b.graph.at.item = past(b.graph.at.item, b.graph.kinds.len());
     b.arms_end(s.test, join, s.falls);
 }
 
@@ -173,22 +172,22 @@ fn arms(b: &mut SheetBuilder<'_, '_>, test: usize, join: usize)
 #[cycle(arm_arms_block_for_loop_if_stmt_loop_body_repeat_loop_scoped_block_stmt_while_loop)]
 fn arm(b: &mut SheetBuilder<'_, '_>, s: &mut IfBuilder, join: usize)
     requires at_arm { AtArm b.old.graph.now.kinds.now (place b.old.graph.now) }
-    requires test_lt_nodes { (s.old.test < b.old.graph.now.node_count) × (join < b.old.graph.now.node_count) }
+    requires test_lt_nodes { (s.old.test < b.old.graph.now.at.nodes) × (join < b.old.graph.now.at.nodes) }
     ensures kept { Keeps Kept b.old.graph b.new.graph }
-    ensures built { (b.old.graph.now.item < b.new.graph.now.item) × ForSpans b.old.graph.now.kinds.now (λ ks ss. ArmBetween ks ss join s.old b.old.graph s.new b.new.graph) }
+    ensures built { (b.old.graph.now.at.item < b.new.graph.now.at.item) × ForSpans b.old.graph.now.kinds.now (λ ks ss. ArmBetween ks ss join s.old b.old.graph s.new b.new.graph) }
 {
-    let at = b.graph.item;
+    let at = b.graph.at.item;
     let word = b.graph.kinds[at];
     let scope_end = word / ARGUMENT / SCOPE_END;
-    b.graph.item = at + 1;
+    b.graph.at.item = at + 1;
     if Kind::of(word) == Some(Kind::ElseIf) {
-        let test = b.graph.node_count;
+        let test = b.graph.at.nodes;
         b.arm_test(at, s.test);
         scoped_block(b, scope_end);
         b.graph.close_into(join);
         s.past_elseif(test);
     } else {
-        b.graph.cursor = Some(s.test);
+        b.graph.at.cursor = Some(s.test);
         scoped_block(b, scope_end);
         b.graph.close_into(join);
         s.past_else();
@@ -202,13 +201,13 @@ fn stmt(b: &mut SheetBuilder<'_, '_>)
     ensures kept { Keeps Kept b.old.graph b.new.graph }
     ensures built { ForSpans b.old.graph.now.kinds.now (λ ks ss. Between (Stepped ks ss) b.old.graph b.new.graph) }
 {
-    let i = b.graph.item;
+    let i = b.graph.at.item;
     let word = b.graph.kinds[i];
-    b.graph.item = i + 1;
+    b.graph.at.item = i + 1;
     match Kind::of(word) {
         Some(Kind::Do) => {
             scoped_block(b, word / ARGUMENT / SCOPE_END);
-            b.graph.item = past(b.graph.item, b.graph.kinds.len());
+            b.graph.at.item = past(b.graph.at.item, b.graph.kinds.len());
         }
         Some(Kind::While) => while_loop(b, i),
         Some(Kind::Repeat) => repeat_loop(b, i),
@@ -234,35 +233,33 @@ pub fn of_block(
     names: &mut [u64],
     labels: &mut [u64],
     scope_end: u64,
-) -> Counts
+) -> GraphBuilder
     requires { Sane kinds.now × Wide (cols edges.old codes.old names.old labels.old) × (scope_end < 4294967296) × WholeRoom kinds.now }
     ensures { ForSpans kinds.now (λ ks ss. Whole ks ss scope_end (cols_at held edges codes names labels) result (cols_at left edges codes names labels)) }
 {
     start_nodes(edges);
-    let mut graph = GraphBuilder {
+    let mut graph = LentGraph {
         kinds,
         edges,
         codes,
         names,
         labels,
-        item: 0,
-        node_count: exit::START_NODES,
-        code_count: 0,
-        name_count: 0,
-        cursor: Some(exit::ENTRY),
-        settings: BlockSettings {
-            labels: 0,
-            scope_end: 0,
-            break_target: exit::BREAK,
-            continue_target: exit::END,
+        at: GraphBuilder {
+            item: 0,
+            nodes: exit::START_NODES,
+            codes: 0,
+            names: 0,
+            cursor: Some(exit::ENTRY),
+            settings: BlockSettings {
+                labels: 0,
+                scope_end: 0,
+                break_target: exit::BREAK,
+                continue_target: exit::END,
+            },
         },
     };
     let mut b = SheetBuilder { graph: &mut graph };
     scoped_block(&mut b, scope_end);
     b.graph.close_into(exit::END);
-    Counts {
-        nodes: b.graph.node_count,
-        codes: b.graph.code_count,
-        names: b.graph.name_count,
-    }
+    b.graph.at
 }

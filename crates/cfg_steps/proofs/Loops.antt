@@ -66,6 +66,12 @@ enter_never (Some false) g e = refl
 enter_never (Some true) g e = absurd (let z : ◌≡◌ {A = ℕ} 1 0 = ap (λ (b : Bool). cond b 1 0) e in omega arith)
 enter_never None g e = absurd (let z : ◌≡◌ {A = ℕ} 1 0 = ap (λ (b : Bool). cond b 1 0) e in omega arith)
 
+-- the current node is overwritten
+pub moved_twice : (u v : ℕ) (w : Bool) (a b : ℕ) (g : Graph) → set_current v (cond w (connect a b (set_current u g)) (set_current u g)) ≡ set_current v (cond w (connect a b g) g)
+unfolding set_current connect
+moved_twice u v true a b g = refl
+moved_twice u v false a b g = refl
+
 -- a span and edges leave each other alone
 span_last : (t : Option Bool) (body s : ℕ) (g : Graph)
     → set_current (body + 2) (unless_false t (connect (body + 1) (body + 2)) (unless_true t (connect (body + 1) body) (record_code s (body + 1) g))) ≡ repeat_end t body s g

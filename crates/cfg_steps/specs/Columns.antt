@@ -11,6 +11,7 @@ use Rattle.blocks.specs.Open.{labels_at}
 use Rattle.cfg_edges.specs.Halves.{lo, hi, label_list}
 use Rattle.block_settings.specs.declared.BlockSettings.{BlockSettings}
 use Rattle.cfg_steps.specs.declared.GraphBuilder.{GraphBuilder}
+use Rattle.cfg_steps.specs.declared.LentGraph.{LentGraph}
 open exits use {ReturnValue, ReturnEmpty, Error}
 open kinds use {END, UNTIL, NAME, LABEL, BREAK, CONTINUE, RETURN, CALL, EMPTY}
 
@@ -28,19 +29,14 @@ abbrev pub cols_at : (Column → List ℕ) → Column → Column → Column → 
 cols_at at e c n l = cols (at e) (at c) (at n) (at l)
 
 -- the builder's place in the sheet, its counts, its current node and its settings
-pub record Place : Type 0 where
-  pub item : ℕ
-  pub nodes : ℕ
-  pub codes : ℕ
-  pub names : ℕ
-  pub cursor : Option ℕ
-  pub settings : BlockSettings
+abbrev pub Place : Type 0
+Place = GraphBuilder
 
--- what a builder says of itself, and what its columns hold
-abbrev pub place : GraphBuilder → Place
-place b = record { item = b.item; nodes = b.node_count; codes = b.code_count; names = b.name_count; cursor = b.cursor; settings = b.settings }
+-- what a graph that is being built says of itself, and what its columns hold
+abbrev pub place : LentGraph → Place
+place b = b.at
 
-abbrev pub columns : GraphBuilder → Cols
+abbrev pub columns : LentGraph → Cols
 columns b = cols b.edges.now b.codes.now b.names.now b.labels.now
 
 -- the current node's number, absent where there is none
@@ -146,15 +142,15 @@ pub record Did (ks : List ℕ) (f : List ℕ → Graph → Graph) (n : ℕ) (b :
   pub built : (ss : List ℕ) → graph_of ks ss r y ≡ f ss (graph_of ks ss b x)
 
 -- a call that leaves b as r does that operation, if the columns are good
-abbrev pub Does : List ℕ → (List ℕ → Graph → Graph) → ℕ → GraphBuilder → GraphBuilder → Type 0
+abbrev pub Does : List ℕ → (List ℕ → Graph → Graph) → ℕ → LentGraph → LentGraph → Type 0
 Does ks f n b r = Good (place b) (columns b) → Did ks f n (place b) (columns b) (place r) (columns r)
 
 -- the same with the span of item i, which gives its node a code start (true) or none (false)
-abbrev pub DoesCode : List ℕ → ℕ → Bool → (ℕ → Graph → Graph) → ℕ → GraphBuilder → GraphBuilder → Type 0
+abbrev pub DoesCode : List ℕ → ℕ → Bool → (ℕ → Graph → Graph) → ℕ → LentGraph → LentGraph → Type 0
 DoesCode ks i starts f n b r = Good (place b) (columns b) → has_start (get_or ks i 0) ≡ starts → Did ks (λ ss. f (get_or ss i 0)) n (place b) (columns b) (place r) (columns r)
 
 -- a call that leaves b as r leaves good columns good
-abbrev pub StaysGood : GraphBuilder → GraphBuilder → Type 0
+abbrev pub StaysGood : LentGraph → LentGraph → Type 0
 StaysGood b r = Good (place b) (columns b) → Good (place r) (columns r)
 
 -- "then condition to body unless true, to after unless false. UNTIL records its span at condition": the three nodes stand in a row
@@ -164,29 +160,29 @@ repeat_end t body s g = set_current (body + 2) (record_code s (body + 1) (unless
 -- ---- which columns a call writes: the others are as they were, and each is still the column that was lent
 
 -- the sheet, and the columns by name
-abbrev pub Kept : GraphBuilder → GraphBuilder → Type 0
+abbrev pub Kept : LentGraph → LentGraph → Type 0
 Kept b r = (r.kinds ≡ b.kinds) × (r.edges.ghost_name ≡ b.edges.ghost_name) × (r.codes.ghost_name ≡ b.codes.ghost_name) × (r.names.ghost_name ≡ b.names.ghost_name) × (r.labels.ghost_name ≡ b.labels.ghost_name)
 
-abbrev pub EdgesOnly : GraphBuilder → GraphBuilder → Type 0
+abbrev pub EdgesOnly : LentGraph → LentGraph → Type 0
 EdgesOnly b r = (r.kinds ≡ b.kinds) × (r.edges.ghost_name ≡ b.edges.ghost_name) × (r.codes ≡ b.codes) × (r.names ≡ b.names) × (r.labels ≡ b.labels)
 
-abbrev pub CodesOnly : GraphBuilder → GraphBuilder → Type 0
+abbrev pub CodesOnly : LentGraph → LentGraph → Type 0
 CodesOnly b r = (r.kinds ≡ b.kinds) × (r.edges ≡ b.edges) × (r.codes.ghost_name ≡ b.codes.ghost_name) × (r.names ≡ b.names) × (r.labels ≡ b.labels)
 
-abbrev pub NamesOnly : GraphBuilder → GraphBuilder → Type 0
+abbrev pub NamesOnly : LentGraph → LentGraph → Type 0
 NamesOnly b r = (r.kinds ≡ b.kinds) × (r.edges ≡ b.edges) × (r.codes ≡ b.codes) × (r.names.ghost_name ≡ b.names.ghost_name) × (r.labels ≡ b.labels)
 
-abbrev pub EdgesAndCodes : GraphBuilder → GraphBuilder → Type 0
+abbrev pub EdgesAndCodes : LentGraph → LentGraph → Type 0
 EdgesAndCodes b r = (r.kinds ≡ b.kinds) × (r.edges.ghost_name ≡ b.edges.ghost_name) × (r.codes.ghost_name ≡ b.codes.ghost_name) × (r.names ≡ b.names) × (r.labels ≡ b.labels)
 
-abbrev pub EdgesAndLabels : GraphBuilder → GraphBuilder → Type 0
+abbrev pub EdgesAndLabels : LentGraph → LentGraph → Type 0
 EdgesAndLabels b r = (r.kinds ≡ b.kinds) × (r.edges.ghost_name ≡ b.edges.ghost_name) × (r.codes ≡ b.codes) × (r.names ≡ b.names) × (r.labels.ghost_name ≡ b.labels.ghost_name)
 
-abbrev pub LabelsKept : GraphBuilder → GraphBuilder → Type 0
+abbrev pub LabelsKept : LentGraph → LentGraph → Type 0
 LabelsKept b r = (r.kinds ≡ b.kinds) × (r.edges.ghost_name ≡ b.edges.ghost_name) × (r.codes.ghost_name ≡ b.codes.ghost_name) × (r.names.ghost_name ≡ b.names.ghost_name) × (r.labels ≡ b.labels)
 
 -- the same graph is held on to, and K says what becomes of it
-abbrev pub Keeps : (GraphBuilder → GraphBuilder → Type 0) → MutBor GraphBuilder → MutBor GraphBuilder → Type 0
+abbrev pub Keeps : (LentGraph → LentGraph → Type 0) → MutBor LentGraph → MutBor LentGraph → Type 0
 Keeps K b r = K b.now r.now × (r.ghost_name ≡ b.ghost_name)
 
 -- ---- the labels standing directly in a block
@@ -212,15 +208,15 @@ pub record Entered (ks as' : List ℕ) (b : Place) (x : Cols) (r : Place) (y : C
   pub built : (ss : List ℕ) → graph_of ks ss r y ≡ new_nodes as' (graph_of ks ss b x)
 
 -- a call that leaves b as r enters the names as', if the columns are good
-abbrev pub Enters : List ℕ → List ℕ → GraphBuilder → GraphBuilder → Type 0
+abbrev pub Enters : List ℕ → List ℕ → LentGraph → LentGraph → Type 0
 Enters ks as' b r = Good (place b) (columns b) → Entered ks as' (place b) (columns b) (place r) (columns r)
 
 -- a call that leaves b as r enters the block at b's item, and has room for that
-abbrev pub EntersBlock : GraphBuilder → GraphBuilder → Type 0
-EntersBlock b r = (ss : List ℕ) → length ss ≡ length b.kinds.now → Enters b.kinds.now (labels_at b.kinds.now ss b.item) b r
+abbrev pub EntersBlock : LentGraph → LentGraph → Type 0
+EntersBlock b r = (ss : List ℕ) → length ss ≡ length b.kinds.now → Enters b.kinds.now (labels_at b.kinds.now ss b.at.item) b r
 
-abbrev pub LabelsRoom : GraphBuilder → Type 0
-LabelsRoom b = (ss : List ℕ) → length ss ≡ length b.kinds.now → b.node_count + length (labels_at b.kinds.now ss b.item) ≤ 1600
+abbrev pub LabelsRoom : LentGraph → Type 0
+LabelsRoom b = (ss : List ℕ) → length ss ≡ length b.kinds.now → b.at.nodes + length (labels_at b.kinds.now ss b.at.item) ≤ 1600
 
 -- ---- statements of one item
 
@@ -237,6 +233,6 @@ abbrev pub simple_made : ℕ → ℕ
 simple_made k = cond (member k (NAME ∷ LABEL ∷ EMPTY ∷ [])) 0 1
 
 -- a call that leaves b as r does the statement of the one item i, whose word is w
-abbrev pub DoesSimple : List ℕ → ℕ → ℕ → GraphBuilder → GraphBuilder → Type 0
+abbrev pub DoesSimple : List ℕ → ℕ → ℕ → LentGraph → LentGraph → Type 0
 DoesSimple ks i w b r =
     get_or ks i 0 ≡ w → Did ks (λ ss. simple_stmt (kind_of w) (argument_of w) (get_or ss i 0) (settings_of (place b) (columns b))) (simple_made (kind_of w)) (place b) (columns b) (place r) (columns r)

@@ -11,9 +11,10 @@ use Rattle.flow.specs.Graph.{Graph, node_count, graph}
 use Rattle.flow.specs.Reachable.{reachable, counts_of}
 use Rattle.flow.proofs.Flags.{reachable_length}
 use Rattle.cfg_edges.specs.Halves.{lo, hi}
+use Rattle.cfg_steps.specs.declared.GraphBuilder.{GraphBuilder}
 use Rattle.cfg_steps.specs.Columns.{cols, node_of_name, name_item, painted, graph_of}
 use Rattle.cfg_steps.proofs.Ops.{painted_length}
-use Rattle.cfg.specs.Steps.{Sane, Wide as WideWords, WholeRoom, Whole, counted}
+use Rattle.cfg.specs.Steps.{Sane, Wide as WideWords, WholeRoom, Whole}
 use Rattle.cfg.proofs.Sanity.{sane, whole_room}
 use Rattle.cfg.proofs.Sheets.{is_graph}
 use Rattle.reach.specs.Columns.{Flags}
@@ -38,8 +39,8 @@ build_asks {S} edges codes names labels p a b c d = (
   subst (λ (k : List ℕ). WholeRoom k) (sym p.kinds) (whole_room S p.admitted),
 )
 
-module _ {S ks ss : List ℕ} {e : ℕ} (p : PartsOf S ks ss e) {f cn nn r f' cn' nn' r' : List ℕ} {b : Counts} (w : Whole ks ss e (cols f cn nn r) b (cols f' cn' nn' r')) where
-  is_built : graph_of ks ss (counted b w.item w.cursor w.settings) (cols f' cn' nn' r') ≡ graph S
+module _ {S ks ss : List ℕ} {e : ℕ} (p : PartsOf S ks ss e) {f cn nn r f' cn' nn' r' : List ℕ} {b : GraphBuilder} (w : Whole ks ss e (cols f cn nn r) b (cols f' cn' nn' r')) where
+  is_built : graph_of ks ss b (cols f' cn' nn' r') ≡ graph S
   is_built = is_graph S p.kinds p.spans p.outer w
 
   -- what the code and name words name

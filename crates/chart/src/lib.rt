@@ -126,7 +126,7 @@ fn write_chart(kinds: &[u64], spans: &[u64], scope_end: u64, chart: &mut ChartCo
     ensures charted { ChartedOf kinds.now spans.now scope_end result (chart_lent chart.old chart.new) }
     ensures same { SameColumns chart.old chart.new }
 {
-    let counts = of_block(
+    let built = of_block(
         kinds,
         chart.first,
         chart.code_node,
@@ -134,6 +134,11 @@ fn write_chart(kinds: &[u64], spans: &[u64], scope_end: u64, chart: &mut ChartCo
         chart.reachable,
         scope_end,
     );
+    let counts = Counts {
+        nodes: built.nodes,
+        codes: built.codes,
+        names: built.names,
+    };
     split_nodes(
         &mut chart.first[..counts.nodes],
         &mut chart.second[..counts.nodes],

@@ -17,6 +17,7 @@ use native.Mathlib.Omega.{arith}
 use mathlib.Core.Path.{◌≡◌, refl, sym, ap, ◌∙◌}
 use Prim.Native.Nat.{◌+◌}
 use Rattle.block_settings.specs.declared.BlockSettings.{BlockSettings}
+use Rattle.block_settings.specs.Settings.{loop_settings}
 use Rattle.cfg.proofs.+arm_arms_block_for_loop_if_stmt_loop_body_repeat_loop_scoped_block_stmt_while_loop.Goals as goal
 use Rattle.cfg.proofs.+arm_arms_block_for_loop_if_stmt_loop_body_repeat_loop_scoped_block_stmt_while_loop.Goals.{stmt-in_default-via-in-Some+in_default, stmt-in_default-via-in_default}
 use Rattle.std.proofs.Common.{rules}
@@ -84,7 +85,7 @@ repeat_loop-loop_body-requires t c =
 
 pub repeat_loop-repeat_end-requires : goal.repeat_loop-repeat_end-requires
 repeat_loop-repeat_end-requires t c =
-    let ca = closed_at c.args.b.now.graph.now.kinds.now c.args.b.now.graph.now.kinds.now refl c.loop_body.new.b.graph.now.item (open_at c.args.b.now.graph.now.kinds.now c.args.b.now.graph.now.kinds.now (c.args.i + 1)) ((rw c.repeat_head.ensures.kept.0.0 at c.loop_body.ensures.built) c.args.b.now.graph.now.kinds.now refl).ended (((rw c.repeat_head.ensures.kept.0.0 at c.loop_body.ensures.built) c.args.b.now.graph.now.kinds.now refl).shut ∙ ap (λ j. bare (open_at c.args.b.now.graph.now.kinds.now c.args.b.now.graph.now.kinds.now j)) ((c.repeat_head.ensures.built c.args.b.now.graph.now.kinds.now c.args.b.now.good).item ∙ c.requires.1)) (c.requires.0.tidy c.args.b.now.graph.now.kinds.now refl _ c.requires.3 (omega arith) (omega arith)) (c.requires.0.closed c.args.b.now.graph.now.kinds.now refl _ c.requires.3 c.requires.4) in
+    let ca = closed_at c.args.b.now.graph.now.kinds.now c.args.b.now.graph.now.kinds.now refl c.loop_body.new.b.graph.now.at.item (open_at c.args.b.now.graph.now.kinds.now c.args.b.now.graph.now.kinds.now (c.args.i + 1)) ((rw c.repeat_head.ensures.kept.0.0 at c.loop_body.ensures.built) c.args.b.now.graph.now.kinds.now refl).ended (((rw c.repeat_head.ensures.kept.0.0 at c.loop_body.ensures.built) c.args.b.now.graph.now.kinds.now refl).shut ∙ ap (λ j. bare (open_at c.args.b.now.graph.now.kinds.now c.args.b.now.graph.now.kinds.now j)) ((c.repeat_head.ensures.built c.args.b.now.graph.now.kinds.now c.args.b.now.good).item ∙ c.requires.1)) (c.requires.0.tidy c.args.b.now.graph.now.kinds.now refl _ c.requires.3 (omega arith) (omega arith)) (c.requires.0.closed c.args.b.now.graph.now.kinds.now refl _ c.requires.3 c.requires.4) in
     let bd = ((rw c.repeat_head.ensures.kept.0.0 at c.loop_body.ensures.built) c.args.b.now.graph.now.kinds.now refl).moved in
     let p = rw (c.loop_body.ensures.kept.0.0, c.repeat_head.ensures.kept.0.0) at c.past-b.ensures in
     record { body_bound = (omega (arith, (c.repeat_head.ensures.built c.args.b.now.graph.now.kinds.now c.args.b.now.good).nodes, bd.grown.nodes), omega (arith, bd.good.codes, p.2 ca.0), omega (arith, p.2 ca.0)) }
@@ -92,10 +93,10 @@ repeat_loop-repeat_end-requires t c =
 pub repeat_loop-returns-clause-built : goal.repeat_loop-returns-clause-built
 repeat_loop-returns-clause-built t c =
     λ ss e.
-    let ca = closed_at c.args.b.now.graph.now.kinds.now ss e c.loop_body.new.b.graph.now.item (open_at c.args.b.now.graph.now.kinds.now ss (c.args.i + 1)) ((rw c.repeat_head.ensures.kept.0.0 at c.loop_body.ensures.built) ss e).ended (((rw c.repeat_head.ensures.kept.0.0 at c.loop_body.ensures.built) ss e).shut ∙ ap (λ j. bare (open_at c.args.b.now.graph.now.kinds.now ss j)) ((c.repeat_head.ensures.built c.args.b.now.graph.now.kinds.now c.args.b.now.good).item ∙ c.requires.1)) (c.requires.0.tidy ss e _ c.requires.3 (omega arith) (omega arith)) (c.requires.0.closed ss e _ c.requires.3 c.requires.4) in
+    let ca = closed_at c.args.b.now.graph.now.kinds.now ss e c.loop_body.new.b.graph.now.at.item (open_at c.args.b.now.graph.now.kinds.now ss (c.args.i + 1)) ((rw c.repeat_head.ensures.kept.0.0 at c.loop_body.ensures.built) ss e).ended (((rw c.repeat_head.ensures.kept.0.0 at c.loop_body.ensures.built) ss e).shut ∙ ap (λ j. bare (open_at c.args.b.now.graph.now.kinds.now ss j)) ((c.repeat_head.ensures.built c.args.b.now.graph.now.kinds.now c.args.b.now.good).item ∙ c.requires.1)) (c.requires.0.tidy ss e _ c.requires.3 (omega arith) (omega arith)) (c.requires.0.closed ss e _ c.requires.3 c.requires.4) in
     let p = rw (c.loop_body.ensures.kept.0.0, c.repeat_head.ensures.kept.0.0) at c.past-b.ensures in
     let g = good_item c.past-b.result p.0 (omega (arith, p.1, c.requires.0.few)) c.loop_body.new.b.good in
-    repeat_opened c.args.b.now.graph.now.kinds.now ss e c.requires.0.few c.args.i c.requires.3 _ _ _ c.requires.4 c.literal_truth-truth.ensures refl c.requires.1 c.args.b.now.good (c.requires.0.tidy ss e _ c.requires.3 (omega arith) (omega arith)) (c.repeat_head.ensures.built c.args.b.now.graph.now.kinds.now c.args.b.now.good) (looped_to c.repeat_targets.ensures ((rw c.repeat_head.ensures.kept.0.0 at c.loop_body.ensures.built) ss e)) p.2 p.3 p.1 p.0 ca.2 (c.repeat_end.ensures.built c.args.b.now.graph.now.kinds.now g (close_starts (get_or c.args.b.now.graph.now.kinds.now c.loop_body.new.b.graph.now.item 0) ca.1))
+    repeat_opened c.args.b.now.graph.now.kinds.now ss e c.requires.0.few c.args.i c.requires.3 _ _ _ c.requires.4 c.literal_truth-truth.ensures refl c.requires.1 c.args.b.now.good (c.requires.0.tidy ss e _ c.requires.3 (omega arith) (omega arith)) (c.repeat_head.ensures.built c.args.b.now.graph.now.kinds.now c.args.b.now.good) (looped_to c.repeat_targets.ensures ((rw c.repeat_head.ensures.kept.0.0 at c.loop_body.ensures.built) ss e)) p.2 p.3 p.1 p.0 ca.2 (c.repeat_end.ensures.built c.args.b.now.graph.now.kinds.now g (close_starts (get_or c.args.b.now.graph.now.kinds.now c.loop_body.new.b.graph.now.at.item 0) ca.1))
 
 -- ---- if_stmt
 
@@ -134,12 +135,12 @@ if_stmt-invariant_of-b-2 t c =
     let sc = ((rw c.code_and_after.ensures.kept.0.0 at c.scoped_block.ensures.built) c.args.b.now.graph.now.kinds.now refl).moved in
     let cl = c.close_into.ensures.built c.args.b.now.graph.now.kinds.now c.scoped_block.new.b.good in
     let ch = ((rw (c.close_into.ensures.kept.0, c.scoped_block.ensures.kept.0.0, c.code_and_after.ensures.kept.0.0) at c.arms.ensures.built) c.args.b.now.graph.now.kinds.now refl).moved in
-    (tt, (good_cursor _ (omega (arith, hd.nodes, sc.grown.nodes, cl.nodes, ch.grown.nodes)) c.arms.new.b.good, tt))
+    ((tt, tt), (good_cursor _ (omega (arith, hd.nodes, sc.grown.nodes, cl.nodes, ch.grown.nodes)) c.arms.new.b.good, tt))
 
 -- ---- scoped_block
 
 pub scoped_block-enter_block-requires-clause-room : goal.scoped_block-enter_block-requires-clause-room
-scoped_block-enter_block-requires-clause-room t c = λ ss e. omega (arith, c.requires.2 ss e, labels_inside (open_at c.args.b.now.graph.now.kinds.now ss c.args.b.now.graph.now.item).top.body)
+scoped_block-enter_block-requires-clause-room t c = λ ss e. omega (arith, c.requires.2 ss e, labels_inside (open_at c.args.b.now.graph.now.kinds.now ss c.args.b.now.graph.now.at.item).top.body)
 
 pub scoped_block-returns-clause-built : goal.scoped_block-returns-clause-built
 scoped_block-returns-clause-built t c =
@@ -156,7 +157,7 @@ loop_body-invariant_of-b-2 t c =
     let ok = c.args.b.now.good in
     let s = (c.scoped_block.ensures.built c.args.b.now.graph.now.kinds.now refl).moved in
     let d = c.close_into.ensures.built c.args.b.now.graph.now.kinds.now c.scoped_block.new.b.good in
-    record { good = rw c.return_to-b.ensures (good_within c.args.b.now.graph.now.settings (omega (arith, d.labels, s.labels, ap (λ (st : BlockSettings). st.labels) c.enter_loop-b.ensures)) ok.scope_end (omega (arith, ok.break_target, s.grown.nodes, d.nodes)) (omega (arith, ok.continue_target, s.grown.nodes, d.nodes)) d.good) }
+    record { good = rw c.return_to-b.ensures (good_within c.args.b.now.graph.now.at.settings (omega (arith, d.labels, s.labels, ap (λ (st : BlockSettings). st.labels) c.enter_loop-b.ensures)) ok.scope_end (omega (arith, ok.break_target, s.grown.nodes, d.nodes)) (omega (arith, ok.continue_target, s.grown.nodes, d.nodes)) d.good) }
 
 -- ---- block
 
@@ -210,19 +211,19 @@ arms-returns-clause-built t c =
 
 pub arm-arm_test-requires : goal.arm-arm_test-requires
 arm-arm_test-requires t c =
-    let k : kind_of (get_or c.args.b.now.graph.now.kinds.now c.args.b.now.graph.now.item 0) ≡ 6 = search rules in
+    let k : kind_of (get_or c.args.b.now.graph.now.kinds.now c.args.b.now.graph.now.at.item 0) ≡ 6 = search rules in
     record { nodes_bound = (omega (arith, elseif_room c.args.b.now.graph.now.kinds.now c.args.b.now.graph.now.kinds.now refl (place c.args.b.now.graph.now) c.requires.at_arm.1 c.requires.at_arm.3 k), omega (arith, c.args.b.now.good.codes), omega arith, c.requires.test_lt_nodes.0) }
 
 pub arm-scoped_block-requires : goal.arm-scoped_block-requires
 arm-scoped_block-requires t c =
-    let k : kind_of (get_or c.args.b.now.graph.now.kinds.now c.args.b.now.graph.now.item 0) ≡ 6 = search rules in
-    let hd = c.arm_test.ensures.built c.args.b.now.graph.now.kinds.now (good_item (c.args.b.now.graph.now.item + 1) (omega arith) (omega arith) c.args.b.now.good) (code_starts _ 6 k (lit≤ tt)) in
-    rw c.arm_test.ensures.kept.0.0 (omega (arith, hd.item), (c.requires.at_arm.0, omega (arith, hd.item), at_item c.args.b.now.graph.now.kinds.now (place c.arm_test.new.self.graph.now) (c.args.b.now.graph.now.item + 1) hd.item (λ ss e. omega (arith, elseif_room c.args.b.now.graph.now.kinds.now ss e (place c.args.b.now.graph.now) c.requires.at_arm.1 c.requires.at_arm.3 k, hd.nodes)), c.requires.at_arm.0.scopes _ c.requires.at_arm.1 (omega (arith, k)) (omega (arith, k))))
+    let k : kind_of (get_or c.args.b.now.graph.now.kinds.now c.args.b.now.graph.now.at.item 0) ≡ 6 = search rules in
+    let hd = c.arm_test.ensures.built c.args.b.now.graph.now.kinds.now (good_item (c.args.b.now.graph.now.at.item + 1) (omega arith) (omega arith) c.args.b.now.good) (code_starts _ 6 k (lit≤ tt)) in
+    rw c.arm_test.ensures.kept.0.0 (omega (arith, hd.item), (c.requires.at_arm.0, omega (arith, hd.item), at_item c.args.b.now.graph.now.kinds.now (place c.arm_test.new.self.graph.now) (c.args.b.now.graph.now.at.item + 1) hd.item (λ ss e. omega (arith, elseif_room c.args.b.now.graph.now.kinds.now ss e (place c.args.b.now.graph.now) c.requires.at_arm.1 c.requires.at_arm.3 k, hd.nodes)), c.requires.at_arm.0.scopes _ c.requires.at_arm.1 (omega (arith, k)) (omega (arith, k))))
 
 pub arm-returns-then-eq-clause-built : goal.arm-returns-then-eq-clause-built
 arm-returns-then-eq-clause-built t c =
-    let k : kind_of (get_or c.args.b.now.graph.now.kinds.now c.args.b.now.graph.now.item 0) ≡ 6 = search rules in
-    let hd = c.arm_test.ensures.built c.args.b.now.graph.now.kinds.now (good_item (c.args.b.now.graph.now.item + 1) (omega arith) (omega arith) c.args.b.now.good) (code_starts _ 6 k (lit≤ tt)) in
+    let k : kind_of (get_or c.args.b.now.graph.now.kinds.now c.args.b.now.graph.now.at.item 0) ≡ 6 = search rules in
+    let hd = c.arm_test.ensures.built c.args.b.now.graph.now.kinds.now (good_item (c.args.b.now.graph.now.at.item + 1) (omega arith) (omega arith) c.args.b.now.good) (code_starts _ 6 k (lit≤ tt)) in
     let sc = (rw c.arm_test.ensures.kept.0.0 at c.scoped_block.ensures.built) c.args.b.now.graph.now.kinds.now refl in
     let cl = c.close_into.ensures.built c.args.b.now.graph.now.kinds.now c.scoped_block.new.b.good in
     rw c.past_elseif.ensures (omega (arith, hd.item, sc.moved.forward, cl.item), λ ss e. elseif_built c.args.b.now.graph.now.kinds.now ss e c.requires.at_arm.0.few c.args.b.now.good c.requires.at_arm.1 _ _ _ _ k refl c.requires.at_arm.3 hd ((rw c.arm_test.ensures.kept.0.0 at c.scoped_block.ensures.built) ss e) cl)
@@ -230,13 +231,13 @@ arm-returns-then-eq-clause-built t c =
 pub arm-scoped_block-requires-else-eq : goal.arm-scoped_block-requires-else-eq
 arm-scoped_block-requires-else-eq t c =
     let k = arm_else _ c.requires.at_arm.2 (search rules) in
-    let hd = move_did c.args.b.now.graph.now.kinds.now _ _ _ _ _ (good_item (c.args.b.now.graph.now.item + 1) (omega arith) (omega arith) c.args.b.now.good) (Some c.args.s.now.test) c.requires.test_lt_nodes.0 in
-    (omega arith, (c.requires.at_arm.0, omega arith, at_item c.args.b.now.graph.now.kinds.now (with_cursor c.args.s.now.test (with_item (c.args.b.now.graph.now.item + 1) (place c.args.b.now.graph.now))) (c.args.b.now.graph.now.item + 1) refl (λ ss e. omega (arith, else_room c.args.b.now.graph.now.kinds.now ss e (place c.args.b.now.graph.now) c.requires.at_arm.1 c.requires.at_arm.3 k)), c.requires.at_arm.0.scopes _ c.requires.at_arm.1 (omega (arith, k)) (omega (arith, k))))
+    let hd = move_did c.args.b.now.graph.now.kinds.now _ _ _ _ _ (good_item (c.args.b.now.graph.now.at.item + 1) (omega arith) (omega arith) c.args.b.now.good) (Some c.args.s.now.test) c.requires.test_lt_nodes.0 in
+    (omega arith, (c.requires.at_arm.0, omega arith, at_item c.args.b.now.graph.now.kinds.now (with_cursor c.args.s.now.test (with_item (c.args.b.now.graph.now.at.item + 1) (place c.args.b.now.graph.now))) (c.args.b.now.graph.now.at.item + 1) refl (λ ss e. omega (arith, else_room c.args.b.now.graph.now.kinds.now ss e (place c.args.b.now.graph.now) c.requires.at_arm.1 c.requires.at_arm.3 k)), c.requires.at_arm.0.scopes _ c.requires.at_arm.1 (omega (arith, k)) (omega (arith, k))))
 
 pub arm-returns-else-eq-clause-built : goal.arm-returns-else-eq-clause-built
 arm-returns-else-eq-clause-built t c =
     let k = arm_else _ c.requires.at_arm.2 (search rules) in
-    let hd = move_did c.args.b.now.graph.now.kinds.now _ _ _ _ _ (good_item (c.args.b.now.graph.now.item + 1) (omega arith) (omega arith) c.args.b.now.good) (Some c.args.s.now.test) c.requires.test_lt_nodes.0 in
+    let hd = move_did c.args.b.now.graph.now.kinds.now _ _ _ _ _ (good_item (c.args.b.now.graph.now.at.item + 1) (omega arith) (omega arith) c.args.b.now.good) (Some c.args.s.now.test) c.requires.test_lt_nodes.0 in
     let sc = c.scoped_block-else-eq.ensures.built c.args.b.now.graph.now.kinds.now refl in
     let cl = c.close_into-else-eq.ensures.built c.args.b.now.graph.now.kinds.now c.scoped_block-else-eq.new.b.good in
     rw c.past_else.ensures (omega (arith, hd.item, sc.moved.forward, cl.item), λ ss e. else_built c.args.b.now.graph.now.kinds.now ss e c.requires.at_arm.0.few c.args.b.now.good c.requires.at_arm.1 _ _ _ _ k refl c.requires.test_lt_nodes.0 c.requires.at_arm.3 hd (c.scoped_block-else-eq.ensures.built ss e) cl)
@@ -269,12 +270,37 @@ stmt-returns-in-Some-If-clause-built t c = λ ss e. opened_stepped c.args.b.now.
 
 pub stmt-simple_stmt-requires-clause-w_bound : goal.stmt-simple_stmt-requires-clause-w_bound
 stmt-simple_stmt-requires-clause-w_bound t c =
-    let k : OpensNone (get_or c.args.b.now.graph.now.kinds.now c.args.b.now.graph.now.item 0) = elim c.in_default.branch [ stmt-in_default-via-in-Some+in_default w ↦ (search rules, search rules, search rules, search rules, search rules) | stmt-in_default-via-in_default w ↦ (search rules, search rules, search rules, search rules, search rules) ] in
+    let k : OpensNone (get_or c.args.b.now.graph.now.kinds.now c.args.b.now.graph.now.at.item 0) = elim c.in_default.branch [ stmt-in_default-via-in-Some+in_default w ↦ (search rules, search rules, search rules, search rules, search rules) | stmt-in_default-via-in_default w ↦ (search rules, search rules, search rules, search rules, search rules) ] in
     let s = simple_kind _ k.0 k.1 k.2 k.3 k.4 c.requires.2 in
     simple_room c.args.b.now.graph.now.kinds.now c.args.b.now.graph.now.kinds.now refl _ c.requires.1 (place c.args.b.now.graph.now) c.requires.3 c.args.b.now.good.nodes s
 
 pub stmt-returns-in_default-clause-built : goal.stmt-returns-in_default-clause-built
 stmt-returns-in_default-clause-built t c =
-    let k : OpensNone (get_or c.args.b.now.graph.now.kinds.now c.args.b.now.graph.now.item 0) = elim c.in_default.branch [ stmt-in_default-via-in-Some+in_default w ↦ (search rules, search rules, search rules, search rules, search rules) | stmt-in_default-via-in_default w ↦ (search rules, search rules, search rules, search rules, search rules) ] in
+    let k : OpensNone (get_or c.args.b.now.graph.now.kinds.now c.args.b.now.graph.now.at.item 0) = elim c.in_default.branch [ stmt-in_default-via-in-Some+in_default w ↦ (search rules, search rules, search rules, search rules, search rules) | stmt-in_default-via-in_default w ↦ (search rules, search rules, search rules, search rules, search rules) ] in
     let s = simple_kind _ k.0 k.1 k.2 k.3 k.4 c.requires.2 in
     λ ss e. simple_stepped c.args.b.now.graph.now.kinds.now ss e c.requires.0.few c.args.b.now.good c.requires.1 _ s (c.simple_stmt.ensures.built c.args.b.now.graph.now.kinds.now refl)
+
+-- ---- a builder moved to another item, or given other settings, stays good
+
+pub arms-invariant_of-b : goal.arms-invariant_of-b
+arms-invariant_of-b t c =
+    let p = rw c.loop-b.invariant.0.0.0 at c.past-b.ensures.1 in
+    ((tt, tt), (good_item c.past-b.result c.past-b.ensures.0 (omega (arith, p, c.requires.at_end.0.few)) c.loop-b.b.good, tt))
+
+pub for_loop-invariant_of-b : goal.for_loop-invariant_of-b
+for_loop-invariant_of-b t c =
+    let p = rw (c.loop_body.ensures.kept.0.0, c.for_head.ensures.kept.0.0) at c.past-b.ensures.1 in
+    ((tt, tt), (good_item c.past-b.result c.past-b.ensures.0 (omega (arith, p, c.requires.0.few)) c.loop_body.new.b.good, tt))
+
+pub loop_body-invariant_of-b : goal.loop_body-invariant_of-b
+loop_body-invariant_of-b t c =
+    let ok = c.args.b.now.good in
+    let targets = c.requires.break_target_lt_nodes in
+    ((tt, tt), (rw c.enter_loop-b.ensures (good_within (loop_settings c.args.targets.break_target c.args.targets.continue_target c.args.b.now.graph.now.at.settings) (omega arith) ok.scope_end targets.0 targets.1 ok), tt))
+
+pub scoped_block-invariant_of-b : goal.scoped_block-invariant_of-b
+scoped_block-invariant_of-b t c =
+    ((tt, tt), (good_scope c.args.scope_end (ap (λ (st : BlockSettings). within st (place c.args.b.now.graph.now)) c.enter_scope-b.ensures) (omega (arith, c.requires)) c.args.b.now.good, tt))
+
+pub stmt-invariant_of-b : goal.stmt-invariant_of-b
+stmt-invariant_of-b t c = ((tt, tt), (good_item _ (omega arith) (omega (arith, c.requires.1, c.requires.0.few)) c.args.b.now.good, tt))

@@ -13,11 +13,11 @@ use Rattle.cfg_steps.proofs.SheetBuilder.enter_block.Goals as goal
 use Rattle.cfg_steps.proofs.SheetBuilder.enter_block.Goals.{After-into_iter-name-iterator}
 
 -- what the iterator gives are the labels of the block
-scan : (c : After-into_iter-name-iterator) → c.into_iter-name-iterator.result ≡ labels_in (drop c.args.self.now.graph.now.item c.args.self.now.graph.now.kinds.now) 0
+scan : (c : After-into_iter-name-iterator) → c.into_iter-name-iterator.result ≡ labels_in (drop c.args.self.now.graph.now.at.item c.args.self.now.graph.now.kinds.now) 0
 scan c = c.into_iter-name-iterator.ensures.into_iter_gives ∙ c.block_labels-name-items.ensures.scan
 
-gives : (c : After-into_iter-name-iterator) (ss : List ℕ) → length ss ≡ length c.args.self.now.graph.now.kinds.now → c.into_iter-name-iterator.result ≡ labels_at c.args.self.now.graph.now.kinds.now ss c.args.self.now.graph.now.item
-gives c ss e = scan c ∙ labels_law c.args.self.now.graph.now.kinds.now ss e c.args.self.now.graph.now.item
+gives : (c : After-into_iter-name-iterator) (ss : List ℕ) → length ss ≡ length c.args.self.now.graph.now.kinds.now → c.into_iter-name-iterator.result ≡ labels_at c.args.self.now.graph.now.kinds.now ss c.args.self.now.graph.now.at.item
+gives c ss e = scan c ∙ labels_law c.args.self.now.graph.now.kinds.now ss e c.args.self.now.graph.now.at.item
 
 pub loop-name-init : goal.loop-name-init
 loop-name-init c = record { can = tt; finite = tt; left = refl; kept = ((refl, refl, refl, refl, refl), refl); entered = λ ks ok. entered_none ks _ _ ok }
@@ -28,9 +28,9 @@ new_label-requires c =
     let ks = c.args.self.now.graph.now.kinds.now in
     let n = c.loop-name.invariant.entered ks c.args.self.now.good in
     let all = ap length (sym c.loop-name.invariant.left ∙ gives d ks refl) in
-    let room : length c.loop-name.yielded + length c.loop-name.name-iterator ≡ length (labels_at ks ks c.args.self.now.graph.now.item) = omega (arith, all, length-append c.loop-name.yielded c.loop-name.name-iterator) in
+    let room : length c.loop-name.yielded + length c.loop-name.name-iterator ≡ length (labels_at ks ks c.args.self.now.graph.now.at.item) = omega (arith, all, length-append c.loop-name.yielded c.loop-name.name-iterator) in
     record {
-      labels_in_bounds = (omega (arith, n.good.labels, n.good.nodes, n.good.wide_labels, n.nodes, room, ap length c.in-Some.ensures.steps, c.requires.room ks refl), small_of _ _ _ _ (fit_from _ c.args.self.now.graph.now.item c.requires.item_in_bounds.2) (sym (scan d) ∙ c.loop-name.invariant.left ∙ ap (λ (z : List ℕ). c.loop-name.yielded ++ z) c.in-Some.ensures.steps));
+      labels_in_bounds = (omega (arith, n.good.labels, n.good.nodes, n.good.wide_labels, n.nodes, room, ap length c.in-Some.ensures.steps, c.requires.room ks refl), small_of _ _ _ _ (fit_from _ c.args.self.now.graph.now.at.item c.requires.item_in_bounds.2) (sym (scan d) ∙ c.loop-name.invariant.left ∙ ap (λ (z : List ℕ). c.loop-name.yielded ++ z) c.in-Some.ensures.steps));
       nodes_in_bounds = (omega (arith, n.good.wide_edges, n.nodes, room, ap length c.in-Some.ensures.steps, c.requires.room ks refl), omega (arith, n.nodes, room, ap length c.in-Some.ensures.steps, c.requires.room ks refl));
     }
 

@@ -1,7 +1,7 @@
--- `cfg_steps::GraphBuilder::code` meets its contract: the step `code` on the graph that the columns stand for.
+-- `cfg_steps::LentGraph::code` meets its contract: the step `code` on the graph that the columns stand for.
 -- Assumes nothing.
 use Rattle.cfg_steps.proofs.Ops.{full_code_did}
-use Rattle.cfg_steps.proofs.GraphBuilder.code.Goals as goal
+use Rattle.cfg_steps.proofs.LentGraph.code.Goals as goal
 
 pub returns-clause-by_index : goal.returns-clause-by_index
 returns-clause-by_index c =
