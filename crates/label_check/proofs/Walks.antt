@@ -17,7 +17,7 @@ use Rattle.flow.specs.Labels.{distinct, labels_fine_in, block_fine, arms_fine}
 use Rattle.flow.proofs.Lookup.{one_of_append}
 use Rattle.blocks.specs.Open.{item_at, open_at, labels_at}
 use Rattle.blocks.proofs.Parse.{read_at, read_end, read_close, read_simple, read_opener}
-use Rattle.label_sight.specs.declared.Sight.{Sight}
+use Rattle.label_sight.specs.declared.LabelStack.{LabelStack}
 use Rattle.label_sight.specs.Labels.{labels_to_come, nothing_seen, opened_sight, next_arm, closed_sight, in_block, none_repeats, Entered}
 use Rattle.label_sight.proofs.Names.{none_distinct}
 use Rattle.label_sight.proofs.Scan.{entered_length}
@@ -56,7 +56,7 @@ one_of_flat a [] = refl
 one_of_flat a (s ∷ ss) =
     one_of_append a (flat ss) s ∙ rw (one_of_flat a ss) (or_comm (member a (visible ss)) (member a s)) ∙ sym (one_of_append a s (visible ss))
 
-module _ {top : List ℕ} {around : List (List ℕ)} {x : Sight} (h : Holds top around x) where
+module _ {top : List ℕ} {around : List (List ℕ)} {x : LabelStack} (h : Holds top around x) where
   count : array_vec_len x.labels ≡ length (flat around) + length top
   count = omega (arith, ap length h.labels, length-append (flat around) top)
 
@@ -85,7 +85,7 @@ module _ {top : List ℕ} {around : List (List ℕ)} {x : Sight} (h : Holds top 
   holds_arm = record { labels = shorter ∙ sym (append-nil (flat around)); marks = h.marks; base = h.base }
 
 -- the innermost block closed
-module _ {top s : List ℕ} {around : List (List ℕ)} {x : Sight} (h : Holds top (s ∷ around) x) where
+module _ {top s : List ℕ} {around : List (List ℕ)} {x : LabelStack} (h : Holds top (s ∷ around) x) where
   under : length (bases around) ≡ array_vec_len x.marks - 1
   under = omega (arith, depth h, bases_length around)
 
@@ -99,7 +99,7 @@ module _ {top s : List ℕ} {around : List (List ℕ)} {x : Sight} (h : Holds to
 
 -- ---- a block entered
 
-module _ {ks ss : List ℕ} {j : ℕ} {x : Sight} (n : Entering ks ss j x) where
+module _ {ks ss : List ℕ} {j : ℕ} {x : LabelStack} (n : Entering ks ss j x) where
   -- its labels have room
   entering_room : length ss ≡ length ks → length ks ≤ 1024 → j ≤ length ks → array_vec_len x.labels + length (labels_at ks ss j) ≤ 1024
   entering_room e few h = omega (arith, n.room, few_to_come ks ss e j)
@@ -110,7 +110,7 @@ module _ {ks ss : List ℕ} {j : ℕ} {x : Sight} (n : Entering ks ss j x) where
       ∙ ap (λ (z : ℕ). drop z (flat n.around)) n.holds.base
       ∙ drop-length (flat n.around)
 
-  pub entered_after : {r : Sight} {fine : Bool} → Entered (labels_at ks ss j) x r → fine ≡ none_repeats (in_block x) (labels_at ks ss j) → After ks ss j fine r
+  pub entered_after : {r : LabelStack} {fine : Bool} → Entered (labels_at ks ss j) x r → fine ≡ none_repeats (in_block x) (labels_at ks ss j) → After ks ss j fine r
   unfolding distinct
   entered_after {r} {fine} e o =
       let once : fine ≡ distinct (labels_at ks ss j) = o ∙ ap (λ (z : List ℕ). none_repeats z (labels_at ks ss j)) none_yet ∙ none_distinct [] (labels_at ks ss j) in
@@ -133,7 +133,7 @@ module _ {ks ss : List ℕ} {j : ℕ} {x : Sight} (n : Entering ks ss j x) where
       }
 
 -- what `enter` asks, whatever the spans
-pub enter_room : {ks : List ℕ} {j : ℕ} {x : Sight} → Checkable ks → j ≤ length ks → ((ss : List ℕ) → length ss ≡ length ks → Entering ks ss j x) → (ss : List ℕ) → length ss ≡ length ks → array_vec_len x.labels + length (labels_at ks ss j) ≤ 1024
+pub enter_room : {ks : List ℕ} {j : ℕ} {x : LabelStack} → Checkable ks → j ≤ length ks → ((ss : List ℕ) → length ss ≡ length ks → Entering ks ss j x) → (ss : List ℕ) → length ss ≡ length ks → array_vec_len x.labels + length (labels_at ks ss j) ≤ 1024
 enter_room c h n ss e = entering_room (n ss e) e c.few h
 
 -- ---- by kind
@@ -150,7 +150,7 @@ first_of : (around : List (List ℕ)) → 1 ≤ length around → (s : List ℕ)
 first_of [] h = absurd (omega arith)
 first_of (s ∷ ss) h = (s, ss, refl)
 
-module _ {ks ss : List ℕ} (e : length ss ≡ length ks) {j : ℕ} {x : Sight} (w : Walking ks ss j x) (h : j < length ks) where
+module _ {ks ss : List ℕ} (e : length ss ≡ length ks) {j : ℕ} {x : LabelStack} (w : Walking ks ss j x) (h : j < length ks) where
   abbrev item : Item
   item = item_at ks ss j
 
@@ -165,7 +165,7 @@ module _ {ks ss : List ℕ} (e : length ss ≡ length ks) {j : ℕ} {x : Sight} 
   unfolding open_at
   bare c a k = c.tidy ss e j h a k
 
-  pub open_entering : Checkable ks → 1 ≤ kind_of (get_or ks j 0) → kind_of (get_or ks j 0) ≤ 5 → {t : Sight} → t ≡ opened_sight x → Entering ks ss (j + 1) t
+  pub open_entering : Checkable ks → 1 ≤ kind_of (get_or ks j 0) → kind_of (get_or ks j 0) ≤ 5 → {t : LabelStack} → t ≡ opened_sight x → Entering ks ss (j + 1) t
   open_entering c a b f =
       let r = read_opener item after (kind item) refl a b in
       let q : open_at ks ss j ≡ in_front r.0 (outer after) = read_at ks ss e j h ∙ r.2 in
@@ -180,7 +180,7 @@ module _ {ks ss : List ℕ} (e : length ss ≡ length ks) {j : ℕ} {x : Sight} 
       })
 
   -- ELSEIF and ELSE
-  pub arm_entering : 6 ≤ kind_of (get_or ks j 0) → kind_of (get_or ks j 0) ≤ 7 → {t : Sight} → t ≡ next_arm x → Entering ks ss (j + 1) t
+  pub arm_entering : 6 ≤ kind_of (get_or ks j 0) → kind_of (get_or ks j 0) ≤ 7 → {t : LabelStack} → t ≡ next_arm x → Entering ks ss (j + 1) t
   arm_entering a b f =
       let r = arm_enters item after a b in
       let q : open_at ks ss j ≡ opened r.0 0 (outer after) = read_at ks ss e j h ∙ r.1 in
@@ -207,7 +207,7 @@ module _ {ks ss : List ℕ} (e : length ss ≡ length ks) {j : ℕ} {x : Sight} 
     pub close_open : 1 ≤ array_vec_len x.marks
     close_open = omega (arith, depth w.holds, w.closed, below_less)
 
-    pub close_after : {t : Sight} → t ≡ closed_sight x → After ks ss (j + 1) true t
+    pub close_after : {t : LabelStack} → t ≡ closed_sight x → After ks ss (j + 1) true t
     close_after f =
         let q = first_of w.around (omega (arith, depth w.holds, close_open)) in
         let holds : Holds w.top (q.0 ∷ q.1) x = subst (λ (z : List (List ℕ)). Holds w.top z x) q.2 w.holds in
@@ -262,7 +262,7 @@ module _ {ks ss : List ℕ} (e : length ss ≡ length ks) {j : ℕ} {x : Sight} 
 -- ---- the walk's start and end
 
 module _ (ks ss : List ℕ) (e : length ss ≡ length ks) where
-  pub walk_start : Checkable ks → {x : Sight} → x ≡ nothing_seen → Entering ks ss 0 x
+  pub walk_start : Checkable ks → {x : LabelStack} → x ≡ nothing_seen → Entering ks ss 0 x
   unfolding flat bases open_at open_fine outside_fine visible tree labels_to_come
   walk_start c q =
       rw q
@@ -277,8 +277,8 @@ module _ (ks ss : List ℕ) (e : length ss ≡ length ks) where
             ∙ ap (λ (b : Bool). distinct (labels_at ks ss 0) && b) (sym (and-true (block_fine (open_at ks ss 0).top.body (labels_at ks ss 0 ++ []))));
       })
 
-  pub walk_end : {j : ℕ} {x : Sight} → length ks ≤ j → Walking ks ss j x → true ≡ whole_fine (tree (zip ks ss))
+  pub walk_end : {j : ℕ} {x : LabelStack} → length ks ≤ j → Walking ks ss j x → true ≡ whole_fine (tree (zip ks ss))
   walk_end {j} {x} h w = sym (w.left ∙ ap (λ (o : Open). open_fine o w.top w.around) (read_end ks ss e j h) ∙ end_fine w.top w.around)
 
-pub walk_lost : {ks ss : List ℕ} {j : ℕ} {x : Sight} {f : Bool} → f ≡ false → After ks ss j f x → false ≡ whole_fine (tree (zip ks ss))
+pub walk_lost : {ks ss : List ℕ} {j : ℕ} {x : LabelStack} {f : Bool} → f ≡ false → After ks ss j f x → false ≡ whole_fine (tree (zip ks ss))
 walk_lost e a = sym (a.lost e)

@@ -7,7 +7,7 @@ use Rattle.flow.specs.Tree.{Block, Open, outer, parse, tree, labels_of}
 use Rattle.flow.specs.Labels.{distinct, block_fine, arms_fine}
 use Rattle.flow.specs.Admitted.{Tidy}
 use Rattle.blocks.specs.Open.{open_at, labels_at}
-use Rattle.label_sight.specs.declared.Sight.{Sight}
+use Rattle.label_sight.specs.declared.LabelStack.{LabelStack}
 use Rattle.label_sight.specs.Labels.{labels_to_come}
 
 -- ---- what is in sight
@@ -28,7 +28,7 @@ bases [] = []
 bases (s ∷ ss) = bases ss ++ (length (flat ss) ∷ [])
 
 -- the labels of the innermost block and of those around it
-pub record Holds (top : List ℕ) (around : List (List ℕ)) (x : Sight) : Type 0 where
+pub record Holds (top : List ℕ) (around : List (List ℕ)) (x : LabelStack) : Type 0 where
   pub labels : x.labels.items ≡ flat around ++ top
   pub marks : x.marks.items ≡ bases around
   pub base : x.base ≡ length (flat around)
@@ -56,7 +56,7 @@ pub record Checkable (ks : List ℕ) : Type 0 where
   pub closed : (ss : List ℕ) → length ss ≡ length ks → (parse (zip ks ss)).below ≡ []
 
 -- a block starts at item j, and its labels are not in sight yet
-pub record Entering (ks ss : List ℕ) (j : ℕ) (x : Sight) : Type 0 where
+pub record Entering (ks ss : List ℕ) (j : ℕ) (x : LabelStack) : Type 0 where
   pub around : List (List ℕ)
   pub holds : Holds [] around x
   pub opened : length around ≤ j
@@ -65,7 +65,7 @@ pub record Entering (ks ss : List ℕ) (j : ℕ) (x : Sight) : Type 0 where
   pub left : whole_fine (tree (zip ks ss)) ≡ (distinct (labels_at ks ss j) && open_fine (open_at ks ss j) (labels_at ks ss j) around)
 
 -- the walk stands at item j, and what is left to check there decides
-pub record Walking (ks ss : List ℕ) (j : ℕ) (x : Sight) : Type 0 where
+pub record Walking (ks ss : List ℕ) (j : ℕ) (x : LabelStack) : Type 0 where
   pub top : List ℕ
   pub around : List (List ℕ)
   pub holds : Holds top around x
@@ -75,6 +75,6 @@ pub record Walking (ks ss : List ℕ) (j : ℕ) (x : Sight) : Type 0 where
   pub left : whole_fine (tree (zip ks ss)) ≡ open_fine (open_at ks ss j) top around
 
 -- past an item of which fine tells whether it repeats no label of its block and misses none
-pub record After (ks ss : List ℕ) (j : ℕ) (fine : Bool) (x : Sight) : Type 0 where
+pub record After (ks ss : List ℕ) (j : ℕ) (fine : Bool) (x : LabelStack) : Type 0 where
   pub walking : fine ≡ true → Walking ks ss j x
   pub lost : fine ≡ false → whole_fine (tree (zip ks ss)) ≡ false

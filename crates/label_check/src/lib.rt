@@ -8,11 +8,11 @@ ghost use Rattle.label_sight.specs.Labels.{Unlabelled};
 ghost use Rattle.label_check.specs.Walk.{whole_fine, Checkable, Walking, After};
 
 use kinds::Kind;
-use label_sight::{Sight, labels_end};
+use label_sight::{LabelStack, labels_end};
 use words::ARGUMENT;
 
 // What item j makes of the labels in sight. Says whether it repeats no label of its block, and misses none.
-fn step(sight: &mut Sight, kinds: &[u64], end: usize, j: usize) -> bool
+fn step(sight: &mut LabelStack, kinds: &[u64], end: usize, j: usize) -> bool
     requires checkable { Checkable kinds.now × Unlabelled kinds.now end × (j < length kinds.now) }
     requires by_index { (ss : List ℕ) → length ss ≡ length kinds.now → Walking kinds.now ss j sight.old }
     ensures { (ss : List ℕ) → length ss ≡ length kinds.now → After kinds.now ss (j + 1) result sight.new }
@@ -42,7 +42,7 @@ pub fn labels_fine(kinds: &[u64]) -> bool
     ensures { (ss : List ℕ) → length ss ≡ length kinds.now → result ≡ whole_fine (tree (zip kinds.now ss)) }
 {
     let end = labels_end(kinds);
-    let mut sight = Sight::new();
+    let mut sight = LabelStack::new();
     if !sight.enter(kinds, end, 0) {
         return false;
     }

@@ -6,13 +6,13 @@ use mathlib.Core.Bool.{Bool, true, false, cond}
 use Prim.Native.Nat.{ℕ, zero, suc, ◌+◌, ◌-◌, ◌≤◌, ◌<◌}
 use native.Mathlib.Omega.{arith}
 use lib.ListN.{length, take, drop, get_or, length-append, length-drop}
-use lib.Seq.{get_or-drop}
+use lib.Seq.{get_or-drop, drop-drop}
 use Rattle.flow.specs.Sheet.{Item, kind, kind_of, argument_of, zip}
 use Rattle.flow.specs.Refusals.{one}
 use Rattle.flow.specs.Tree.{Stmt, Arms, Frame, Open, simple, no_more, nothing_read, outer, in_front, opened, parse, label_name, labels_of}
 use Rattle.flow.proofs.Nesting.{Made, a_do, a_while, a_repeat, a_for, an_if}
 use Rattle.kinds.specs.Label.{is_label}
-use Rattle.blocks.specs.Open.{open_at, labels_here, ends_at, depth_after, labels_in}
+use Rattle.blocks.specs.Open.{open_at, to_come, labels_here, ends_at, depth_after, labels_in}
 use Rattle.blocks.proofs.Scan.{here_other}
 use Rattle.blocks.proofs.Parse.{drop_both, Reads, opener, arm, closer, other, reads}
 use Rattle.label_sight.specs.Labels.{named, Unlabelled, frames_labels, labels_to_come}
@@ -96,6 +96,25 @@ unfolding named
 named_less zero ws = omega arith
 named_less (suc m) [] = omega arith
 named_less (suc m) (w ∷ ws) = omega (arith, named_less m ws)
+
+frame_labels : (d : ℕ) (o : Open) → length (to_come d o) ≤ labels_to_come o
+unfolding labels_to_come
+frame_labels zero o = omega arith
+frame_labels (suc d) o = omega (arith, frames_labels_law d o.below)
+
+-- past the last label no block has one
+pub none_to_come : (ks ss : List ℕ) → length ss ≡ length ks → (end : ℕ) → Unlabelled ks end → (j : ℕ) → end ≤ j → (d : ℕ) → to_come d (open_at ks ss j) ≡ []
+none_to_come ks ss e end u j h d = nil _ (omega (arith, frame_labels d (open_at ks ss j), to_come_at ks ss e j, less, u.none))
+  where
+    nil : (l : List ℕ) → length l ≤ 0 → l ≡ []
+    nil [] q = refl
+    nil (x ∷ l) q = absurd (omega arith)
+
+    less : named (drop j ks) ≤ named (drop end ks)
+    less = rw (← shift) (named_less (j - end) (drop end ks))
+      where
+        shift : drop (j - end) (drop end ks) ≡ drop j ks
+        shift = let q : end + (j - end) ≡ j = omega arith in drop-drop (j - end) end ks ∙ ap (λ (n : ℕ). drop n ks) q
 
 -- past the last label a scan finds none
 in_nothing : (ws : List ℕ) → named ws ≡ 0 → (d : ℕ) → labels_in ws d ≡ []

@@ -3,11 +3,12 @@
 use mathlib.Core.Path.{◌≡◌, refl, sym, ap, ◌∙◌}
 use mathlib.Core.List.{List, [], ◌∷◌, ◌++◌, append_assoc, append-nil}
 use mathlib.Core.Bool.{Bool, true, false, ◌&&◌, ◌||◌, not, and_assoc, and-true, or-false}
+use Rattle.std.proofs.Math.Bool.{or-true}
 use Prim.Native.Nat.{ℕ, ◌+◌, ◌<◌}
 use native.Mathlib.Numerals.{add-one}
 use native.Mathlib.Decide.{ℕ_discrete}
 use lib.Dec.{eqb}
-use lib.ListN.{length, get_or, take}
+use lib.ListN.{length, get_or, take, drop, take-append-drop}
 use lib.Seq.{take-suc}
 use borrow.Author.Tests.{eq-eqb, ne_eqb}
 use Rattle.flow.specs.Sheet.{member}
@@ -56,3 +57,21 @@ pub look_one : (a i : ℕ) (l : List ℕ) → i < length l → member a (take (i
 look_one a i l h =
     rw (add-one i, take-suc l i 0 h)
     (one_of_append a (take i l) (get_or l i 0 ∷ []) ∙ ap (λ (b : Bool). member a (take i l) || b) (or-false (eqb a (get_or l i 0)) ∙ eqb_comm a (get_or l i 0)))
+
+-- ---- the search for a name, the latest first
+
+module _ (a k : ℕ) (xs : List ℕ) {front back : List ℕ} (f : front ≡ take k xs) (b : back ≡ drop k xs) where
+  by_parts : member a xs ≡ (member a front || member a back)
+  by_parts = ap (member a) (sym (take-append-drop k xs)) ∙ one_of_append a (take k xs) (drop k xs) ∙ rw (sym f, sym b) refl
+
+  -- it is found where it is among the latest, and else sought among those before
+  pub found_behind : member a back ≡ true → member a xs ≡ true
+  found_behind h = by_parts ∙ rw h (or-true (member a front))
+
+  pub not_behind : member a back ≡ false → member a xs ≡ member a front
+  not_behind h = by_parts ∙ rw h (or-false (member a front))
+
+-- as where it is the last
+pub latest_found : (a x : ℕ) (xs front : List ℕ) → xs ≡ front ++ (x ∷ []) → x ≡ a → member a xs ≡ true
+latest_found a x xs front e q =
+    rw e (one_of_append a front (x ∷ []) ∙ ap (λ (b : Bool). member a front || b) (or-false (eqb a x) ∙ eq-eqb a x (sym q)) ∙ or-true (member a front))

@@ -6,7 +6,7 @@ use Rattle.flow.specs.Refusals.{one}
 use Rattle.flow.specs.Tree.{Frame, Open, labels_of}
 use Rattle.arrayvec.specs.ArrayVec.{array_vec_len}
 use Rattle.kinds.specs.Label.{is_label}
-use Rattle.label_sight.specs.declared.Sight.{Sight}
+use Rattle.label_sight.specs.declared.LabelStack.{LabelStack}
 
 -- ---- how many labels there are
 
@@ -31,21 +31,21 @@ labels_to_come o = length (labels_of o.top.body) + frames_labels o.below
 -- ---- in sight
 
 -- at the start: the outermost block, of which no label is found yet
-abbrev pub nothing_seen : Sight
+abbrev pub nothing_seen : LabelStack
 nothing_seen = record { labels = record { items = [] }; marks = record { items = [] }; base = 0 }
 
 -- a block opened with no label found yet, its next arm likewise, and the block closed
-abbrev pub opened_sight : Sight → Sight
+abbrev pub opened_sight : LabelStack → LabelStack
 opened_sight x = record { labels = x.labels; marks = record { items = x.marks.items ++ (x.base ∷ []) }; base = array_vec_len x.labels }
 
-abbrev pub next_arm : Sight → Sight
+abbrev pub next_arm : LabelStack → LabelStack
 next_arm x = record { labels = record { items = take x.base x.labels.items }; marks = x.marks; base = x.base }
 
-abbrev pub closed_sight : Sight → Sight
+abbrev pub closed_sight : LabelStack → LabelStack
 closed_sight x = record { labels = record { items = take x.base x.labels.items }; marks = record { items = take (array_vec_len x.marks - 1) x.marks.items }; base = get_or x.marks.items (array_vec_len x.marks - 1) 0 }
 
 -- the labels of the innermost block that are found so far
-abbrev pub in_block : Sight → List ℕ
+abbrev pub in_block : LabelStack → List ℕ
 in_block x = drop x.base x.labels.items
 
 -- of names that come one after the other into a block of the labels xs, whether none repeats one that stands there by then
@@ -54,7 +54,7 @@ none_repeats xs [] = true
 none_repeats xs (a ∷ as') = not (member a xs) && none_repeats (xs ++ (a ∷ [])) as'
 
 -- the names as' are in sight besides, as labels of the innermost block
-pub record Entered (as' : List ℕ) (x r : Sight) : Type 0 where
+pub record Entered (as' : List ℕ) (x r : LabelStack) : Type 0 where
   pub labels : r.labels.items ≡ x.labels.items ++ as'
   pub marks : r.marks ≡ x.marks
   pub base : r.base ≡ x.base

@@ -1,7 +1,7 @@
 // The labels in sight at an item of a walk over a sheet.
 #![tactic(auto)]
 
-ghost use Rattle.std.specs.Prelude.{◌≡◌, not, ◌++◌, [], ◌∷◌, List, ℕ, ◌+◌, ◌≤◌, ◌<◌, length};
+ghost use Rattle.std.specs.Prelude.{◌≡◌, not, ◌++◌, [], ◌∷◌, List, ℕ, ◌+◌, ◌≤◌, ◌<◌, length, drop};
 ghost use Rattle.arrayvec.specs.ArrayVec.{array_vec_len};
 ghost use Rattle.flow.specs.Sheet.{member};
 ghost use Rattle.blocks.specs.Open.{labels_at};
@@ -22,21 +22,71 @@ pub fn labels_end(kinds: &[u64]) -> usize
     }
 }
 
-// Whether a name is among some labels'.
-fn among(labels: &[u64], name: u64) -> bool
+// So many labels are compared at once: one after the other, with a return at a hit, 1,024 labels in one block took twice as long.
+const AT_ONCE: usize = 16;
+
+// Whether a name is among a few labels'. All are looked at.
+fn among_few(labels: &[u64], name: u64) -> bool
     ensures { result ≡ member name labels.now }
 {
     let mut found = false;
     for &label in labels {
-        // All are looked at: from the end and with a return at a hit, 1,024 labels in one block took twice as long.
         found |= label == name;
     }
     found
 }
 
-// The labels that are in sight at an item.
+// Whether a name is among some labels', the latest first.
+fn among(labels: &[u64], name: u64) -> bool
+    ensures { result ≡ member name labels.now }
+{
+    if let Some((&latest, _)) = labels.split_last() {
+        // A hit at the latest takes one comparison.
+        if latest == name {
+            return true;
+        }
+    }
+    let mut left = labels;
+    // A walk of what is left of a slice: no index is counted.
+    while left.len() >= AT_ONCE {
+        let (before, latest) = left.split_at(left.len() - AT_ONCE);
+        if among_few(latest, name) {
+            return true;
+        }
+        left = before;
+    }
+    among_few(left, name)
+}
+
+// The labels that are in sight at an item, as they are read there.
+#[derive(Clone, Copy)]
+pub struct Sight<'a> {
+    // Their names, those of the outermost block first.
+    pub labels: &'a [u64],
+    // How many of them stand outside the innermost block.
+    pub base: usize,
+}
+
+impl Sight<'_> {
+    // Whether a label of the innermost block has a name.
+    pub fn has_here(self, name: u64) -> bool
+        requires { self.base ≤ length self.labels.now }
+        ensures { result ≡ member name (drop self.entry.base self.entry.labels.now) }
+    {
+        among(&self.labels[self.base..], name)
+    }
+
+    // Whether a label is in sight, as a GOTO's has to be.
+    pub fn sees(self, name: u64) -> bool
+        ensures { result ≡ member name self.entry.labels.now }
+    {
+        among(self.labels, name)
+    }
+}
+
+// The labels that are in sight at an item of a walk, which adds them and takes them out again.
 #[derive(Drop)]
-pub struct Sight {
+pub struct LabelStack {
     // Their names, those of the outermost block first.
     pub labels: ArrayVec<u64, ITEMS>,
     // How many of them stand outside each open block, the outermost first, save the innermost:
@@ -45,15 +95,25 @@ pub struct Sight {
     pub base: usize,
 }
 
-impl Sight {
+impl LabelStack {
     // In the outermost block, before its labels come in sight.
     pub fn new() -> Self
         ensures { result ≡ nothing_seen }
     {
-        Sight {
+        LabelStack {
             labels: ArrayVec::new(),
             marks: ArrayVec::new(),
             base: 0,
+        }
+    }
+
+    // The labels as they are read.
+    pub fn sight(&self) -> Sight<'_>
+        ensures { (result.labels.now ≡ self.now.labels.items) × (result.base ≡ self.now.base) }
+    {
+        Sight {
+            labels: self.labels.as_slice(),
+            base: self.base,
         }
     }
 
@@ -63,7 +123,7 @@ impl Sight {
         ensures entered { Entered (name ∷ []) self.old self.new }
         ensures first { result ≡ not (member name (in_block self.old)) }
     {
-        let first = !among(&self.labels.as_slice()[self.base..], name);
+        let first = !self.sight().has_here(name);
         self.labels.push(name);
         first
     }
@@ -79,8 +139,10 @@ impl Sight {
         let mut once = true;
         // The end comes beside the kinds: a walk reads the items past it too, which open and close blocks.
         for name in block_labels(&kinds[..end], from) {
-            // As `once &= ..` a sheet of 512 gotos took a third longer.
-            if !self.add(name) {
+            // As `once &= ..` a sheet of 512 gotos took a third longer. Behind a repeat nothing is left to tell.
+            if !once {
+                self.labels.push(name);
+            } else if !self.add(name) {
                 once = false;
             }
         }
@@ -118,6 +180,6 @@ impl Sight {
     pub fn sees(&self, name: u64) -> bool
         ensures { result ≡ member name self.now.labels.items }
     {
-        among(self.labels.as_slice(), name)
+        self.sight().sees(name)
     }
 }

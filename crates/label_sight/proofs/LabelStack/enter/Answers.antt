@@ -1,4 +1,4 @@
--- `label_sight::Sight::enter` meets its contract: the labels so far are in sight.
+-- `label_sight::LabelStack::enter` meets its contract: the labels so far are in sight.
 -- Assumes nothing.
 use Prim.Native.Nat.{ℕ, ◌+◌}
 use mathlib.Core.Path.{◌≡◌, refl, sym, ap, subst, ◌∙◌}
@@ -10,9 +10,10 @@ use Rattle.blocks.specs.Open.{labels_at}
 use Rattle.blocks.proofs.Scan.{labels_law}
 use Rattle.label_sight.specs.Labels.{in_block, none_repeats, Entered}
 use Rattle.label_sight.proofs.Named.{labels_cut}
-use Rattle.label_sight.proofs.Scan.{entered_none, entered_trans, entered_more, entered_length}
-use Rattle.label_sight.proofs.Sight.enter.Goals as goal
-use Rattle.label_sight.proofs.Sight.enter.Goals.{After-into_iter-name-iterator, In-None}
+use Rattle.std.proofs.Common.{rules}
+use Rattle.label_sight.proofs.Scan.{entered_none, entered_trans, entered_more, entered_length, still_repeats}
+use Rattle.label_sight.proofs.LabelStack.enter.Goals as goal
+use Rattle.label_sight.proofs.LabelStack.enter.Goals.{After-into_iter-name-iterator, In-None}
 
 -- what the iterator gives are the labels of the block
 gives : (c : After-into_iter-name-iterator) (ss : List ℕ) → length ss ≡ length c.args.kinds.now → c.into_iter-name-iterator.result ≡ labels_at c.args.kinds.now ss c.args.from
@@ -33,6 +34,25 @@ add-requires c =
     let room : length c.loop-name.yielded + length c.loop-name.name-iterator ≡ length (labels_at ks ks c.args.from) = omega (arith, all, length-append c.loop-name.yielded c.loop-name.name-iterator) in
     let count = entered_length c.loop-name.invariant.entered in
     (omega (arith, count, c.loop-name.invariant.entered.base), omega (arith, count, room, ap length c.in-Some.ensures.steps, c.requires.by_index ks refl))
+
+pub push-requires : goal.push-requires
+push-requires c =
+    let ks = c.args.kinds.now in
+    let all = ap length (sym c.loop-name.invariant.left ∙ gives (goal.at.push-requires c).After-into_iter-name-iterator ks refl) in
+    let room : length c.loop-name.yielded + length c.loop-name.name-iterator ≡ length (labels_at ks ks c.args.from) = omega (arith, all, length-append c.loop-name.yielded c.loop-name.name-iterator) in
+    let count = entered_length c.loop-name.invariant.entered in
+    (omega arith, omega (arith, count, room, ap length c.in-Some.ensures.steps, c.requires.by_index ks refl))
+
+pub loop-name-preserved-then-not-once : goal.loop-name-preserved-then-not-once
+loop-name-preserved-then-not-once c =
+    let e = c.loop-name.invariant.entered in
+    record {
+      can = tt;
+      finite = tt;
+      left = c.loop-name.invariant.left ∙ ap (λ (z : List ℕ). c.loop-name.yielded ++ z) c.in-Some.ensures.steps ∙ sym (append_assoc c.loop-name.yielded (c.in-Some.name ∷ []) c.next.new.self);
+      entered = entered_trans e (record { labels = search rules; marks = refl; base = refl });
+      once = still_repeats (in_block c.args.self.now) c.loop-name.yielded c.in-Some.name c.loop-name.invariant.once c.if-not-once.true;
+    }
 
 pub loop-name-preserved-then-not-add : goal.loop-name-preserved-then-not-add
 loop-name-preserved-then-not-add c =

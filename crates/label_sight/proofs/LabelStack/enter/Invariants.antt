@@ -1,9 +1,9 @@
--- `label_sight::Sight::enter` meets its contract: the labels so far are in sight, and whether one is a repeat is told.
+-- `label_sight::LabelStack::enter` meets its contract: the labels so far are in sight, and whether one is a repeat is told.
 -- Assumes nothing.
 use mathlib.Core.Path.{◌≡◌}
 use mathlib.Core.List.{◌++◌}
 use Rattle.label_sight.specs.Labels.{in_block, none_repeats, Entered}
-use Rattle.label_sight.proofs.Sight.enter.Given as goal
+use Rattle.label_sight.proofs.LabelStack.enter.Given as goal
 
 abbrev pub invariant-loop-name : goal.invariant-loop-name
 invariant-loop-name l = record {
