@@ -34,17 +34,17 @@ struct ScopeChains<'a> {
 }
 
 impl ScopeChains<'_> {
-    fn parent_of(self, s: usize) -> Option<usize>
-        requires { s < length self.parents.now }
-        ensures { result ≡ parent_in self.entry.parents.now s }
+    fn parent_of(&self, s: usize) -> Option<usize>
+        requires { s < length self.now.parents.now }
+        ensures { result ≡ parent_in self.now.parents.now s }
     {
         self.parents[s].checked_sub(1).map(|parent| parent as usize)
     }
 
     // The nearest Function that is a scope or over it, by the nearest over it.
-    fn function_at(self, s: usize, above: Option<u16>) -> Option<u16>
-        requires { s < length self.kinds.now }
-        ensures { result ≡ cond (eqb (get_or self.entry.kinds.now s 0) FUNCTION) (Some s) above }
+    fn function_at(&self, s: usize, above: Option<u16>) -> Option<u16>
+        requires { s < length self.now.kinds.now }
+        ensures { result ≡ cond (eqb (get_or self.now.kinds.now s 0) FUNCTION) (Some s) above }
     {
         if self.kinds[s] == scope_kind::FUNCTION {
             Some(s as u16)
@@ -55,10 +55,10 @@ impl ScopeChains<'_> {
 
     // The note of scope s, by those of the scopes before it. A jump behind two that pass as many passes both, so that few jumps lead
     // to any scope over s.
-    fn note_of(self, notes: &[Note], s: usize) -> Note
-        requires s_in_bounds { (s < length self.kinds.now) × (length self.kinds.now ≤ length notes.now) }
-        requires noted { Noted self.kinds.now self.parents.now s notes.now }
-        ensures { NoteOf self.entry.kinds.now self.entry.parents.now s result }
+    fn note_of(&self, notes: &[Note], s: usize) -> Note
+        requires s_in_bounds { (s < length self.now.kinds.now) × (length self.now.kinds.now ≤ length notes.now) }
+        requires noted { Noted self.now.kinds.now self.now.parents.now s notes.now }
+        ensures { NoteOf self.now.kinds.now self.now.parents.now s result }
     {
         let Some(parent) = self.parent_of(s) else {
             return Note {
@@ -85,9 +85,9 @@ impl ScopeChains<'_> {
     }
 
     // The notes of all scopes.
-    fn note_all(self, notes: &mut [Note])
-        requires { length self.kinds.now ≤ length notes.old }
-        ensures { Noted self.entry.kinds.now self.entry.parents.now (length self.entry.kinds.now) notes.new }
+    fn note_all(&self, notes: &mut [Note])
+        requires { length self.now.kinds.now ≤ length notes.old }
+        ensures { Noted self.now.kinds.now self.now.parents.now (length self.now.kinds.now) notes.new }
     {
         // By index: a note is made of those before it.
         for s in 0..self.kinds.len() {
@@ -109,9 +109,9 @@ struct NotedScopes<'s, 'n> {
 
 impl NotedScopes<'_, '_> {
     // Whether the name's scope is a scope, or over it: from scope to parent, or to where the note jumps if that is not past the name's.
-    fn is_over(self, name: usize, scope: usize) -> bool
-        requires { scope < length self.chains.kinds.now }
-        ensures { (k : ℕ) → scope < k → result ≡ is_over k self.entry.chains.parents.now name scope }
+    fn is_over(&self, name: usize, scope: usize) -> bool
+        requires { scope < length self.now.chains.kinds.now }
+        ensures { (k : ℕ) → scope < k → result ≡ is_over k self.now.chains.parents.now name scope }
     {
         if scope <= name {
             return scope == name;
@@ -128,9 +128,9 @@ impl NotedScopes<'_, '_> {
 
     // Whether a Function is met before the name's scope, from a scope on along its parents: by its note, and where the name's scope may
     // stand before that Function, by whether it does.
-    fn crosses_function_boundary(self, name: usize, scope: usize) -> bool
-        requires { (name < length self.chains.kinds.now) × (scope < length self.chains.kinds.now) }
-        ensures { (k : ℕ) → scope < k → result ≡ crosses k self.entry.chains.kinds.now self.entry.chains.parents.now name scope }
+    fn crosses_function_boundary(&self, name: usize, scope: usize) -> bool
+        requires { (name < length self.now.chains.kinds.now) × (scope < length self.now.chains.kinds.now) }
+        ensures { (k : ℕ) → scope < k → result ≡ crosses k self.now.chains.kinds.now self.now.chains.parents.now name scope }
     {
         match self.notes[scope].function {
             None => false,
@@ -140,9 +140,9 @@ impl NotedScopes<'_, '_> {
     }
 
     // The word of a use in a scope, with its crossing as the chain from there has it.
-    fn crossed_word(self, word: u64, scope: usize) -> u64
-        requires { (local_of word < length self.names.now) × (scope < length self.chains.kinds.now) }
-        ensures { result ≡ with_crossing (crosses (length self.entry.chains.kinds.now) self.entry.chains.kinds.now self.entry.chains.parents.now (get_or self.entry.names.now (local_of word) 0) scope) word }
+    fn crossed_word(&self, word: u64, scope: usize) -> u64
+        requires { (local_of word < length self.now.names.now) × (scope < length self.now.chains.kinds.now) }
+        ensures { result ≡ with_crossing (crosses (length self.now.chains.kinds.now) self.now.chains.kinds.now self.now.chains.parents.now (get_or self.now.names.now (local_of word) 0) scope) word }
     {
         let local = word % USE_KIND;
         let kind = word / USE_KIND % CROSSING;
