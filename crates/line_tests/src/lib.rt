@@ -42,19 +42,21 @@ fn end_held(scopes: &[Scope], word: u64, end: u64) -> bool
     }
 }
 
-fn item_held(scopes: &[Scope], reached: u64, word: u64, span: u64) -> bool
+// Whether an item is code is asked once, for this and for what follows.
+fn item_held(scopes: &[Scope], code: bool, reached: u64, word: u64, span: u64) -> bool
     requires room { Room (length scopes.now) (kind_of word) }
     requires lowest { Lowest scopes.now }
+    requires code_value { code ≡ is_code (record { word = word; span = span }) }
     ensures { result ≡ (starts_in_order reached (record { word = word; span = span }) && held_here (scope_ends scopes.now) (record { word = word; span = span })) }
 {
-    !is_code(word) || span % HALF >= reached && end_held(scopes, word, span / HALF)
+    !code || span % HALF >= reached && end_held(scopes, word, span / HALF)
 }
 
 // Where the last code ends, past an item.
-fn reached_after(reached: u64, word: u64, span: u64) -> u64
-    ensures { result ≡ cond (is_code (record { word = word; span = span })) (end_of span) reached }
+fn reached_after(code: bool, reached: u64, span: u64) -> u64
+    ensures { result ≡ cond code (end_of span) reached }
 {
-    if is_code(word) { span / HALF } else { reached }
+    if code { span / HALF } else { reached }
 }
 
 // One scope more, inside those around.
@@ -104,10 +106,11 @@ pub fn off_the_line(outer: u64, items: Items<'_>) -> bool
     });
     let mut reached = 0;
     for (word, span) in items.words.iter().zip(items.spans) {
-        if !item_held(scopes.as_slice(), reached, *word, *span) {
+        let code = is_code(*word);
+        if !item_held(scopes.as_slice(), code, reached, *word, *span) {
             return true;
         }
-        reached = reached_after(reached, *word, *span);
+        reached = reached_after(code, reached, *span);
         scopes_after(&mut scopes, *word);
     }
     false

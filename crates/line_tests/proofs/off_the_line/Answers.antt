@@ -45,7 +45,7 @@ loop-word-preserved c =
       lowest = c.scopes_after.ensures.lowest_2;
       some = next.0;
       nested = rw (length_push c.loop-word.yielded (c.in-Some.word, c.in-Some.span)) next.1;
-      swept = rw (c.reached_after-reached.ensures, c.scopes_after.ensures.ends) (onward_at c.loop-word.invariant.swept c.args.items.paired (turn_here here) (sym held ∙ c.if-not-item_held.false));
+      swept = rw (c.reached_after-reached.ensures, c.is_code-code.ensures c.in-Some.span.now, c.scopes_after.ensures.ends) (onward_at c.loop-word.invariant.swept c.args.items.paired (turn_here here) (sym held ∙ c.if-not-item_held.false));
     }
 
 pub returns : goal.returns
