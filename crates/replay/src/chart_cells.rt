@@ -4,7 +4,8 @@ ghost use Rattle.flow.specs.Answers.{count_values, chart_told};
 ghost use Rattle.replay.specs.Words.{stored_told};
 
 use crate::stored::{OLD, Rest, Stored};
-use chart::{ChartColumns, ChartMemory};
+use chart::ChartColumns;
+use column_lengths::{CODES, LOCALS, NODES};
 use flow::{Counts, Refusal};
 
 // Whether the values that counts tell are the stored ones.
@@ -40,10 +41,29 @@ pub fn cells_hold(chart: &ChartColumns, stored: Stored, rest: &mut Rest) -> bool
         && rest.are_in(chart.name_end, stored.names)
 }
 
-// Whether chart answers and writes what is stored.
+// Whether chart answers and writes what is stored. In arrays of its own: a `ChartMemory` of another word than 0 is filled in one place and
+// copied to another, and all cases took three times the instructions.
 pub fn chart_agrees(sheet: &[u64], stored: Stored, cells: Rest) -> bool {
-    let mut memory = ChartMemory::filled(OLD);
-    let mut chart = memory.lend();
+    let mut first = [OLD; NODES];
+    let mut second = [OLD; NODES];
+    let mut start = [OLD; NODES];
+    let mut reachable = [OLD; NODES];
+    let mut code_span = [OLD; CODES];
+    let mut code_node = [OLD; CODES];
+    let mut name_span = [OLD; LOCALS];
+    let mut name_node = [OLD; LOCALS];
+    let mut name_end = [OLD; LOCALS];
+    let mut chart = ChartColumns {
+        first: &mut first,
+        second: &mut second,
+        start: &mut start,
+        reachable: &mut reachable,
+        code_span: &mut code_span,
+        code_node: &mut code_node,
+        name_span: &mut name_span,
+        name_node: &mut name_node,
+        name_end: &mut name_end,
+    };
     let answer = chart_call::chart(sheet, &mut chart);
     let mut rest = cells;
     answer_is(answer, stored) && cells_hold(&chart, stored, &mut rest)
