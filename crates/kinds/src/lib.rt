@@ -99,6 +99,26 @@ impl Kind {
     }
 }
 
+// Whether a number is that of a kind that opens a block, closes one, or ends the block that it stands behind. Numbers past the table do neither.
+pub fn is_opener(kind: u64) -> bool
+    ensures { result ≡ opens kind }
+{
+    kind < ARGUMENT && Kind::of(kind).is_some_and(Kind::is_opener)
+}
+
+pub fn is_closer(kind: u64) -> bool
+    ensures { result ≡ closes kind }
+{
+    kind < ARGUMENT && Kind::of(kind).is_some_and(Kind::is_closer)
+}
+
+#[tactic(auto, using(std::proofs::lemmas::Bool::Decides::nat_tests))]
+pub fn ends_block(kind: u64) -> bool
+    ensures { result ≡ ends_block kind }
+{
+    kind < ARGUMENT && Kind::of(kind).is_some_and(Kind::ends_block)
+}
+
 // Whether an item is code, whatever its span: of the labels those that have a name.
 #[tactic(auto, unfolding(flow::specs::Kinds::is_code))]
 pub fn is_code(word: u64) -> bool

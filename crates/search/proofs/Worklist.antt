@@ -5,18 +5,18 @@ use Prim.Native.Nat.{ℕ, zero, suc, ◌+◌, ◌-◌, ◌≤◌, ◌<◌}
 use mathlib.Core.Path.{◌≡◌, refl, sym, ap, ◌∙◌, subst}
 use mathlib.Core.Logic.{◌⊎◌, inl, inr, ⊎_elim}
 use mathlib.Core.Bool.{Bool, true, false, ◌&&◌}
-use mathlib.Core.List.{List, [], ◌∷◌}
+use mathlib.Core.List.{List, [], ◌∷◌, ◌++◌}
 use native.Mathlib.Omega.{arith}
 use native.Mathlib.Decide.{ℕ_discrete}
 use borrow.Author.Tests.{ltb-true}
 use lib.Dec.{ltb}
-use lib.ListN.{length, get_or, set, length-set}
-use lib.Seq.{get_or-set_same, get_or-set_other}
+use lib.ListN.{length, get_or, set, take, drop, replicate, length-set, length-replicate, get_or-replicate, take-append-drop, get_or-append}
+use lib.Seq.{get_or-set_same, get_or-set_other, drop-set-lt, drop_at, ext_get_or, get_or-take, length-take-le}
 use Rattle.search.specs.Search.{In, Reach, here, on, closure, zeros, cons_if, filter}
-use Rattle.search.specs.Worklist.{State, st, pushed, push, push_all, pop, topmost, Room}
+use Rattle.search.specs.Worklist.{State, st, pushed, push, push_all, push_when, push_if, pop, topmost, Room}
 use Rattle.search.specs.Engines.{Marks}
 use Rattle.search.proofs.Count.{zeros_set, zeros_le}
-use Rattle.search.proofs.Closure.{Nodes, reach_node}
+use Rattle.search.proofs.Closure.{Nodes, reach_node, closure_length}
 use Rattle.search.proofs.Engines.{mark_is}
 
 -- ---- what pushes and pops leave as it was
@@ -25,15 +25,17 @@ use Rattle.search.proofs.Engines.{mark_is}
 abbrev pub measure : ℕ → State → ℕ
 measure n s = zeros n s.marks + zeros n s.marks + s.top
 
--- pushes and pops lead from e to s: the columns are as long as they were
+-- pushes and pops lead from e to s: the columns are as long as they were, and past n as they were
 pub record Moved (n : ℕ) (e s : State) : Type 0 where
   pub fits : Room n s
   pub less : measure n s ≤ measure n e
   pub marks_len : length s.marks ≡ length e.marks
   pub stack_len : length s.stack ≡ length e.stack
+  pub marks_past : drop n s.marks ≡ drop n e.marks
+  pub stack_past : drop n s.stack ≡ drop n e.stack
 
 pub moved_none : {n : ℕ} {s : State} → Room n s → Moved n s s
-moved_none r = record { fits = r; less = omega arith; marks_len = refl; stack_len = refl }
+moved_none r = record { fits = r; less = omega arith; marks_len = refl; stack_len = refl; marks_past = refl; stack_past = refl }
 
 pub moved_on : {n : ℕ} {a b c : State} → Moved n a b → Moved n b c → Moved n a c
 moved_on p q =
@@ -42,6 +44,8 @@ moved_on p q =
       less = omega (arith, p.less, q.less);
       marks_len = q.marks_len ∙ p.marks_len;
       stack_len = q.stack_len ∙ p.stack_len;
+      marks_past = q.marks_past ∙ p.marks_past;
+      stack_past = q.stack_past ∙ p.stack_past;
     }
 
 -- a node without a mark has room on the stack
@@ -60,6 +64,8 @@ pushed_moved n v s zero z h r =
       less = omega arith;
       marks_len = length-set s.marks v 1;
       stack_len = length-set s.stack s.top v;
+      marks_past = drop-set-lt n s.marks v 1 h;
+      stack_past = drop-set-lt n s.stack s.top v t;
     }
 pushed_moved n v s (suc f) z h r = moved_none r
 
@@ -73,6 +79,13 @@ all_moved n (v ∷ vs) s h r =
     let m : Moved n s (push v s) = push_moved n v s (h v (inl refl)) r in
     moved_on m (all_moved n vs (push v s) (λ x i. h x (inr i)) m.fits)
 
+when_moved : (n v : ℕ) (s : State) (b : Bool) → (b ≡ true → v < n) → Room n s → Moved n s (push_when b v s)
+when_moved n v s true h r = push_moved n v s (h refl) r
+when_moved n v s false h r = moved_none r
+
+pub if_moved : (n v : ℕ) (s t : State) (p : ℕ → Bool) → (p v ≡ true → v < n) → Room n s → t ≡ push_if p v s → Moved n s t
+if_moved n v s t p h r e = subst (Moved n s) (sym e) (when_moved n v s (p v) h r)
+
 pub pop_moved : (n : ℕ) (s : State) → 0 < s.top → Room n s → Moved n s (pop s)
 pop_moved n s p r =
     record {
@@ -80,6 +93,8 @@ pop_moved n s p r =
       less = omega arith;
       marks_len = refl;
       stack_len = refl;
+      marks_past = refl;
+      stack_past = refl;
     }
 
 -- ---- what a search is over, and what holds on its way
@@ -235,9 +250,12 @@ module _ (g : Search) where
             pending = λ v i. here i;
           }
 
-  -- the same search, seen from where it is
+  -- the same search, seen from where it is, and from where it was before
   pub rebase : {e s : State} → Going g e s → Going g s s
   rebase h = record { moved = moved_none h.moved.fits; walk = h.walk }
+
+  pub onward : {d e s : State} → Going g d e → Going g e s → Going g d s
+  onward h j = record { moved = moved_on h.moved j.moved; walk = j.walk }
 
   module _ {e s : State} (h : Going g e s) where
     -- what stands on the stack is a node
@@ -278,6 +296,14 @@ module _ (g : Search) where
       pub flag_is : (v : ℕ) → v < g.n → get_or s.marks v 0 ≡ get_or flags v 0
       flag_is = mark_is g.n g.starts g.next g.starts_in g.next_in ended
 
+      pub marks_are : s.marks ≡ flags ++ drop g.n e.marks
+      marks_are =
+          let long : length (take g.n s.marks) ≡ g.n = length-take-le g.n s.marks h.moved.fits.marks_long_law in
+          let first : take g.n s.marks ≡ flags =
+          ext_get_or 0 (take g.n s.marks) flags (long ∙ sym (closure_length g.n g.starts g.next g.starts_in g.next_in))
+          (λ i l. get_or-take g.n s.marks i 0 (omega arith) ∙ flag_is i (omega arith)) in
+          sym (take-append-drop g.n s.marks) ∙ (λ i. first i ++ h.moved.marks_past i)
+
 -- ---- `push` and `push_all` by cases, for the proofs of code
 
 fresh : (v : ℕ) (s : State) (f : ℕ) → f ≡ 0 → pushed 0 v s ≡ pushed f v s
@@ -295,6 +321,15 @@ pub push_known : (v : ℕ) (s : State) → (get_or s.marks v 0 ≡ 0 → ⊥) �
 unfolding push
 push_known v s q = known v s (get_or s.marks v 0) q
 
+when_all : (b : Bool) (v : ℕ) (vs : List ℕ) (s : State) → push_all vs (push_when b v s) ≡ push_all (cons_if b v vs) s
+when_all true v vs s = refl
+when_all false v vs s = refl
+
+-- two nodes, each pushed if it passes the test
+pub two_pushes : (p : ℕ → Bool) (x y : ℕ) (s s₁ s₂ : State) → s₁ ≡ push_if p x s → s₂ ≡ push_if p y s₁ → s₂ ≡ push_all (filter p (x ∷ y ∷ [])) s
+two_pushes p x y s s₁ s₂ e f =
+    f ∙ when_all (p y) y [] s₁ ∙ ap (push_all (filter p (y ∷ []))) e ∙ when_all (p x) x (filter p (y ∷ [])) s
+
 cons_if_in : (b : Bool) (x : ℕ) (vs : List ℕ) (v : ℕ) → In v (cons_if b x vs) → ((v ≡ x) × (b ≡ true)) ⊎ In v vs
 cons_if_in true x vs v (inl e) = inl (e, refl)
 cons_if_in true x vs v (inr i) = inr i
@@ -309,7 +344,21 @@ filter_in p (x ∷ vs) v i =
 pub filter_below : (n : ℕ) (vs : List ℕ) → Nodes n (filter (λ v. ltb v n) vs)
 filter_below n vs v i = ltb-true v n (filter_in (λ x. ltb x n) vs v i).1
 
--- ---- two tests
+-- ---- a column after `clear`
+
+module _ (n : ℕ) (old new : List ℕ) (e : new ≡ replicate n 0 ++ drop n old) where
+  pub cleared_none : (v : ℕ) → v < n → get_or new v 0 ≡ 0
+  cleared_none v h =
+      rw e (get_or-append (replicate n 0) (drop n old) 0 v (omega (arith, length-replicate {A = ℕ} n 0)) ∙ get_or-replicate n v 0 0 h)
+
+  pub cleared_past : drop n new ≡ drop n old
+  cleared_past = rw e (drop_at (replicate n 0) (drop n old) n (length-replicate n 0))
+
+-- ---- two lists, and two tests
+
+pub all_append : (us vs : List ℕ) (s : State) → push_all (us ++ vs) s ≡ push_all vs (push_all us s)
+all_append [] vs s = refl
+all_append (u ∷ us) vs s = all_append us vs (push u s)
 
 filter_cons : (b : Bool) (q : ℕ → Bool) (v : ℕ) (vs : List ℕ) → filter q (cons_if b v vs) ≡ cons_if (b && q v) v (filter q vs)
 filter_cons true q v vs = refl

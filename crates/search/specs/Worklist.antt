@@ -1,6 +1,6 @@
 -- A worklist: marks of the nodes that were pushed, and a stack of those that are still to be expanded. A node is marked as it is pushed, so that it is pushed once.
 -- Assumes nothing: these are definitions.
-use Rattle.std.specs.Prelude.{ℕ, zero, suc, ◌+◌, ◌-◌, ◌≤◌, List, [], ◌∷◌, length, get_or, set}
+use Rattle.std.specs.Prelude.{ℕ, zero, suc, ◌+◌, ◌-◌, ◌≤◌, Bool, true, false, List, [], ◌∷◌, length, get_or, set}
 use Rattle.search.specs.Search.{zeros}
 
 -- the stack's cells from `top` on may hold anything
@@ -24,6 +24,14 @@ push v s = pushed (get_or s.marks v 0) v s
 abbrev pub push_all : List ℕ → State → State
 push_all [] s = s
 push_all (v ∷ vs) s = push_all vs (push v s)
+
+-- v, if it passes a test
+abbrev pub push_when : Bool → ℕ → State → State
+push_when true v s = push v s
+push_when false v s = s
+
+abbrev pub push_if : (ℕ → Bool) → ℕ → State → State
+push_if p v s = push_when (p v) v s
 
 abbrev pub pop : State → State
 pop s = st s.marks s.stack (s.top - 1)

@@ -4,11 +4,27 @@
 mod cells;
 
 ghost use Rattle.std.specs.Prelude.{◌≡◌, ◌<◌, ◌≤◌, length, get_or, set, eqb};
-ghost use Rattle.search.specs.Worklist.{st};
+ghost use Rattle.search.specs.Worklist.{st, push, Room};
 ghost use Rattle.search.specs.Stamps.{stamp_push};
 ghost use Rattle.search.specs.Running.{state_by, SameColumns, Popped};
 
 pub use cells::NodeCell;
+
+// v marked and pushed, unless it is marked. The result is the stack's height. For columns of 64 bits by themselves, where every mark but 0
+// counts; `Search` marks by one stamp.
+pub fn push_if_new(marks: &mut [u64], stack: &mut [u64], n: usize, top: usize, v: usize) -> usize
+    requires room { Room n (st marks.old stack.old top) }
+    requires v_lt_n { v < n }
+    ensures { st marks.new stack.new result ≡ push v (st marks.old stack.old top) }
+{
+    if marks[v] == 0 {
+        marks[v] = 1;
+        stack[top] = v as u64;
+        top + 1
+    } else {
+        top
+    }
+}
 
 // A search by a stamp: a node is marked where its cell holds the stamp, and the stack's first cells hold those that are still to be expanded.
 // The stack's height stands beside its column: what lent columns end as is lost where the struct that holds them lies in another.
