@@ -3,7 +3,7 @@
 use mathlib.Core.Path.{◌≡◌}
 use mathlib.Core.List.{List, [], ◌∷◌}
 use Prim.Native.Nat.{ℕ, zero, suc, ◌+◌, ◌/◌, ◌%◌, ◌^◌, ◌≤◌, ◌<◌, zero-le}
-use native.Mathlib.Nat.{mod-eq_of_lt}
+use native.Mathlib.Nat.{pow-suc, div-lt_iff_lt-mul, mod-eq_of_lt}
 use native.Mathlib.Omega.{arith}
 use borrow.Author.Tests.{lt-ltb, le-ltb}
 use lib.Dec.{ltb, lit<}
@@ -25,15 +25,31 @@ by_last_digit = record {
 pub as_std : (n : ℕ) → n < 2 ^ 64 → decimal n ≡ Std.decimal n
 as_std n h = decimal_from_appends digits by_last_digit 20 n h (length-decimal-le 20 n (lit< tt) (omega arith) h)
 
+-- a number without its last digit
+shorter : (k n : ℕ) → n < 10 ^ suc (suc k) → n / 10 < 10 ^ suc k
+shorter k n h = (div-lt_iff_lt-mul (lit< tt)).1 (rw (← pow-suc 10 (suc k)) h)
+
+-- a digit more than the shorter number has
+one_more : (k n m : ℕ) → length (digits k (n / 10)) ≤ m → length (digits (suc k) n) ≤ suc m
+unfolding digits
+one_more k n m h = rw length-append (either (λ (l : List ℕ). length l + 1 ≤ suc m) (ltb n 10) {x = []} {y = digits k (n / 10)} (omega arith) (omega arith))
+
 -- no more digits than there is room for
 pub at_most : (k n : ℕ) → length (digits k n) ≤ k
 unfolding digits
 at_most zero n = zero-le
-at_most (suc k) n = rw length-append (either (λ (l : List ℕ). length l + 1 ≤ suc k) (ltb n 10) {x = []} {y = digits k (n / 10)} (omega arith) (omega (arith, at_most k (n / 10))))
+at_most (suc k) n = one_more k n k (at_most k (n / 10))
 
 -- a number below 10^k has at most k digits
-pub below_power : (k n : ℕ) → 0 < k → n < 10 ^ k → n < 2 ^ 64 → length (decimal n) ≤ k
-below_power k n p h f = rw (as_std n f) (length-decimal-le k n p h f)
+pub below_power : (k j n : ℕ) → n < 10 ^ suc j → length (digits k n) ≤ suc j
+unfolding digits
+below_power zero j n h = zero-le
+below_power (suc k) zero n h = rw (lt-ltb n 10 h) (omega arith)
+below_power (suc k) (suc j) n h = one_more k n (suc j) (below_power k j (n / 10) (shorter j n h))
+
+-- the same of all its digits
+pub decimal_below_power : (k n : ℕ) → 0 < k → n < 10 ^ k → n < 2 ^ 64 → length (decimal n) ≤ k
+decimal_below_power k n p h f = rw (as_std n f) (length-decimal-le k n p h f)
 
 pub one_digit : (n : ℕ) → n < 10 → decimal n ≡ (48 + n) ∷ []
 one_digit n h = by_last_digit.one 19 n h

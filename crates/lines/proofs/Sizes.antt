@@ -27,7 +27,7 @@ Small (n ∷ ns) = (n < 10 ^ 10) × Small ns
 small_long : (ns : List ℕ) → Small ns → length (numbers ns) ≤ 11 * length ns + 1
 unfolding numbers
 small_long [] s = omega arith
-small_long (n ∷ ns) s = rw length-append (omega (arith, below_power 10 n (omega arith) s.0 (omega (arith, s.0)), small_long ns s.1))
+small_long (n ∷ ns) s = rw length-append (omega (arith, below_power 20 9 n s.0, small_long ns s.1))
 
 -- a finding's line
 pub finding_long : (w s : ℕ) → w < 2 ^ 64 → s < 2 ^ 64 → length (finding_line (record { word = w; span = s })) ≤ 55
@@ -49,6 +49,13 @@ findings_long [] ss hw hs = zero-le
 findings_long (w ∷ ws) [] hw hs = zero-le
 findings_long (w ∷ ws) (s ∷ ss) hw hs =
     rw length-append (omega (arith, finding_long w s (hw 0) (hs 0), findings_long ws ss (λ i. hw (suc i)) (λ i. hs (suc i))))
+
+-- the first two lines
+pub head_long : (values flags : List ℕ) → length (report values flags []) ≤ 180
+unfolding report finding_lines
+head_long values flags =
+    rw (length-append, length-append)
+    (omega (arith, numbers_long (take 3 values), numbers_long (take 5 flags), length-take 3 values, length-take 5 flags))
 
 -- a report
 pub report_long : (values flags ws ss : List ℕ) → length ws ≤ 3072 → ((i : ℕ) → get_or ws i 0 < 2 ^ 64) → ((i : ℕ) → get_or ss i 0 < 2 ^ 64)
