@@ -17,7 +17,7 @@
      sheet                     chart  judge    run  label check
      1,024 PLAIN                   2     73     94           18
      an IF with 1,022 ELSEIF       2     73     94           18
-     64 nested IF                  9     73    101           18
+     64 nested IF                 10     73    102           18
 */
 #ifndef WALDIMU_H
 #define WALDIMU_H
